@@ -1,0 +1,111 @@
+-- The laws of the sum, which hold of all numbers, and of doubling an octet.
+--
+--   sum-xor          the sum is the code's `^`
+--   sum-assoc        associative, commutative, and as two rules that keep a sum sorted
+--   sum-comm
+--   sum-left-comm
+--   sum-swap
+--   sum-zero         0 changes nothing
+--   zero-sum
+--   sum-self         each number is its own negative
+--   sum-left-self
+--   sum-octet        the sum of two octets is an octet
+--   sum-low          low octets, halves and lowest bits pass through the sum
+--   sum-half
+--   bit-sum
+--   sum-bit
+--   double-octet     twice an octet is an octet
+--   double-sum       doubling passes through the sum
+--
+-- Assumes nothing.
+use mathlib.Core.Path.{_≡_, refl, sym, ap, ap₂, _∙_}
+use mathlib.Core.Bool.{Bool}
+use Prim.Native.Nat.{ℕ, zero, suc, _*_, _/_, _%_, _<_}
+use native.Mathlib.Nat.{div-lt-iff-lt-mul, zero-mul, one-mul}
+use native.Mathlib.Omega.{arith}
+use lib.Dec.{T, ltb, ltb→lt, lit<}
+use lib.Bits.{bitXor, xor-comm, xor-self, xor-zero-r, xor-lt, xor-mod, xor-shr}
+use Rattle.octets.specs.Every.{every, every-at}
+use Rattle.field.specs.Octet.{sum, modulus, double}
+use Rattle.field.specs.Octet.Xor.{bit-lt, xor-assoc, xor-half, xor-odd, xor-twice, differ-scale, xor-bits}
+
+pub sum-xor : (a b : ℕ) → sum a b ≡ bitXor a b
+unfolding sum
+sum-xor a b = refl
+
+pub sum-assoc : (a b c : ℕ) → sum (sum a b) c ≡ sum a (sum b c)
+unfolding sum
+sum-assoc = xor-assoc
+
+pub sum-comm : (a b : ℕ) → sum a b ≡ sum b a
+unfolding sum
+sum-comm = xor-comm
+
+pub sum-left-comm : (a b c : ℕ) → sum a (sum b c) ≡ sum b (sum a c)
+sum-left-comm a b c = sym (sum-assoc a b c) ∙ ap (λ (x : ℕ). sum x c) (sum-comm a b) ∙ sum-assoc b a c
+
+pub sum-swap : (a b c d : ℕ) → sum (sum a b) (sum c d) ≡ sum (sum a c) (sum b d)
+sum-swap a b c d = sum-assoc a b (sum c d) ∙ ap (sum a) (sum-left-comm b c d) ∙ sym (sum-assoc a c (sum b d))
+
+pub sum-zero : (a : ℕ) → sum a 0 ≡ a
+unfolding sum
+sum-zero = xor-zero-r
+
+pub zero-sum : (a : ℕ) → sum 0 a ≡ a
+unfolding sum
+zero-sum a = refl
+
+pub sum-self : (a : ℕ) → sum a a ≡ 0
+unfolding sum
+sum-self = xor-self
+
+pub sum-left-self : (a b : ℕ) → sum a (sum a b) ≡ b
+sum-left-self a b = sym (sum-assoc a a b) ∙ ap (λ (x : ℕ). sum x b) (sum-self a) ∙ zero-sum b
+
+pub sum-octet : (a b : ℕ) → a < 256 → b < 256 → sum a b < 256
+unfolding sum
+sum-octet = xor-lt 8
+
+pub sum-low : (a b : ℕ) → sum a b % 256 ≡ sum (a % 256) (b % 256)
+unfolding sum
+sum-low a b = xor-mod a b 8
+
+pub sum-half : (a b : ℕ) → sum a b / 2 ≡ sum (a / 2) (b / 2)
+unfolding sum
+sum-half = xor-half
+
+-- a bit times a sum
+pub bit-sum : (x a b : ℕ) → x < 2 → x * sum a b ≡ sum (x * a) (x * b)
+unfolding sum
+bit-sum zero a b h = zero-mul (bitXor a b) ∙ sym (ap₂ bitXor (zero-mul a) (zero-mul b))
+bit-sum (suc zero) a b h = one-mul (bitXor a b) ∙ sym (ap₂ bitXor (one-mul a) (one-mul b))
+bit-sum (suc (suc x)) a b h = absurd (omega arith)
+
+-- a sum's lowest bit times a number
+pub sum-bit : (a b c : ℕ) → sum a b % 2 * c ≡ sum (a % 2 * c) (b % 2 * c)
+unfolding sum
+sum-bit a b c = ap (λ (x : ℕ). x * c) (xor-odd a b) ∙ differ-scale (a % 2) (b % 2) c (bit-lt a) (bit-lt b)
+
+-- ---- doubling
+
+double-fits : ℕ → Bool
+double-fits a = ltb (double a) 256
+
+double-test : T (every double-fits 256)
+unfolding sum modulus double double-fits
+double-test = tt
+
+pub double-octet : (a : ℕ) → a < 256 → double a < 256
+unfolding double-fits
+double-octet a h = ltb→lt (double a) 256 (every-at double-fits 256 double-test a h)
+
+top : {a : ℕ} → a < 256 → a / 128 < 2
+top h = div-lt-iff-lt-mul (lit< tt) .1 h
+
+pub double-sum : (a b : ℕ) → a < 256 → b < 256 → double (sum a b) ≡ sum (double a) (double b)
+unfolding sum double
+double-sum a b ha hb =
+    ap₂ bitXor (xor-twice a b)
+    (ap (λ (x : ℕ). x * modulus) (xor-shr a b 7 ∙ xor-bits (a / 128) (b / 128) (top ha) (top hb))
+    ∙ differ-scale (a / 128) (b / 128) modulus (top ha) (top hb))
+    ∙ sum-swap (2 * a) (2 * b) (a / 128 * modulus) (b / 128 * modulus)
