@@ -1,0 +1,75 @@
+-- A list with another written over a part of it.
+--
+--   written d at s    d with s over it from place `at` on
+--   written-paste     the library's name for it
+--   written-nothing   nothing written changes nothing
+--   written-length    the length stays, where s fits
+--   written-inside    place `at + j` has s's place j
+--   written-outside   a place before `at`, or past s, has what it had
+--   written-part      what stands where s was written is s
+--   written-before    what stands before it, and behind it, is as it was
+--   written-behind
+--
+-- Assumes nothing.
+use mathlib.Core.Path.{_≡_, refl, sym, ap, _∙_}
+use mathlib.Core.Logic.{_⊎_, inl, inr, ⊎-elim}
+use mathlib.Core.List.{List, [], _∷_, _++_, append-assoc, append-nil}
+use Prim.Native.Nat.{ℕ, zero, suc, _+_, _-_, _≤_, _<_}
+use native.Mathlib.Nat.{add-zero}
+use native.Mathlib.Omega.{arith}
+use lib.ListN.{length, getD, take, drop, length-append, length-drop, take-append-drop, List·getD-append}
+use lib.Seq.{paste, take-length, length-take-le, getD-append-add, getD-take, getD-drop, take-at, drop-at}
+
+module _ {A : Type 0} where
+  abbrev pub written : List A → ℕ → List A → List A
+  written d at s = take at d ++ s ++ drop (at + length s) d
+
+  pub written-paste : (d : List A) (at : ℕ) (s : List A) → paste d at s (length s) ≡ written d at s
+  written-paste d at s = rw (take-length s)
+
+  pub written-nothing : (d : List A) (at : ℕ) → written d at [] ≡ d
+  written-nothing d at = rw (add-zero, append-nil) (take-append-drop at d)
+
+  module _ (d : List A) (at : ℕ) (s : List A) (fits : at + length s ≤ length d) where
+    head-length : length (take at d) ≡ at
+    head-length = length-take-le at d (omega arith)
+
+    both-length : length (take at d ++ s) ≡ at + length s
+    both-length = length-append (take at d) s ∙ ap (λ (n : ℕ). n + length s) head-length
+
+    pub written-length : length (written d at s) ≡ length d
+    written-length = length-append (take at d ++ s) (drop (at + length s) d) ∙ rw (both-length, length-drop) (omega arith)
+
+    pub written-inside : (j : ℕ) (z : A) → j < length s → getD (written d at s) (at + j) z ≡ getD s j z
+    written-inside j z l =
+        List·getD-append (take at d ++ s) (drop (at + length s) d) z (at + j) (rw both-length (omega arith))
+        ∙ ap (λ (n : ℕ). getD (take at d ++ s) (n + j) z) (sym head-length) ∙ getD-append-add (take at d) s j z
+
+    pub written-outside : (k : ℕ) (z : A) → (k < at) ⊎ (at + length s ≤ k) → getD (written d at s) k z ≡ getD d k z
+    written-outside k z = ⊎-elim before behind
+      where
+        before : k < at → getD (written d at s) k z ≡ getD d k z
+        before l =
+            List·getD-append (take at d ++ s) (drop (at + length s) d) z k (rw both-length (omega arith))
+            ∙ List·getD-append (take at d) s z k (rw head-length l) ∙ getD-take at d k z l
+
+        behind : at + length s ≤ k → getD (written d at s) k z ≡ getD d k z
+        behind l =
+            let m : k ≡ at + length s + (k - (at + length s)) = omega arith in
+            ap (λ (n : ℕ). getD (written d at s) n z) (m ∙ ap (λ (n : ℕ). n + (k - (at + length s))) (sym both-length))
+            ∙ getD-append-add (take at d ++ s) (drop (at + length s) d) (k - (at + length s)) z
+            ∙ getD-drop (at + length s) d (k - (at + length s)) z ∙ ap (λ (n : ℕ). getD d n z) (sym m)
+
+    pub written-part : take (length s) (drop at (written d at s)) ≡ s
+    written-part =
+        ap (λ (l : List A). take (length s) (drop at l)) (append-assoc (take at d) s (drop (at + length s) d))
+        ∙ ap (take (length s)) (drop-at (take at d) (s ++ drop (at + length s) d) at head-length)
+        ∙ take-at s (drop (at + length s) d) (length s) refl
+
+    pub written-before : take at (written d at s) ≡ take at d
+    written-before =
+        ap (take at) (append-assoc (take at d) s (drop (at + length s) d))
+        ∙ take-at (take at d) (s ++ drop (at + length s) d) at head-length
+
+    pub written-behind : drop (at + length s) (written d at s) ≡ drop (at + length s) d
+    written-behind = drop-at (take at d ++ s) (drop (at + length s) d) (at + length s) both-length
