@@ -1,0 +1,17 @@
+pub mod Ring
+pub mod Product
+pub mod Value
+pub mod Roots
+pub mod Recurrence
+pub mod PowerSum
+pub mod Locator
+pub mod Berlekamp
+pub mod Forney
+pub mod Derivative
+pub mod Loop
+pub mod Support
+pub mod Powers
+pub mod Repair
+pub mod Distance
+pub mod Remainder
+pub mod Geometric

@@ -1,0 +1,220 @@
+-- What the search for the roots of the locator shows. The n places have distinct locators A, with inverses Z; S are the syndromes,
+-- and (C, L) is what Berlekamp and Massey's algorithm made of the first t of them.
+--
+--   Search n v L C Z at   `at` lists, rising, all v places below n at whose Z the polynomial C, of degree at most L, is zero
+--   search-complete       if S are the syndromes of an error of weight w with 2 w ≤ t, then L = w and the search finds L places
+--   search-sound          if it finds L places, the error with Forney's values there has the syndromes S and weight L
+--
+-- Assumes nothing.
+use mathlib.Core.Path.{_≡_, refl, sym, _∙_, ap, ap₂}
+use mathlib.Core.Logic.{_≢_}
+use Prim.Native.Nat.{ℕ, zero, suc, _+_, _≤_, _<_}
+use native.Mathlib.Omega.{arith}
+use native.Mathlib.Decide.{decLt, decLe}
+use Rattle.algebra.specs.Field.{Field}
+use Rattle.algebra.specs.Series as Ser
+use Rattle.algebra.specs.Series.{Series, Operations, operations}
+use Rattle.algebra.proofs.Ring.{ring, ⊙-𝟙, 𝟘-⊙, 𝟙-⊙}
+use Rattle.algebra.proofs.Product.{⊛-local, tl-at}
+use Rattle.algebra.proofs.Value.{ev}
+use Rattle.algebra.proofs.Roots.{Distinct}
+use Rattle.algebra.proofs.PowerSum.{pow, pow-zero, pow-suc, psum, psum-zero, psum-suc}
+use Rattle.algebra.proofs.Locator.{Inverses, synd, synd-at, loc, loc-one, below-loc, ev-loc, prod, prod-root, loc-annihilates, link-ne, locator-unique}
+use Rattle.algebra.proofs.Berlekamp.{State, bm-finds}
+use Rattle.algebra.proofs.Forney.{skip, prod-ne, forney-sound}
+use Rattle.algebra.proofs.Derivative.{deriv, deriv-loc}
+use Rattle.algebra.proofs.Support.{Support, Lists, pick, pick-at, weight, weight-zero, weight-suc, one-if, support, support-of, psum-cong}
+
+module _ (𝓕 : Field) where
+  infixl 60 _⊕_
+  infixl 70 _⊙_
+  infixl 70 _⊛_
+  open Field 𝓕 using (Carrier as F, add as _⊕_, mul as _⊙_, nil as 𝟘, one as 𝟙)
+  open Operations (operations 𝓕) using (_⊛_, tl)
+
+  pub record Search (n v L : ℕ) (C Z : Series 𝓕) (at : ℕ → ℕ) : Type 0 where
+    pub inside : (j : ℕ) → j < v → at j < n
+    pub rises : (i j : ℕ) → i < j → j < v → at i < at j
+    pub root : (j : ℕ) → j < v → ev 𝓕 (suc L) C (Z (at j)) ≡ 𝟘
+    pub all : (p : ℕ) → p < n → ev 𝓕 (suc L) C (Z p) ≡ 𝟘 → (j : ℕ) × (j < v) × (at j ≡ p)
+
+  distinct-any : (n : ℕ) (A : Series 𝓕) → Distinct 𝓕 n A → (i j : ℕ) → i < n → j < n → i ≢ j → A i ≢ A j
+  distinct-any n A D i j l m h = elim (decLt i j) [ yes p ↦ D i j p m | no p ↦ (λ e. D j i (omega arith) l (sym e)) ]
+
+  -- 1 where it holds, 0 where not
+  mark : {P : Type 0} → Dec P → F
+  mark (yes p) = 𝟙
+  mark (no p) = 𝟘
+
+  mark-ne : {P : Type 0} (d : Dec P) → P → mark d ≢ 𝟘
+  unfolding mark
+  mark-ne (yes p) h = 𝓕 .one-ne-nil
+  mark-ne (no p) h = absurd (p h)
+
+  mark-of : {P : Type 0} (d : Dec P) → mark d ≢ 𝟘 → P
+  unfolding mark
+  mark-of (yes p) h = p
+  mark-of (no p) h = absurd (h refl)
+
+  mark-keeps : {P : Type 0} (d : Dec P) (y : F) → ((P → ⊥) → y ≡ 𝟘) → mark d ⊙ y ≡ y
+  unfolding mark
+  mark-keeps (yes p) y h = 𝟙-⊙ 𝓕 y
+  mark-keeps (no p) y h = rw (h p) (𝟘-⊙ 𝓕 𝟘)
+
+  -- a series that is zero where another is has at most its weight
+  weight-le : (n : ℕ) (E U : Series 𝓕) → ((p : ℕ) → p < n → U p ≡ 𝟘 → E p ≡ 𝟘) → weight 𝓕 n E ≤ weight 𝓕 n U
+  unfolding one-if
+  weight-le zero E U h = rw (weight-zero 𝓕 E) (omega arith)
+  weight-le (suc n) E U h =
+      rw (weight-suc 𝓕 n E, weight-suc 𝓕 n U)
+      (omega (arith, weight-le n (tl E) (tl U) (λ p l. rw (tl-at 𝓕 E p, tl-at 𝓕 U p) (h (suc p) (omega arith))), first (𝓕 .decide (E 0) 𝟘) (𝓕 .decide (U 0) 𝟘)))
+    where
+      first : (d : Dec (E 0 ≡ 𝟘)) (u : Dec (U 0 ≡ 𝟘)) → one-if 𝓕 d ≤ one-if 𝓕 u
+      first (yes d) u = omega arith
+      first (no d) (no u) = omega arith
+      first (no d) (yes u) = absurd (d (h 0 (omega arith) u))
+
+  -- a power sum whose values are products, as one whose points are
+  psum-one : (v : ℕ) (U E A : Series 𝓕) (i : ℕ) → psum 𝓕 v U (λ p. E p ⊙ pow 𝓕 (A p) i) 1 ≡ psum 𝓕 v (λ p. U p ⊙ E p) A i
+  unfolding Ser.tl
+  psum-one zero U E A i = psum-zero 𝓕 _ _ 1 ∙ sym (psum-zero 𝓕 _ A i)
+  psum-one (suc v) U E A i =
+      psum-suc 𝓕 v U _ 1 ∙ ap (λ (s : F). U 0 ⊙ pow 𝓕 (E 0 ⊙ pow 𝓕 (A 0) i) 1 ⊕ s) (psum-one v (tl U) (tl E) (tl A) i)
+      ∙ (rw (pow-suc 𝓕 _ 0, pow-zero) (simp ring)) ∙ sym (psum-suc 𝓕 v _ A i)
+
+  -- E is zero but at the listed places, which are those where U is not: sums over all n places are sums over the list
+  psum-listed : (n v : ℕ) (U E A : Series 𝓕) (at : ℕ → ℕ) (i : ℕ) → Support 𝓕 n v U at → ((p : ℕ) → U p ⊙ E p ≡ E p)
+      → psum 𝓕 n E A i ≡ psum 𝓕 v (pick 𝓕 E at) (pick 𝓕 A at) i
+  unfolding pick
+  psum-listed n v U E A at i su keeps =
+      sym (psum-cong 𝓕 n _ E A A i (λ k l. keeps k) (λ k l. refl)) ∙ sym (psum-one n U E A i) ∙ su .sums _ 1
+      ∙ psum-one v (pick 𝓕 U at) (pick 𝓕 E at) (pick 𝓕 A at) i ∙ psum-cong 𝓕 v _ _ _ _ i (λ k l. keeps (at k)) (λ k l. refl)
+
+  module _ (n t L : ℕ) (A Z S C B : Series 𝓕) (b : F) (D : Distinct 𝓕 n A) (I : Inverses 𝓕 n A Z) (st : State 𝓕 S C B t L b) where
+    -- the listed places' locators and their inverses
+    module _ (v : ℕ) (at : ℕ → ℕ) (inside : (j : ℕ) → j < v → at j < n) (rises : (i j : ℕ) → i < j → j < v → at i < at j) where
+      listed-distinct : Distinct 𝓕 v (pick 𝓕 A at)
+      listed-distinct i j l m = rw (pick-at 𝓕 A at i, pick-at 𝓕 A at j) (D (at i) (at j) (rises i j l m) (inside j m))
+
+      listed-inverses : Inverses 𝓕 v (pick 𝓕 A at) (pick 𝓕 Z at)
+      listed-inverses j l = rw (pick-at 𝓕 A at j, pick-at 𝓕 Z at j) (I (at j) (inside j l))
+
+    -- no recurrence is shorter than L, so no error with these syndromes has a smaller weight
+    least-weight : (E : Series 𝓕) → ((i : ℕ) → i < t → S i ≡ psum 𝓕 n E A (suc i)) → L ≤ weight 𝓕 n E
+    least-weight E syn =
+        st .least w (loc 𝓕 w X) (loc-one 𝓕 w X) (below-loc 𝓕 w X)
+        (λ k l o. ⊛-local 𝓕 (loc 𝓕 w X) S (synd 𝓕 w Y X) k (λ i p. syn i (omega arith) ∙ su .sums A (suc i) ∙ sym (synd-at 𝓕 w Y X i))
+        ∙ loc-annihilates 𝓕 w t Y X (pick 𝓕 Z at) (listed-inverses w at (su .inside) (su .rises)) k l o)
+      where
+        w : ℕ
+        w = weight 𝓕 n E
+
+        at : ℕ → ℕ
+        at = support 𝓕 n E .0
+
+        su : Support 𝓕 n w E at
+        su = support 𝓕 n E .1
+
+        X : Series 𝓕
+        X = pick 𝓕 A at
+
+        Y : Series 𝓕
+        Y = pick 𝓕 E at
+
+    module _ (v : ℕ) (at : ℕ → ℕ) (found : Search n v L C Z at) where
+      -- ---- complete: the roots are the places of the error
+
+      module _ (E : Series 𝓕) (few : weight 𝓕 n E + weight 𝓕 n E ≤ t) (syn : (i : ℕ) → i < t → S i ≡ psum 𝓕 n E A (suc i)) where
+        bt : ℕ → ℕ
+        bt = support 𝓕 n E .0
+
+        su : Support 𝓕 n (weight 𝓕 n E) E bt
+        unfolding bt
+        su = support 𝓕 n E .1
+
+        located : (L ≡ weight 𝓕 n E) × (C ≡ loc 𝓕 (weight 𝓕 n E) (pick 𝓕 A bt))
+        located =
+            bm-finds 𝓕 (weight 𝓕 n E) t L S C B (pick 𝓕 E bt) (pick 𝓕 A bt) (pick 𝓕 Z bt) b
+            (listed-distinct (weight 𝓕 n E) bt (su .inside) (su .rises)) (listed-inverses (weight 𝓕 n E) bt (su .inside) (su .rises))
+            (λ k l. rw pick-at (su .not-nil k l)) (λ i l. syn i l ∙ su .sums A (suc i) ∙ sym (synd-at 𝓕 (weight 𝓕 n E) (pick 𝓕 E bt) (pick 𝓕 A bt) i)) st few
+
+        value-at : (p : ℕ) → ev 𝓕 (suc L) C (Z p) ≡ prod 𝓕 (weight 𝓕 n E) (pick 𝓕 A bt) (Z p)
+        value-at p = ap₂ (λ (l : ℕ) (c : Series 𝓕). ev 𝓕 (suc l) c (Z p)) (located .0) (located .1) ∙ ev-loc 𝓕 (weight 𝓕 n E) (pick 𝓕 A bt) (Z p)
+
+        error-root : (p : ℕ) → p < n → E p ≢ 𝟘 → ev 𝓕 (suc L) C (Z p) ≡ 𝟘
+        error-root p l h =
+            let r = su .all p l h in
+            value-at p ∙ prod-root 𝓕 (weight 𝓕 n E) (pick 𝓕 A bt) (Z p) (r .0) (r .1) (rw (pick-at, r .2) (I p l))
+
+        root-error : (p : ℕ) → p < n → ev 𝓕 (suc L) C (Z p) ≡ 𝟘 → E p ≢ 𝟘
+        root-error p l h z =
+            prod-ne 𝓕 (weight 𝓕 n E) (pick 𝓕 A bt) (Z p)
+            (λ j m. rw pick-at (link-ne 𝓕 (A (bt j)) (A p) (Z p) (I p l) (distinct-any n A D (bt j) p (su .inside j m) l (λ e. su .not-nil j m (rw e z)))))
+            (sym (value-at p) ∙ h)
+
+        pub search-complete : (L ≡ weight 𝓕 n E) × (v ≡ L)
+        search-complete = (
+          located .0,
+          support-of 𝓕 n v E at (record {
+            inside = found .inside;
+            rises = found .rises;
+            not-nil = λ j l. root-error (at j) (found .inside j l) (found .root j l);
+            all = λ p l h. found .all p l (error-root p l h);
+          }) .0 ∙ sym (located .0),
+        )
+
+      -- ---- sound: Forney's values at the roots make an error with these syndromes
+
+      module _ (E : Series 𝓕) (all-found : v ≡ L) (short : L ≤ t)
+          (elsewhere : (p : ℕ) → (ev 𝓕 (suc L) C (Z p) ≡ 𝟘 → ⊥) → E p ≡ 𝟘)
+          (values : (j : ℕ) → j < v → E (at j) ⊙ ev 𝓕 L (deriv 𝓕 C) (Z (at j)) ≡ ev 𝓕 L (C ⊛ S) (Z (at j))) where
+        root-mark : Series 𝓕
+        root-mark p = mark (𝓕 .decide (ev 𝓕 (suc L) C (Z p)) 𝟘)
+
+        marks : Lists 𝓕 n v root-mark at
+        unfolding root-mark
+        marks = record {
+          inside = found .inside;
+          rises = found .rises;
+          not-nil = λ j l. mark-ne (𝓕 .decide (ev 𝓕 (suc L) C (Z (at j))) 𝟘) (found .root j l);
+          all = λ p l h. found .all p l (mark-of (𝓕 .decide (ev 𝓕 (suc L) C (Z p)) 𝟘) h);
+        }
+
+        kept : (p : ℕ) → root-mark p ⊙ E p ≡ E p
+        unfolding root-mark
+        kept p = mark-keeps (𝓕 .decide (ev 𝓕 (suc L) C (Z p)) 𝟘) (E p) (elsewhere p)
+
+        listed : (i : ℕ) → psum 𝓕 n E A i ≡ psum 𝓕 L (pick 𝓕 E at) (pick 𝓕 A at) i
+        listed i = psum-listed n v root-mark E A at i (support-of 𝓕 n v root-mark at marks .1) kept ∙ (rw all-found)
+
+        places-inside : (j : ℕ) → j < L → at j < n
+        places-inside = rw all-found at (found .inside)
+
+        places-rise : (i j : ℕ) → i < j → j < L → at i < at j
+        places-rise = rw all-found at (found .rises)
+
+        root-listed : (j : ℕ) → j < L → ev 𝓕 (suc L) C (pick 𝓕 Z at j) ≡ 𝟘
+        root-listed j l = rw pick-at (found .root j (rw all-found l))
+
+        C-is : C ≡ loc 𝓕 L (pick 𝓕 A at)
+        C-is =
+            locator-unique 𝓕 L C (pick 𝓕 A at) (pick 𝓕 Z at) (st .c-one) (st .c-below)
+            (listed-inverses L at places-inside places-rise) (listed-distinct L at places-inside places-rise) root-listed
+
+        divisor : (j : ℕ) → j < L → pick 𝓕 A at j ⊙ skip 𝓕 L (pick 𝓕 A at) j (pick 𝓕 Z at j) ≡ ev 𝓕 L (deriv 𝓕 C) (Z (at j))
+        divisor j l =
+            sym (deriv-loc 𝓕 L (pick 𝓕 A at) j (pick 𝓕 Z at j) l (listed-inverses L at places-inside places-rise j l))
+            ∙ (rw (← C-is, pick-at))
+
+        sums : (i : ℕ) → i < t → psum 𝓕 n E A (suc i) ≡ S i
+        sums i l =
+            listed (suc i)
+            ∙ forney-sound 𝓕 L t C S (pick 𝓕 E at) (pick 𝓕 A at) (pick 𝓕 Z at) (st .c-one) (st .c-below) (st .c-ann) short
+            (listed-distinct L at places-inside places-rise) (listed-inverses L at places-inside places-rise) root-listed
+            (λ j m. rw (divisor j m, pick-at 𝓕 E at j, values j (rw all-found m), pick-at 𝓕 Z at j)) i l
+
+        pub search-sound : ((i : ℕ) → i < t → psum 𝓕 n E A (suc i) ≡ S i) × (weight 𝓕 n E ≡ L)
+        search-sound = (sums, omega (arith, least-weight E (λ i l. sym (sums i l)), most))
+          where
+            most : weight 𝓕 n E ≤ L
+            most = omega (arith, all-found, support-of 𝓕 n v root-mark at marks .0, weight-le n E root-mark (λ p l z. sym (kept p) ∙ (rw z (𝟘-⊙ 𝓕 _))))

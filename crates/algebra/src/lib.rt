@@ -1,0 +1,1 @@
+// Theory alone: power series and polynomials over any field of characteristic 2, for the code word's proofs and the checks'.
