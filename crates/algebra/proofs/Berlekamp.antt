@@ -9,7 +9,7 @@
 --   bm-finds            if the first n terms are the syndromes of v ≤ n / 2 errors, L is v and C their locator
 --
 -- Assumes nothing.
-use mathlib.Core.Path.{_≡_, refl, sym, _∙_, ap}
+use mathlib.Core.Path.{_≡_, sym, _∙_}
 use mathlib.Core.Logic.{_≢_}
 use Prim.Native.Nat.{ℕ, zero, suc, _+_, _-_, _≤_, _<_}
 use native.Mathlib.Omega.{arith}
@@ -17,7 +17,7 @@ use native.Mathlib.Decide.{decLe}
 use Rattle.algebra.specs.Field.{Field}
 use Rattle.algebra.proofs.Ring.{ring, ⊕-self, ⊙-assoc, ⊙-comm, ⊙-inv, ⊙-𝟙}
 use Rattle.algebra.specs.Series.{Series, Below, Operations, operations}
-use Rattle.algebra.proofs.Product.{⊞-at, ⊡-at, sh-zero, sh-suc, unit-zero, unit-suc, ⊞-⊛, ⊡-⊛, sh-⊛, ⊛-local, below-sh}
+use Rattle.algebra.proofs.Product.{⊞-at, ⊡-at, sh-zero, sh-suc, unit-zero, ⊞-⊛, ⊡-⊛, sh-⊛, ⊛-local, below-sh}
 use Rattle.algebra.proofs.Value.{ev, ev-more}
 use Rattle.algebra.proofs.Roots.{Distinct, roots}
 use Rattle.algebra.proofs.Recurrence.{Annihilates, massey}

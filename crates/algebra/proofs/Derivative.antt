@@ -6,9 +6,8 @@
 --   deriv-loc     the locator's derivative at Zₖ is Xₖ skip: Forney's divisor
 --
 -- Assumes nothing.
-use mathlib.Core.Path.{_≡_, refl, sym, _∙_, ap, fun-ext}
-use mathlib.Core.Logic.{_≢_}
-use Prim.Native.Nat.{ℕ, zero, suc, _+_, _≤_, _<_}
+use mathlib.Core.Path.{_≡_, refl, sym, _∙_, fun-ext}
+use Prim.Native.Nat.{ℕ, zero, suc, _<_}
 use native.Mathlib.Omega.{arith}
 use Rattle.algebra.specs.Field.{Field}
 use Rattle.algebra.proofs.Ring.{ring, ⊕-𝟘, ⊕-self, ⊕-cancel}
@@ -23,7 +22,7 @@ module _ (𝓕 : Field) where
   infixl 70 _⊙_
   infixl 60 _⊞_
   infixr 80 _⊡_
-  open Field 𝓕 using (Carrier as F, add as _⊕_, mul as _⊙_, nil as 𝟘, one as 𝟙, inv)
+  open Field 𝓕 using (Carrier as F, add as _⊕_, mul as _⊙_, nil as 𝟘, one as 𝟙)
   open Operations (operations 𝓕) using (_⊞_, _⊡_, sh, tl)
 
   -- (n + 1) f₍ₙ₊₁₎ at n, by recursion: in characteristic 2 that is f₁, 0, f₃, 0, .. (`deriv-one`, `deriv-two`)

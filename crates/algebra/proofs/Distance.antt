@@ -5,7 +5,7 @@
 --   light-unique     two series whose weights sum to at most t, with the same t syndromes, are equal
 --
 -- Assumes nothing.
-use mathlib.Core.Path.{_≡_, refl, sym, _∙_, ap}
+use mathlib.Core.Path.{_≡_, sym, _∙_}
 use mathlib.Core.Logic.{_≢_}
 use Prim.Native.Nat.{ℕ, zero, suc, _+_, _≤_, _<_}
 use native.Mathlib.Omega.{arith}
@@ -19,9 +19,8 @@ use Rattle.algebra.proofs.Support.{Support, pick, pick-at, weight, weig
 
 module _ (𝓕 : Field) where
   infixl 60 _⊕_
-  infixl 70 _⊙_
   infixl 60 _⊞_
-  open Field 𝓕 using (Carrier as F, add as _⊕_, mul as _⊙_, nil as 𝟘, one as 𝟙, inv)
+  open Field 𝓕 using (Carrier as F, add as _⊕_, nil as 𝟘)
   open Operations (operations 𝓕) using (_⊞_, tl)
 
   psum-⊞ : (v : ℕ) (Y W X : Series 𝓕) (i : ℕ) → psum 𝓕 v (Y ⊞ W) X i ≡ psum 𝓕 v Y X i ⊕ psum 𝓕 v W X i

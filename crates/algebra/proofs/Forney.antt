@@ -6,21 +6,21 @@
 --   forney-sound    values that obey the formula, for any S of which C is a recurrence, have S as their syndromes
 --
 -- Assumes nothing.
-use mathlib.Core.Path.{_≡_, refl, sym, _∙_, ap, ap₂, fun-ext, _≡⟨_⟩_, _∎}
+use mathlib.Core.Path.{_≡_, refl, sym, _∙_, ap, fun-ext}
 use mathlib.Core.Logic.{_≢_}
-use Prim.Native.Nat.{ℕ, zero, suc, _+_, _≤_, _<_}
+use Prim.Native.Nat.{ℕ, zero, suc, _≤_, _<_}
 use native.Mathlib.Omega.{arith}
 use native.Mathlib.Decide.{decLe}
 use Rattle.algebra.specs.Field.{Field}
-use Rattle.algebra.proofs.Ring.{ring, ⊙-comm, ⊙-assoc, ⊙-𝟙, 𝟙-⊙, ⊙-𝟘, ⊕-𝟘, 𝟘-⊕, ⊕-self, eq-of-sum, mul-ne}
+use Rattle.algebra.proofs.Ring.{ring, 𝟙-⊙, ⊙-𝟘, ⊕-𝟘, ⊕-self, eq-of-sum, mul-ne}
 use Rattle.algebra.specs.Series.{Series, Below, Operations, operations}
-use Rattle.algebra.proofs.Product.{tl-at, ⊞-at, ⊡-at, sh-zero, sh-suc, unit-zero, unit-suc, ⊛-⊞, ⊛-⊡, ⊞-⊛, ⊡-⊛, ⊛-comm, window, unit-⊛}
-use Rattle.algebra.proofs.Value.{ev, ev-⊞, ev-⊡, ev-more}
+use Rattle.algebra.proofs.Product.{tl-at, ⊞-at, ⊡-at, sh-suc, unit-zero, unit-suc, ⊛-⊞, ⊛-⊡, ⊡-⊛, ⊛-comm, window, unit-⊛}
+use Rattle.algebra.proofs.Value.{ev, ev-⊞, ev-⊡}
 use Rattle.algebra.proofs.Roots.{Distinct, distinct-tl, roots}
 use Rattle.algebra.proofs.Recurrence.{Annihilates}
-use Rattle.algebra.proofs.PowerSum.{pow, pow-zero, pow-suc, psum}
+use Rattle.algebra.proofs.PowerSum.{pow-zero, pow-suc, psum}
 use Rattle.algebra.proofs.Locator as Loc
-use Rattle.algebra.proofs.Locator.{Inverses, inverses-distinct, right-ne, link-ne, geo, geo-at, synd, synd-at, synd-suc, lin, lin-is, lin-zero, lin-⊛, ev-lin, loc, loc-one, loc-suc, below-loc, ev-loc, prod, prod-zero, prod-suc, prod-root, loc-annihilates, locator-unique}
+use Rattle.algebra.proofs.Locator.{Inverses, inverses-distinct, link-ne, geo, geo-at, synd, synd-at, synd-suc, lin, lin-is, lin-zero, lin-⊛, ev-lin, loc, loc-suc, ev-loc, prod, prod-zero, prod-suc, prod-root, loc-annihilates, locator-unique}
 
 module _ (𝓕 : Field) where
   infixl 60 _⊕_
@@ -28,7 +28,7 @@ module _ (𝓕 : Field) where
   infixl 60 _⊞_
   infixl 70 _⊛_
   infixr 80 _⊡_
-  open Field 𝓕 using (Carrier as F, add as _⊕_, mul as _⊙_, nil as 𝟘, one as 𝟙, inv)
+  open Field 𝓕 using (Carrier as F, add as _⊕_, mul as _⊙_, nil as 𝟘, one as 𝟙)
   open Operations (operations 𝓕) using (_⊞_, _⊡_, _⊛_, unit, sh, tl)
 
   -- (1 ⊕ a x) (a ⊕ a² x ⊕ ..) = a

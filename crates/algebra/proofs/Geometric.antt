@@ -9,9 +9,9 @@ use mathlib.Core.Path.{_≡_, refl, sym, _∙_, ap, fun-ext}
 use Prim.Native.Nat.{ℕ, zero, suc}
 use Rattle.algebra.specs.Field.{Field}
 use Rattle.algebra.specs.Series.{Series, Operations, operations}
-use Rattle.algebra.specs.Divides.{root, rooted}
+use Rattle.algebra.specs.Polynomial.{root, rooted}
 use Rattle.algebra.proofs.Ring.{ring, eq-of-sum, sum-of-eq}
-use Rattle.algebra.proofs.Product.{⊞-at, ⊡-at, sh-zero, sh-suc, unit-zero, unit-suc}
+use Rattle.algebra.proofs.Product.{⊡-at, unit-zero, unit-suc}
 use Rattle.algebra.proofs.Roots.{root-at, root-first, rooted-zero, rooted-suc}
 use Rattle.algebra.proofs.PowerSum.{pow, pow-zero, pow-suc}
 
@@ -19,8 +19,8 @@ module _ (𝓕 : Field) where
   infixl 60 _⊕_
   infixl 70 _⊙_
   infixr 80 _⊡_
-  open Field 𝓕 using (Carrier as F, add as _⊕_, mul as _⊙_, nil as 𝟘, one as 𝟙)
-  open Operations (operations 𝓕) using (_⊡_, unit, sh)
+  open Field 𝓕 using (Carrier as F, add as _⊕_, mul as _⊙_, one as 𝟙)
+  open Operations (operations 𝓕) using (_⊡_, unit)
 
   unfoldable pub rising : F → Series 𝓕
   rising a i = pow 𝓕 a (suc i)

@@ -15,3 +15,4 @@ pub mod Repair
 pub mod Distance
 pub mod Remainder
 pub mod Geometric
+pub mod Polynomial

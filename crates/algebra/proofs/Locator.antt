@@ -10,20 +10,20 @@
 --   locator-unique     degree at most v, constant coefficient 1 and the roots Zₖ: it is the locator
 --
 -- Assumes nothing.
-use mathlib.Core.Path.{_≡_, refl, sym, _∙_, ap, ap₂, fun-ext, _≡⟨_⟩_, _∎}
+use mathlib.Core.Path.{_≡_, refl, sym, _∙_, ap, fun-ext, _≡⟨_⟩_, _∎}
 use mathlib.Core.Logic.{_≢_}
 use Prim.Native.Nat.{ℕ, zero, suc, _+_, _≤_, _<_}
 use native.Mathlib.Omega.{arith}
 use native.Mathlib.Decide.{decLe}
 use Rattle.algebra.specs.Field.{Field}
-use Rattle.algebra.proofs.Ring.{ring, ⊙-comm, ⊙-assoc, ⊙-left, 𝟘-⊙, ⊙-𝟘, ⊕-𝟘, 𝟘-⊕, ⊕-self, eq-of-sum, factor, sum-ne, mul-ne}
+use Rattle.algebra.proofs.Ring.{ring, ⊙-comm, ⊙-assoc, 𝟘-⊙, ⊙-𝟘, ⊕-𝟘, 𝟘-⊕, ⊕-self, eq-of-sum, factor}
 use Rattle.algebra.specs.Series as Ser
 use Rattle.algebra.specs.Series.{Series, Below, Operations, operations}
-use Rattle.algebra.proofs.Product.{below-tl, below-⊞, below-⊡, below-sh, below-more, tl-at, ⊞-at, ⊡-at, sh-zero, sh-suc, unit-zero, unit-suc, ⊛-zero, ⊛-suc, ⊛-⊞, ⊛-⊡, ⊞-⊛, ⊡-⊛, sh-⊛, tl-⊞, none-at, none-⊛, ⊛-comm}
-use Rattle.algebra.proofs.Value.{ev, ev-zero, ev-suc, ev-one, ev-⊞, ev-⊡, ev-sh, ev-more}
-use Rattle.algebra.proofs.Roots.{Distinct, distinct-tl, roots}
+use Rattle.algebra.proofs.Product.{below-tl, below-⊞, below-⊡, below-sh, below-more, tl-at, ⊞-at, ⊡-at, sh-zero, unit-zero, unit-suc, ⊛-zero, ⊛-suc, ⊛-⊞, ⊛-⊡, ⊞-⊛, ⊡-⊛, sh-⊛, none-at, none-⊛, ⊛-comm}
+use Rattle.algebra.proofs.Value.{ev, ev-suc, ev-one, ev-⊞, ev-⊡, ev-sh, ev-more}
+use Rattle.algebra.proofs.Roots.{Distinct, roots}
 use Rattle.algebra.proofs.Recurrence.{Annihilates}
-use Rattle.algebra.proofs.PowerSum.{pow, pow-zero, pow-suc, psum, psum-zero, psum-suc, psum-none, vandermonde}
+use Rattle.algebra.proofs.PowerSum.{pow, pow-suc, psum, psum-zero, psum-suc, psum-none, vandermonde}
 
 module _ (𝓕 : Field) where
   infixl 60 _⊕_
@@ -31,7 +31,7 @@ module _ (𝓕 : Field) where
   infixl 60 _⊞_
   infixl 70 _⊛_
   infixr 80 _⊡_
-  open Field 𝓕 using (Carrier as F, add as _⊕_, mul as _⊙_, nil as 𝟘, one as 𝟙, inv)
+  open Field 𝓕 using (Carrier as F, add as _⊕_, mul as _⊙_, nil as 𝟘, one as 𝟙)
   open Operations (operations 𝓕) using (_⊞_, _⊡_, _⊛_, none, unit, sh, tl)
 
   abbrev pub Inverses : ℕ → Series 𝓕 → Series 𝓕 → Type 0

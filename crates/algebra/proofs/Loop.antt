@@ -7,24 +7,23 @@
 --   horner          one turn of Horner's rule, from the highest coefficient down
 --
 -- Assumes nothing.
-use mathlib.Core.Path.{_≡_, refl, sym, _∙_, ap}
-use mathlib.Core.Logic.{_≢_}
-use mathlib.Core.List.{List, [], _∷_}
-use Prim.Native.Nat.{ℕ, zero, suc, _+_, _-_, _≤_, _<_}
+use mathlib.Core.Path.{_≡_, refl, _∙_}
+use mathlib.Core.List.{List}
+use Prim.Native.Nat.{ℕ, zero, suc, _-_, _≤_, _<_}
 use native.Mathlib.Omega.{arith}
 use native.Mathlib.Decide.{decLe}
-use lib.ListN.{length, getD}
+use lib.ListN.{getD}
 use Rattle.algebra.specs.Field.{Field}
-use Rattle.algebra.proofs.Ring.{ring, 𝟘-⊕, 𝟘-⊙, ⊕-𝟘, ⊙-𝟘}
+use Rattle.algebra.proofs.Ring.{ring}
 use Rattle.algebra.specs.Series.{Series, Below, Operations, operations}
 use Rattle.algebra.proofs.Product.{tl-at, ⊛-zero, ⊛-suc}
-use Rattle.algebra.proofs.Value.{ev, ev-zero, ev-suc}
+use Rattle.algebra.proofs.Value.{ev, ev-suc}
 
 module _ (𝓕 : Field) where
   infixl 60 _⊕_
   infixl 70 _⊙_
   infixl 70 _⊛_
-  open Field 𝓕 using (Carrier as F, add as _⊕_, mul as _⊙_, nil as 𝟘, one as 𝟙, inv)
+  open Field 𝓕 using (Carrier as F, add as _⊕_, mul as _⊙_, nil as 𝟘)
   open Operations (operations 𝓕) using (_⊛_, tl)
 
   -- Σ_{i<j} fᵢ g₍ₙ₋ᵢ₎

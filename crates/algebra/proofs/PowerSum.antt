@@ -6,12 +6,12 @@
 --   vandermonde     v power sums in a row that vanish, at distinct Xₖ that are not zero: every Yₖ is zero
 --
 -- Assumes nothing.
-use mathlib.Core.Path.{_≡_, refl, sym, _∙_, ap, ap₂, _≡⟨_⟩_, _∎}
+use mathlib.Core.Path.{_≡_, refl, sym, _∙_}
 use mathlib.Core.Logic.{_≢_}
 use Prim.Native.Nat.{ℕ, zero, suc, _+_, _≤_, _<_}
 use native.Mathlib.Omega.{arith}
 use Rattle.algebra.specs.Field.{Field}
-use Rattle.algebra.proofs.Ring.{ring, ⊙-comm, 𝟘-⊙, ⊙-𝟘, ⊕-𝟘, 𝟘-⊕, factor, sum-ne, mul-ne}
+use Rattle.algebra.proofs.Ring.{ring, ⊙-comm, factor, sum-ne, mul-ne}
 use Rattle.algebra.specs.Series as Ser
 use Rattle.algebra.specs.Series.{Series, Operations, operations}
 use Rattle.algebra.proofs.Product.{tl-at}
@@ -20,7 +20,7 @@ use Rattle.algebra.proofs.Roots.{Distinct, distinct-tl}
 module _ (𝓕 : Field) where
   infixl 60 _⊕_
   infixl 70 _⊙_
-  open Field 𝓕 using (Carrier as F, add as _⊕_, mul as _⊙_, nil as 𝟘, one as 𝟙, inv)
+  open Field 𝓕 using (Carrier as F, add as _⊕_, mul as _⊙_, nil as 𝟘, one as 𝟙)
   open Operations (operations 𝓕) using (tl)
 
   unfoldable pub pow : F → ℕ → F

@@ -5,7 +5,7 @@
 --   powers-distinct     the powers below N of an element of order N are distinct
 --
 -- Assumes nothing.
-use mathlib.Core.Path.{_≡_, refl, sym, _∙_, ap}
+use mathlib.Core.Path.{_≡_, refl, sym, _∙_}
 use mathlib.Core.Logic.{_≢_}
 use Prim.Native.Nat.{ℕ, zero, suc, _+_, _-_, _≤_, _<_}
 use native.Mathlib.Omega.{arith}
@@ -19,9 +19,8 @@ use Rattle.algebra.proofs.PowerSum.{pow, pow-zero, pow-suc, pow-ne, psu
 use Rattle.algebra.proofs.Locator.{Inverses}
 
 module _ (𝓕 : Field) where
-  infixl 60 _⊕_
   infixl 70 _⊙_
-  open Field 𝓕 using (Carrier as F, add as _⊕_, mul as _⊙_, nil as 𝟘, one as 𝟙, inv)
+  open Field 𝓕 using (Carrier as F, mul as _⊙_, nil as 𝟘, one as 𝟙)
   open Operations (operations 𝓕) using (tl)
 
   pub pow-mul : (a b : F) (n : ℕ) → pow 𝓕 (a ⊙ b) n ≡ pow 𝓕 a n ⊙ pow 𝓕 b n

@@ -4,19 +4,19 @@
 --   massey                a recurrence of length L that fails first at r, and one of length v that does not fail up to r: r < v + L
 --
 -- Assumes nothing.
-use mathlib.Core.Path.{_≡_, refl, sym, _∙_, ap}
+use mathlib.Core.Path.{_≡_, sym, _∙_, ap}
 use mathlib.Core.Logic.{_≢_}
-use Prim.Native.Nat.{ℕ, zero, suc, _+_, _≤_, _<_}
+use Prim.Native.Nat.{ℕ, suc, _+_, _≤_, _<_}
 use native.Mathlib.Omega.{arith}
 use native.Mathlib.Decide.{decLe}
 use Rattle.algebra.specs.Field.{Field}
-use Rattle.algebra.proofs.Ring.{𝟙-⊙, ⊙-𝟘}
+use Rattle.algebra.proofs.Ring.{𝟙-⊙}
 use Rattle.algebra.specs.Series.{Series, Below, Operations, operations}
 use Rattle.algebra.proofs.Product.{⊛-left, window}
 
 module _ (𝓕 : Field) where
   infixl 70 _⊛_
-  open Field 𝓕 using (Carrier as F, add as _⊕_, mul as _⊙_, nil as 𝟘, one as 𝟙, inv)
+  open Field 𝓕 using (nil as 𝟘, one as 𝟙)
   open Operations (operations 𝓕) using (_⊛_)
 
   -- f annihilates S from index a up to, and not at, r

@@ -15,9 +15,9 @@ use native.Mathlib.Omega.{arith}
 use native.Mathlib.Decide.{decLe}
 use Rattle.algebra.specs.Field.{Field}
 use Rattle.algebra.specs.Series.{Series, Below, Operations, operations}
-use Rattle.algebra.specs.Divides.{Divides, Remainder, monomial}
-use Rattle.algebra.proofs.Ring.{ring, ⊕-𝟘, ⊙-𝟘, ⊙-𝟙, eq-of-sum}
-use Rattle.algebra.proofs.Product.{⊞-at, ⊡-at, sh-zero, sh-suc, unit-zero, unit-suc, none-at, ⊛-suc, ⊞-⊛, ⊡-⊛, sh-⊛, unit-⊛, none-⊛, ⊛-comm, window, below-none, below-tl, below-⊞, below-⊡, below-sh, below-more}
+use Rattle.algebra.specs.Polynomial.{Divides, Remainder, monomial}
+use Rattle.algebra.proofs.Ring.{ring, ⊕-𝟘, ⊙-𝟙, eq-of-sum}
+use Rattle.algebra.proofs.Product.{⊞-at, ⊡-at, sh-zero, sh-suc, unit-zero, none-at, ⊛-suc, ⊞-⊛, ⊡-⊛, sh-⊛, unit-⊛, none-⊛, window, below-none, below-tl, below-⊞, below-⊡, below-sh, below-more}
 use Rattle.algebra.proofs.Roots.{below-unit}
 
 module _ (𝓕 : Field) where

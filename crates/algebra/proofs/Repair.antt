@@ -10,11 +10,11 @@ use mathlib.Core.Path.{_≡_, refl, sym, _∙_, ap, ap₂}
 use mathlib.Core.Logic.{_≢_}
 use Prim.Native.Nat.{ℕ, zero, suc, _+_, _≤_, _<_}
 use native.Mathlib.Omega.{arith}
-use native.Mathlib.Decide.{decLt, decLe}
+use native.Mathlib.Decide.{decLt}
 use Rattle.algebra.specs.Field.{Field}
 use Rattle.algebra.specs.Series as Ser
 use Rattle.algebra.specs.Series.{Series, Operations, operations}
-use Rattle.algebra.proofs.Ring.{ring, ⊙-𝟙, 𝟘-⊙, 𝟙-⊙}
+use Rattle.algebra.proofs.Ring.{ring, 𝟘-⊙, 𝟙-⊙}
 use Rattle.algebra.proofs.Product.{⊛-local, tl-at}
 use Rattle.algebra.proofs.Value.{ev}
 use Rattle.algebra.proofs.Roots.{Distinct}

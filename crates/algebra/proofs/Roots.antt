@@ -9,7 +9,7 @@
 --   roots-divide     and what is zero at each of the distinct Xᵢ it divides
 --
 -- Assumes nothing.
-use mathlib.Core.Path.{_≡_, refl, sym, _∙_, ap, ap₂, fun-ext, _≡⟨_⟩_, _∎}
+use mathlib.Core.Path.{_≡_, refl, sym, _∙_, ap, fun-ext, _≡⟨_⟩_, _∎}
 use mathlib.Core.Logic.{_≢_}
 use Prim.Native.Nat.{ℕ, zero, suc, _+_, _≤_, _<_}
 use native.Mathlib.Omega.{arith}
@@ -17,8 +17,8 @@ use native.Mathlib.Decide.{decLe}
 use Rattle.algebra.specs.Field.{Field}
 use Rattle.algebra.specs.Series as Ser
 use Rattle.algebra.specs.Series.{Series, Below, Operations, operations}
-use Rattle.algebra.specs.Divides.{Divides, root, rooted}
-use Rattle.algebra.proofs.Ring.{ring, ⊕-𝟘, ⊙-𝟘, ⊙-comm, factor, mul-ne, sum-ne}
+use Rattle.algebra.specs.Polynomial.{Divides, root, rooted}
+use Rattle.algebra.proofs.Ring.{ring, ⊙-𝟘, ⊙-comm, factor, mul-ne, sum-ne}
 use Rattle.algebra.proofs.Product.{tl-at, ⊞-at, ⊡-at, sh-zero, sh-suc, unit-zero, unit-suc, below-⊞, below-⊡, below-sh, below-more, below-tl, ⊞-⊛, ⊡-⊛, sh-⊛, ⊛-comm, unit-⊛}
 use Rattle.algebra.proofs.Value.{ev, ev-zero, ev-suc, ev-one, ev-⊞, ev-⊡, ev-sh, ev-unit, ev-more, ev-⊛}
 

@@ -22,7 +22,7 @@ use Rattle.algebra.proofs.PowerSum.{pow, psum, psum-zero, psum-suc}
 module _ (𝓕 : Field) where
   infixl 60 _⊕_
   infixl 70 _⊙_
-  open Field 𝓕 using (Carrier as F, add as _⊕_, mul as _⊙_, nil as 𝟘, one as 𝟙, inv)
+  open Field 𝓕 using (add as _⊕_, mul as _⊙_, nil as 𝟘)
   open Operations (operations 𝓕) using (tl)
 
   unfoldable pub pick : Series 𝓕 → (ℕ → ℕ) → Series 𝓕

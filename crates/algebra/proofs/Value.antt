@@ -7,13 +7,11 @@
 --   ev-local      only the first d coefficients are read
 --
 -- Assumes nothing.
-use mathlib.Core.Path.{_≡_, refl, sym, _∙_, ap, ap₂, fun-ext, _≡⟨_⟩_, _∎}
-use mathlib.Core.Logic.{_≢_}
+use mathlib.Core.Path.{_≡_, refl, sym, _∙_, ap, _≡⟨_⟩_, _∎}
 use Prim.Native.Nat.{ℕ, zero, suc, _+_, _≤_, _<_}
 use native.Mathlib.Omega.{arith}
-use native.Mathlib.Decide.{decLe}
 use Rattle.algebra.specs.Field.{Field}
-use Rattle.algebra.proofs.Ring.{ring, 𝟘-⊙, ⊙-𝟘, ⊕-𝟘, 𝟘-⊕, factor, sum-ne}
+use Rattle.algebra.proofs.Ring.{ring}
 use Rattle.algebra.specs.Series.{Series, Below, Operations, operations}
 use Rattle.algebra.proofs.Product.{below-none, below-tl, none-at, tl-at, tl-⊞, tl-⊡, tl-⊛, tl-none, tl-unit, tl-sh, ⊞-at, ⊡-at, ⊛-zero, none-⊛, unit-zero, sh-zero}
 
@@ -23,7 +21,7 @@ module _ (𝓕 : Field) where
   infixl 60 _⊞_
   infixl 70 _⊛_
   infixr 80 _⊡_
-  open Field 𝓕 using (Carrier as F, add as _⊕_, mul as _⊙_, nil as 𝟘, one as 𝟙, inv)
+  open Field 𝓕 using (Carrier as F, add as _⊕_, mul as _⊙_, nil as 𝟘, one as 𝟙)
   open Operations (operations 𝓕) using (_⊞_, _⊡_, _⊛_, none, unit, sh, tl)
 
   unfoldable pub ev : ℕ → Series 𝓕 → F → F

@@ -1,3 +1,3 @@
 pub mod Field
 pub mod Series
-pub mod Divides
+pub mod Polynomial

@@ -21,7 +21,7 @@ use native.Mathlib.Omega.{arith}
 use lib.Dec.{lit<}
 use lib.ListN.{getD}
 use Rattle.field.specs.Octet.{product, α, power, inverse}
-use Rattle.field.specs.Octet.Ring.{product-assoc, product-comm, product-zero, zero-product, one-product, product-one}
+use Rattle.field.specs.Octet.Ring.{product-assoc, product-comm, product-zero, zero-product, one-product}
 use Rattle.field.specs.Octet.Power.{power-suc, power-octet, power-add, power-mul, one-power}
 use Rattle.field.specs.Octet.Table.{logs, alpha-around, logs-power, logs-lt, power-logs}
 

@@ -11,7 +11,7 @@
 --   alpha-product       the product with α is doubling
 --
 -- Assumes nothing.
-use mathlib.Core.Path.{_≡_, refl, sym, ap, ap₂, _∙_}
+use mathlib.Core.Path.{_≡_, sym, ap, _∙_}
 use mathlib.Core.Bool.{Bool}
 use Prim.Native.Nat.{ℕ, _%_, _^_, _<_}
 use native.Mathlib.Nat.{mod-mod}
@@ -19,7 +19,7 @@ use lib.Dec.{T, eqb, eqb→eq}
 use Rattle.octets.specs.Every.{every, every-at, every-pair}
 use Rattle.field.specs.Octet.{sum, modulus, double, times, product, α}
 use Rattle.field.specs.Octet.Product.{sum-product, product-sum, product-low, low-octet}
-use Rattle.field.specs.Octet.Basis.{additive-zero, agree, agree-two, agree-three}
+use Rattle.field.specs.Octet.Basis.{additive-zero, agree-two, agree-three}
 
 -- ---- commutative
 
