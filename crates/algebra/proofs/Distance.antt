@@ -23,7 +23,7 @@ module _ (𝓕 : Field) where
   open Field 𝓕 using (Carrier as F, add as _⊕_, nil as 𝟘)
   open Operations (operations 𝓕) using (_⊞_, tl)
 
-  psum-⊞ : (v : ℕ) (Y W X : Series 𝓕) (i : ℕ) → psum 𝓕 v (Y ⊞ W) X i ≡ psum 𝓕 v Y X i ⊕ psum 𝓕 v W X i
+  pub psum-⊞ : (v : ℕ) (Y W X : Series 𝓕) (i : ℕ) → psum 𝓕 v (Y ⊞ W) X i ≡ psum 𝓕 v Y X i ⊕ psum 𝓕 v W X i
   psum-⊞ zero Y W X i = simp (psum-zero, ring)
   psum-⊞ (suc v) Y W X i = simp (psum-suc, tl-⊞, ⊞-at, psum-⊞ v (tl Y) (tl W) (tl X) i, ring)
 

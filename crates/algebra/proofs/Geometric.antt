@@ -1,6 +1,5 @@
 -- The coefficients of G = (x - a) (x - a²) .. (x - aᵐ), each from the one above it.
 --
---   rising a          a, a², a³, ..
 --   geometric         (x - aᵐ) G(a x) = aᵐ (x - 1) G(x)
 --   geometric-ratio   so Gₖ (aᵏ - aᵐ) = aᵐ (aᵏ⁺¹ - 1) Gₖ₊₁
 --
@@ -13,7 +12,8 @@ use Rattle.algebra.specs.Polynomial.{root, rooted}
 use Rattle.algebra.proofs.Ring.{ring, eq-of-sum, sum-of-eq}
 use Rattle.algebra.proofs.Product.{⊡-at, unit-zero, unit-suc}
 use Rattle.algebra.proofs.Roots.{root-at, root-first, rooted-zero, rooted-suc}
-use Rattle.algebra.proofs.PowerSum.{pow, pow-zero, pow-suc}
+use Rattle.algebra.specs.Power.{pow, rising}
+use Rattle.algebra.proofs.PowerSum.{pow-zero, pow-suc}
 
 module _ (𝓕 : Field) where
   infixl 60 _⊕_
@@ -22,10 +22,7 @@ module _ (𝓕 : Field) where
   open Field 𝓕 using (Carrier as F, add as _⊕_, mul as _⊙_, one as 𝟙)
   open Operations (operations 𝓕) using (_⊡_, unit)
 
-  unfoldable pub rising : F → Series 𝓕
-  rising a i = pow 𝓕 a (suc i)
-
-  pub rising-at : (a : F) (i : ℕ) → rising a i ≡ pow 𝓕 a (suc i)
+  pub rising-at : (a : F) (i : ℕ) → rising 𝓕 a i ≡ pow 𝓕 a (suc i)
   unfolding rising
   rising-at a i = refl
 
@@ -67,16 +64,16 @@ module _ (𝓕 : Field) where
       at (suc zero) = rw (root-at 𝓕 r (root 𝓕 s f), root-at 𝓕 s (root 𝓕 r f), root-first 𝓕 s f, root-first 𝓕 r f, root-at 𝓕 s f, root-at 𝓕 r f) (simp ring)
       at (suc (suc k)) = rw (root-at 𝓕 r (root 𝓕 s f), root-at 𝓕 s (root 𝓕 r f), root-at 𝓕 s f k, root-at 𝓕 s f (suc k), root-at 𝓕 r f k, root-at 𝓕 r f (suc k)) (simp ring)
 
-  geometric : (a : F) (m : ℕ) → root 𝓕 (pow 𝓕 a m) (scaled a (rooted 𝓕 m (rising a))) ≡ pow 𝓕 a m ⊡ root 𝓕 𝟙 (rooted 𝓕 m (rising a))
+  geometric : (a : F) (m : ℕ) → root 𝓕 (pow 𝓕 a m) (scaled a (rooted 𝓕 m (rising 𝓕 a))) ≡ pow 𝓕 a m ⊡ root 𝓕 𝟙 (rooted 𝓕 m (rising 𝓕 a))
   geometric a zero = rw (rooted-zero, pow-zero, scaled-unit) (fun-ext (λ k. rw ⊡-at (simp ring)))
   geometric a (suc m) =
       rw (rooted-suc, rising-at, pow-suc 𝓕 a m, scaled-root a (pow 𝓕 a m), geometric a m, root-⊡, root-⊡, root-root (a ⊙ pow 𝓕 a m) 𝟙)
       (fun-ext (λ k. simp (⊡-at, ring)))
 
-  pub geometric-ratio : (a : F) (m k : ℕ) → let G = rooted 𝓕 m (rising a) in
+  pub geometric-ratio : (a : F) (m k : ℕ) → let G = rooted 𝓕 m (rising 𝓕 a) in
       G k ⊙ (pow 𝓕 a k ⊕ pow 𝓕 a m) ≡ pow 𝓕 a m ⊙ (pow 𝓕 a (suc k) ⊕ 𝟙) ⊙ G (suc k)
   geometric-ratio a m k =
-      let G = rooted 𝓕 m (rising a) in
+      let G = rooted 𝓕 m (rising 𝓕 a) in
       eq-of-sum 𝓕 _ _ (sym (simp ring) ∙ sum-of-eq 𝓕 _ _ (same G (ap (λ (f : Series 𝓕). f (suc k)) (geometric a m))))
     where
       same : (G : Series 𝓕) → root 𝓕 (pow 𝓕 a m) (scaled a G) (suc k) ≡ (pow 𝓕 a m ⊡ root 𝓕 𝟙 G) (suc k)

@@ -23,7 +23,8 @@ use Rattle.algebra.proofs.Product.{below-tl, below-⊞, below-⊡, belo
 use Rattle.algebra.proofs.Value.{ev, ev-suc, ev-one, ev-⊞, ev-⊡, ev-sh, ev-more}
 use Rattle.algebra.proofs.Roots.{Distinct, roots}
 use Rattle.algebra.proofs.Recurrence.{Annihilates}
-use Rattle.algebra.proofs.PowerSum.{pow, pow-suc, psum, psum-zero, psum-suc, psum-none, vandermonde}
+use Rattle.algebra.specs.Power.{pow}
+use Rattle.algebra.proofs.PowerSum.{pow-suc, psum, psum-zero, psum-suc, psum-none, vandermonde}
 
 module _ (𝓕 : Field) where
   infixl 60 _⊕_

@@ -1,6 +1,6 @@
 -- Power sums Y₀ X₀ⁱ + .. + Yᵥ₋₁ Xᵥ₋₁ⁱ.
 --
---   pow x n         x to the n
+--   pow-zero, pow-suc, pow-ne    powers of an element
 --   psum v Y X i    the power sum
 --   psum-none       values that are zero sum to zero
 --   vandermonde     v power sums in a row that vanish, at distinct Xₖ that are not zero: every Yₖ is zero
@@ -13,6 +13,7 @@ use native.Mathlib.Omega.{arith}
 use Rattle.algebra.specs.Field.{Field}
 use Rattle.algebra.proofs.Ring.{ring, ⊙-comm, factor, sum-ne, mul-ne}
 use Rattle.algebra.specs.Series as Ser
+use Rattle.algebra.specs.Power.{pow}
 use Rattle.algebra.specs.Series.{Series, Operations, operations}
 use Rattle.algebra.proofs.Product.{tl-at}
 use Rattle.algebra.proofs.Roots.{Distinct, distinct-tl}
@@ -23,31 +24,27 @@ module _ (𝓕 : Field) where
   open Field 𝓕 using (Carrier as F, add as _⊕_, mul as _⊙_, nil as 𝟘, one as 𝟙)
   open Operations (operations 𝓕) using (tl)
 
-  unfoldable pub pow : F → ℕ → F
-  pow x zero = 𝟙
-  pow x (suc n) = x ⊙ pow x n
-
-  pub pow-zero : (x : F) → pow x 0 ≡ 𝟙
+  pub pow-zero : (x : F) → pow 𝓕 x 0 ≡ 𝟙
   unfolding pow
   pow-zero x = refl
 
-  pub pow-suc : (x : F) (n : ℕ) → pow x (suc n) ≡ x ⊙ pow x n
+  pub pow-suc : (x : F) (n : ℕ) → pow 𝓕 x (suc n) ≡ x ⊙ pow 𝓕 x n
   unfolding pow
   pow-suc x n = refl
 
-  pub pow-ne : (x : F) (n : ℕ) → x ≢ 𝟘 → pow x n ≢ 𝟘
+  pub pow-ne : (x : F) (n : ℕ) → x ≢ 𝟘 → pow 𝓕 x n ≢ 𝟘
   pow-ne x zero h = rw pow-zero (𝓕 .one-ne-nil)
-  pow-ne x (suc n) h = rw pow-suc (mul-ne 𝓕 x (pow x n) h (pow-ne x n h))
+  pow-ne x (suc n) h = rw pow-suc (mul-ne 𝓕 x (pow 𝓕 x n) h (pow-ne x n h))
 
   unfoldable pub psum : ℕ → Series 𝓕 → Series 𝓕 → ℕ → F
   psum zero Y X i = 𝟘
-  psum (suc v) Y X i = Y 0 ⊙ pow (X 0) i ⊕ psum v (tl Y) (tl X) i
+  psum (suc v) Y X i = Y 0 ⊙ pow 𝓕 (X 0) i ⊕ psum v (tl Y) (tl X) i
 
   pub psum-zero : (Y X : Series 𝓕) (i : ℕ) → psum 0 Y X i ≡ 𝟘
   unfolding psum
   psum-zero Y X i = refl
 
-  pub psum-suc : (v : ℕ) (Y X : Series 𝓕) (i : ℕ) → psum (suc v) Y X i ≡ Y 0 ⊙ pow (X 0) i ⊕ psum v (tl Y) (tl X) i
+  pub psum-suc : (v : ℕ) (Y X : Series 𝓕) (i : ℕ) → psum (suc v) Y X i ≡ Y 0 ⊙ pow 𝓕 (X 0) i ⊕ psum v (tl Y) (tl X) i
   unfolding psum
   psum-suc v Y X i = refl
 
@@ -91,6 +88,6 @@ module _ (𝓕 : Field) where
           (⊙-comm 𝓕 _ _ ∙ sym (less-at (X 0) (tl X) (tl Y) k) ∙ ih k l)
 
       at : ((k : ℕ) → k < v → tl Y k ≡ 𝟘) → (k : ℕ) → k < suc v → Y k ≡ 𝟘
-      at r zero l = factor 𝓕 (pow (X 0) a) (Y 0) (pow-ne (X 0) a (ne 0 l))
+      at r zero l = factor 𝓕 (pow 𝓕 (X 0) a) (Y 0) (pow-ne (X 0) a (ne 0 l))
           (sym (rw (psum-suc, psum-none v (tl Y) (tl X) a r) (simp ring)) ∙ h a (omega arith) (omega arith))
       at r (suc k) l = sym (tl-at 𝓕 Y k) ∙ r k (omega arith)

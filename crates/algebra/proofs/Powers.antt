@@ -15,7 +15,8 @@ use Rattle.algebra.specs.Series as Ser
 use Rattle.algebra.specs.Series.{Series, Operations, operations}
 use Rattle.algebra.proofs.Value.{ev, ev-zero, ev-suc}
 use Rattle.algebra.proofs.Roots.{Distinct}
-use Rattle.algebra.proofs.PowerSum.{pow, pow-zero, pow-suc, pow-ne, psum, psum-zero, psum-suc}
+use Rattle.algebra.specs.Power.{pow}
+use Rattle.algebra.proofs.PowerSum.{pow-zero, pow-suc, pow-ne, psum, psum-zero, psum-suc}
 use Rattle.algebra.proofs.Locator.{Inverses}
 
 module _ (𝓕 : Field) where
@@ -81,3 +82,8 @@ module _ (𝓕 : Field) where
       where
         same : pow 𝓕 a i ⊙ 𝟙 ≡ pow 𝓕 a (i + (j - i))
         same = let e : i + (j - i) ≡ j = omega arith in rw e (simp ring (sym (roots-at a i) ∙ q ∙ roots-at a j))
+
+  -- (aⁱ)ⁿ = (aⁿ)ⁱ
+  pub pow-times : (a : F) (i n : ℕ) → pow 𝓕 (pow 𝓕 a i) n ≡ pow 𝓕 (pow 𝓕 a n) i
+  pow-times a i zero = rw (pow-zero 𝓕 (pow 𝓕 a i), pow-zero 𝓕 a) (sym (pow-one i))
+  pow-times a i (suc n) = rw (pow-suc 𝓕 (pow 𝓕 a i) n, pow-suc 𝓕 a n, pow-mul, pow-times a i n)

@@ -117,10 +117,10 @@ module _ (𝓕 : Field) where
     abbrev turned : Series 𝓕
     turned = sh p ⊞ monomial 𝓕 (suc d) a ⊞ (p d ⊕ a) ⊡ g
 
-    turned-at : (k : ℕ) → turned k ≡ sh p k ⊕ monomial 𝓕 (suc d) a k ⊕ (p d ⊕ a) ⊙ g k
+    pub turned-at : (k : ℕ) → turned k ≡ sh p k ⊕ monomial 𝓕 (suc d) a k ⊕ (p d ⊕ a) ⊙ g k
     turned-at k = rw (⊞-at, ⊞-at, ⊡-at)
 
-    turned-small : Below 𝓕 (suc d) turned
+    pub turned-small : Below 𝓕 (suc d) turned
     turned-small zero l = absurd (omega arith)
     turned-small (suc k) l = turned-at (suc k) ∙ (rw sh-suc (go (decLe (suc d) k)))
       where

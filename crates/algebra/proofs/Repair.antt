@@ -18,7 +18,8 @@ use Rattle.algebra.proofs.Ring.{ring, 𝟘-⊙, 𝟙-⊙}
 use Rattle.algebra.proofs.Product.{⊛-local, tl-at}
 use Rattle.algebra.proofs.Value.{ev}
 use Rattle.algebra.proofs.Roots.{Distinct}
-use Rattle.algebra.proofs.PowerSum.{pow, pow-zero, pow-suc, psum, psum-zero, psum-suc}
+use Rattle.algebra.specs.Power.{pow}
+use Rattle.algebra.proofs.PowerSum.{pow-zero, pow-suc, psum, psum-zero, psum-suc}
 use Rattle.algebra.proofs.Locator.{Inverses, synd, synd-at, loc, loc-one, below-loc, ev-loc, prod, prod-root, loc-annihilates, link-ne, locator-unique}
 use Rattle.algebra.proofs.Berlekamp.{State, bm-finds}
 use Rattle.algebra.proofs.Forney.{skip, prod-ne, forney-sound}

@@ -17,7 +17,8 @@ use Rattle.algebra.proofs.Ring.{ring}
 use Rattle.algebra.specs.Series as Ser
 use Rattle.algebra.specs.Series.{Series, Operations, operations}
 use Rattle.algebra.proofs.Product.{tl-at}
-use Rattle.algebra.proofs.PowerSum.{pow, psum, psum-zero, psum-suc}
+use Rattle.algebra.specs.Power.{pow}
+use Rattle.algebra.proofs.PowerSum.{psum, psum-zero, psum-suc}
 
 module _ (𝓕 : Field) where
   infixl 60 _⊕_

@@ -1,3 +1,4 @@
 pub mod Field
 pub mod Series
 pub mod Polynomial
+pub mod Power

@@ -9,16 +9,18 @@
 --   written-part      what stands where s was written is s
 --   written-before    what stands before it, and behind it, is as it was
 --   written-behind
+--   written-both      one part written right behind another is both written together
+--   written-two       .. from the front
 --
 -- Assumes nothing.
-use mathlib.Core.Path.{_≡_, refl, sym, ap, _∙_}
+use mathlib.Core.Path.{_≡_, refl, sym, ap, ap₂, _∙_}
 use mathlib.Core.Logic.{_⊎_, ⊎-elim}
 use mathlib.Core.List.{List, [], _++_, append-assoc, append-nil}
 use Prim.Native.Nat.{ℕ, _+_, _-_, _≤_, _<_}
-use native.Mathlib.Nat.{add-zero}
+use native.Mathlib.Nat.{add-zero, zero-add}
 use native.Mathlib.Omega.{arith}
 use lib.ListN.{length, getD, take, drop, length-append, length-drop, take-append-drop, List·getD-append}
-use lib.Seq.{paste, take-length, length-take-le, getD-append-add, getD-take, getD-drop, take-at, drop-at}
+use lib.Seq.{paste, take-length, length-take-le, getD-append-add, getD-take, getD-drop, take-at, drop-at, drop-drop}
 
 module _ {A : Type 0} where
   abbrev pub written : List A → ℕ → List A → List A
@@ -73,3 +75,18 @@ module _ {A : Type 0} where
 
     pub written-behind : drop (at + length s) (written d at s) ≡ drop (at + length s) d
     written-behind = drop-at (take at d ++ s) (drop (at + length s) d) (at + length s) both-length
+
+    written-front : take (at + length s) (written d at s) ≡ take at d ++ s
+    written-front = take-at (take at d ++ s) (drop (at + length s) d) (at + length s) both-length
+
+  pub written-both : (d : List A) (at : ℕ) (a b : List A) → at + length a + length b ≤ length d
+      → written (written d at a) (at + length a) b ≡ written d at (a ++ b)
+  written-both d at a b fits =
+      let long : at + length a + length b ≡ at + length (a ++ b) = rw length-append (omega arith) in
+      ap₂ (λ (x y : List A). x ++ b ++ y) (written-front d at a (omega arith))
+      (sym (drop-drop (length b) (at + length a) (written d at a)) ∙ ap (drop (length b)) (written-behind d at a (omega arith)) ∙ drop-drop (length b) (at + length a) d)
+      ∙ ap₂ (λ (x : List A) (n : ℕ). x ++ drop n d) (append-assoc (take at d) a b) long
+
+  pub written-two : (d a b : List A) → length a + length b ≤ length d → written (written d 0 a) (length a) b ≡ written d 0 (a ++ b)
+  written-two d a b fits =
+      ap (λ (n : ℕ). written (written d 0 a) n b) (sym (zero-add (length a))) ∙ written-both d 0 a b (omega arith)

@@ -1,0 +1,123 @@
+-- Encoding: the message with its parity is the one code word that begins with the message.
+--
+--   parity-codeWord      message and parity are a code word
+--   codeWord-parity      and in a code word that begins with the message the rest is its parity
+--   parity-unique        which is the only one
+--   encoded-unique       any two answers that encoding's promise allows are equal, what is left in the lent octets included
+--   encodes-empty, encodes-long, encodes-short    what does not fit
+--   encoded-not, encoded-done                     the two cases of the promise
+--
+-- Assumes nothing.
+use mathlib.Core.Path.{_≡_, refl, sym, ap, _∙_, subst}
+use mathlib.Core.Bool.{Bool, true, false, _&&_}
+use mathlib.Core.List.{List, [], _∷_, _++_}
+use Prim.Native.Nat.{ℕ, zero, suc, _+_, _*_, _≤_, _<_}
+use native.Mathlib.Omega.{arith}
+use borrow.Author.Tests.{le-ltb, lt-ltb, lt-leb, le-leb}
+use lib.Dec.{leb, ltb}
+use lib.ListN.{length, take}
+use lib.Seq.{length-take-le}
+use Rattle.octets.specs.Written.{written}
+use Rattle.algebra.specs.Polynomial.{polynomial, raised}
+use Rattle.algebra.proofs.Roots.{below-rooted, rooted-top}
+use Rattle.algebra.proofs.Remainder.{remainder-unique}
+use Rattle.algebra.proofs.Polynomial.{polynomial-append, polynomial-same}
+use Rattle.codeword.specs.Element.{elements}
+use Rattle.codeword.specs.CodeWord.{generator, word, Octets, CodeWord}
+use Rattle.codeword.specs.Encoding.{Parity, encodes, Done, Left, either, Encoded}
+use Rattle.codeword.specs.Register.{RegisterIs}
+use Rattle.codeword.proofs.Word.{word-length, word-append, word-same, below-word}
+
+-- ---- octets of lists put together
+
+pub octets-append : (u p : List ℕ) → Octets u → Octets p → Octets (u ++ p)
+octets-append [] p hu hp i = hp i
+octets-append (a ∷ u) p hu hp zero = hu 0
+octets-append (a ∷ u) p hu hp (suc i) = octets-append u p (λ j. hu (suc j)) hp i
+
+pub octets-left : (u p : List ℕ) → Octets (u ++ p) → Octets u
+octets-left [] p h i = omega arith
+octets-left (a ∷ u) p h zero = h 0
+octets-left (a ∷ u) p h (suc i) = octets-left u p (λ j. h (suc j)) i
+
+pub octets-right : (u p : List ℕ) → Octets (u ++ p) → Octets p
+octets-right [] p h = h
+octets-right (a ∷ u) p h = octets-right u p (λ j. h (suc j))
+
+pub octets-take : (m : ℕ) (p : List ℕ) → Octets p → Octets (take m p)
+octets-take zero p h i = omega arith
+octets-take (suc m) [] h i = omega arith
+octets-take (suc m) (a ∷ p) h zero = h 0
+octets-take (suc m) (a ∷ p) h (suc i) = octets-take m p (λ j. h (suc j)) i
+
+-- ---- the code word
+
+whole : (e : ℕ) (u p : List ℕ) → length p ≡ 2 * e
+    → polynomial elements (word (u ++ p)) ≡ Rattle.algebra.specs.Series._⊞_ elements (raised elements (2 * e) (polynomial elements (word u))) (polynomial elements (word p))
+whole e u p l =
+    ap (polynomial elements) (word-append u p) ∙ polynomial-append elements (word u) (word p)
+    ∙ (rw (word-length p, l))
+
+pub parity-codeWord : (e : ℕ) (u p : List ℕ) → Octets u → Parity e u p → CodeWord e (u ++ p)
+parity-codeWord e u p o r = record { octets = octets-append u p o (r .octets); divided = rw (whole e u p (r .long)) (r .remainder .divides) }
+
+pub codeWord-parity : (e : ℕ) (u p : List ℕ) → length p ≡ 2 * e → CodeWord e (u ++ p) → Parity e u p
+codeWord-parity e u p l c = record {
+  long = l;
+  octets = octets-right u p (c .octets);
+  remainder = record { small = rw l at (below-word p); divides = rw (whole e u p l) at (c .divided) };
+}
+
+pub parity-unique : (e : ℕ) (u p q : List ℕ) → Parity e u p → Parity e u q → p ≡ q
+unfolding generator
+parity-unique e u p q hp hq =
+    word-same p q (hp .octets) (hq .octets)
+    (polynomial-same elements (word p) (word q) (word-length p ∙ hp .long ∙ sym (hq .long) ∙ sym (word-length q))
+    (remainder-unique elements (2 * e) (generator e) _ _ _ (below-rooted elements (2 * e) _) (rooted-top elements (2 * e) _) (hp .remainder) (hq .remainder)))
+
+-- ---- what the function answers
+
+pub register-parity : (e : ℕ) (u p : List ℕ) → 2 * e ≤ length p → RegisterIs (2 * e) u p → Parity e u (take (2 * e) p)
+unfolding generator
+register-parity e u p l r = record { long = length-take-le (2 * e) p l; octets = octets-take (2 * e) p (r .octets); remainder = r .remainder }
+
+and-first : (a b c : Bool) → a ≡ false → a && b && c ≡ false
+and-first a b c e = rw e
+
+and-second : (a b c : Bool) → b ≡ false → a && b && c ≡ false
+and-second true b c e = rw e
+and-second false b c e = refl
+
+and-third : (a b c : Bool) → c ≡ false → a && b && c ≡ false
+and-third true true c e = e
+and-third true false c e = refl
+and-third false b c e = refl
+
+pub encodes-empty : (k e room : ℕ) → k ≡ 0 → encodes k e room ≡ false
+encodes-empty k e room h = and-first (ltb 0 k) _ _ (le-ltb 0 k (omega arith))
+
+pub encodes-long : (k e room : ℕ) → 255 < k + 2 * e → encodes k e room ≡ false
+encodes-long k e room h = and-second (ltb 0 k) _ _ (lt-leb (k + 2 * e) 255 h)
+
+pub encodes-short : (k e room : ℕ) → room < k + 2 * e → encodes k e room ≡ false
+encodes-short k e room h = and-third (ltb 0 k) (leb (k + 2 * e) 255) _ (lt-leb (k + 2 * e) room h)
+
+pub encoded-unique : (e : ℕ) (u before : List ℕ) (n m : ℕ) (after left : List ℕ)
+    → Encoded e u before n after → Encoded e u before m left → (n ≡ m) × (after ≡ left)
+encoded-unique e u before n m after left = go (encodes (length u) e (length before))
+  where
+    go : (b : Bool) → either b (Done e u before n after) (Left n before after) → either b (Done e u before m left) (Left m before left) → (n ≡ m) × (after ≡ left)
+    go true p q =
+        (p .count ∙ sym (q .count), p .written-is ∙ ap (λ (x : List ℕ). written before 0 (u ++ x)) (parity-unique e u _ _ (p .right) (q .right)) ∙ sym (q .written-is))
+    go false p q = (p .count ∙ sym (q .count), p .same ∙ sym (q .same))
+
+pub encoded-not : (e : ℕ) (u before : List ℕ) → encodes (length u) e (length before) ≡ false → Encoded e u before 0 before
+encoded-not e u before h = subst (λ (b : Bool). either b (Done e u before 0 before) (Left 0 before before)) (sym h) (record { count = refl; same = refl })
+
+pub encoded-done : (e n : ℕ) (u before p after : List ℕ) → 0 < length u → length u + 2 * e ≤ 255 → length u + 2 * e ≤ length before
+    → Parity e u p → n ≡ length u + 2 * e → after ≡ written before 0 (u ++ p) → Encoded e u before n after
+encoded-done e n u before p after some all room r c w =
+    subst (λ (b : Bool). either b (Done e u before n after) (Left n before after)) (sym fits) (record { parity = p; right = r; count = c; written-is = w })
+  where
+    fits : encodes (length u) e (length before) ≡ true
+    fits = rw (lt-ltb 0 (length u) some, le-leb (length u + 2 * e) 255 all, le-leb (length u + 2 * e) (length before) room)

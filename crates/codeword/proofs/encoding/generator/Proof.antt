@@ -1,0 +1,101 @@
+-- The coefficients above place j are right; the next is the one above it times a ratio. Assumes nothing.
+use mathlib.Core.Path.{_≡_, refl}
+use Prim.Native.Nat.{_+_, _-_, _≤_}
+use native.Mathlib.Omega.{arith}
+use borrow.Author.Needs.{needs}
+use Rattle.field.specs.Octet as Octet
+use Rattle.codeword.proofs.Zeros.{zeros, octets-zeros}
+use Rattle.codeword.proofs.Register.{GeneratorTo, generator-start, generator-next, generator-done}
+use Rattle.codeword.proofs.encoding.generator.Statement.{statement}
+use Rattle.codeword.proofs.encoding.generator.Tie as tie
+
+abbrev Inv-loop : tie.InvT-loop
+Inv-loop m g₀ last j₀ g j = (1 ≤ j) × (j ≤ m + 1) × GeneratorTo m j g × (last ≡ Octet.power Octet.α m)
+
+abbrev μ-loop : tie.MeasureT-loop
+μ-loop m g₀ last j₀ g j = m + 1 - j
+
+array-write-g : tie.Need-array-write-g Inv-loop μ-loop
+array-write-g c = search needs
+
+power-requires : tie.Need-power-requires Inv-loop μ-loop
+power-requires c κs = search needs
+
+loop-holds : tie.Need-loop-holds Inv-loop μ-loop
+loop-holds c = (search needs, search needs, generator-start (c .before .args .m) (zeros 255) refl (octets-zeros 255), search needs)
+
+add-power : tie.Need-add-power Inv-loop μ-loop
+add-power c = search needs
+
+power-requires-2 : tie.Need-power-requires-2 Inv-loop μ-loop
+power-requires-2 c κs = search needs
+
+sum-requires : tie.Need-sum-requires Inv-loop μ-loop
+sum-requires c κs = search needs
+
+product-requires : tie.Need-product-requires Inv-loop μ-loop
+product-requires c κs = search needs
+
+power-requires-3 : tie.Need-power-requires-3 Inv-loop μ-loop
+power-requires-3 c κs = search needs
+
+sum-requires-2 : tie.Need-sum-requires-2 Inv-loop μ-loop
+sum-requires-2 c κs = search needs
+
+inverse-requires : tie.Need-inverse-requires Inv-loop μ-loop
+inverse-requires c κs = search needs
+
+product-requires-2 : tie.Need-product-requires-2 Inv-loop μ-loop
+product-requires-2 c κs = search needs
+
+sub-product : tie.Need-sub-product Inv-loop μ-loop
+sub-product c = search needs
+
+array-read-product : tie.Need-array-read-product Inv-loop μ-loop
+array-read-product c = search needs
+
+product-requires-3 : tie.Need-product-requires-3 Inv-loop μ-loop
+product-requires-3 c κs = search needs
+
+array-write-g-2 : tie.Need-array-write-g-2 Inv-loop μ-loop
+array-write-g-2 c = search needs
+
+add-j : tie.Need-add-j Inv-loop μ-loop
+add-j c = search needs
+
+loop-less : tie.Need-loop-less Inv-loop μ-loop
+loop-less c = search needs
+
+loop-again : tie.Need-loop-again Inv-loop μ-loop
+loop-again c =
+    let l = c .before .before .before .before .before .before .before .before .before .loop in
+    (search needs, search needs, generator-next _ (l .j) _ (l .g) (search needs) (search needs) (search needs) (l .inv .2) (cc), search needs)
+
+returns : tie.Need-returns Inv-loop μ-loop
+returns c = generator-done _ (c .before .loop .j) _ (omega arith) (c .before .loop .inv .2)
+
+pub generator-spec : {M : Type 1} → statement M
+generator-spec =
+    tie.close
+    (tie.spec
+    Inv-loop
+    μ-loop
+    array-write-g
+    power-requires
+    loop-holds
+    add-power
+    power-requires-2
+    sum-requires
+    product-requires
+    power-requires-3
+    sum-requires-2
+    inverse-requires
+    product-requires-2
+    sub-product
+    array-read-product
+    product-requires-3
+    array-write-g-2
+    add-j
+    loop-less
+    loop-again
+    returns)

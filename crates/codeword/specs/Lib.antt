@@ -1,0 +1,5 @@
+pub mod Element
+pub mod CodeWord
+pub mod Encoding
+pub mod Register
+pub mod Repair
