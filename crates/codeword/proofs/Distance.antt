@@ -30,8 +30,9 @@ use Rattle.algebra.proofs.Distance.{psum-⊞, light-is-none}
 use Rattle.codeword.specs.Element.{elements, element, octet, α}
 use Rattle.codeword.specs.Element.Laws.{octet-element}
 use Rattle.codeword.specs.CodeWord.{Octets, CodeWord, differs, distance, Within}
-use Rattle.codeword.proofs.Word.{places, places-at, places-tl, locators, locators-distinct, locators-inverse, value, value-places}
-use Rattle.codeword.proofs.Syndromes.{codeWord-zero}
+use Rattle.codeword.specs.Places.{places, locators, value}
+use Rattle.codeword.proofs.Word.{places-at, places-tl, locators-distinct, locators-inverse, value-places}
+use Rattle.codeword.proofs.Criterion.{codeWord-zero}
 
 infixl 60 _⊕_
 infixl 60 _⊞_

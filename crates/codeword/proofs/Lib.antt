@@ -1,6 +1,7 @@
 pub mod Zeros
 pub mod Word
-pub mod Syndromes
+pub mod Criterion
+pub mod Absorbing
 pub mod Distance
 pub mod Register
 pub mod Parity

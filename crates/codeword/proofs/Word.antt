@@ -2,12 +2,9 @@
 --
 --   word-length, word-at, word-append     the octets as elements
 --   word-same                             two words of octets with the same elements are equal
---   places w                              the series whose coefficient at p is the element at place p
---   locators n                            the locator of place p of n: α to the n - 1 - p
---   inverses n                            its inverse
+--   places-at, places-tl, inverses-at     the series of specs/Places.antt
 --   locators-distinct, locators-inverse   for n up to 255
---   value w x                             the value at x of the polynomial of w
---   value-none, value-snoc                by Horner's rule, an octet at a time
+--   value-none, value-cons, value-snoc    the value of a word's polynomial, an octet at a time
 --   value-places                          at αⁱ it is the power sum of the places' elements and locators
 --
 -- Assumes nothing.
@@ -33,6 +30,7 @@ use Rattle.field.specs.Octet.Laws.{powers-distinct, alpha-around}
 use Rattle.codeword.specs.Element.{elements, element, octet, α}
 use Rattle.codeword.specs.Element.Laws.{octet-element, octet-same, octet-pow, octet-one, element-zero}
 use Rattle.codeword.specs.CodeWord.{word, Octets}
+use Rattle.codeword.specs.Places.{places, locators, inverses, value}
 
 infixl 60 _⊕_
 infixl 70 _⊙_
@@ -64,18 +62,9 @@ word-same v w hv hw e =
 
 -- ---- places and locators
 
-pub places : List ℕ → Series elements
-places w p = getD (word w) p 𝟘
-
 pub places-at : (w : List ℕ) (p : ℕ) → places w p ≡ element (getD w p 0)
 unfolding places
 places-at w p = word-at w p
-
-pub locators : ℕ → Series elements
-locators n p = pow elements α (n - suc p)
-
-pub inverses : ℕ → Series elements
-inverses n p = pow elements α (255 - (n - suc p))
 
 pub inverses-at : (n p : ℕ) → inverses n p ≡ pow elements α (255 - (n - suc p))
 unfolding inverses
@@ -98,9 +87,6 @@ locators-distinct n h i j l m e =
     omega arith
 
 -- ---- the value of a word's polynomial
-
-unfoldable pub value : List ℕ → F → F
-value w x = ev elements (length w) (polynomial elements (word w)) x
 
 pub value-none : (x : F) → value [] x ≡ 𝟘
 unfolding value word

@@ -3,3 +3,7 @@ pub mod CodeWord
 pub mod Encoding
 pub mod Register
 pub mod Repair
+pub mod Places
+pub mod Syndromes
+pub mod Locator
+pub mod Values

@@ -17,7 +17,8 @@ use Rattle.field.specs.Octet.Laws.{powers-distinct}
 use Rattle.codeword.specs.Element.{elements, octet, α}
 use Rattle.codeword.specs.Element.Laws.{octet-pow}
 use Rattle.codeword.specs.CodeWord.{generator, word, Octets, CodeWord}
-use Rattle.codeword.proofs.Word.{below-word, value}
+use Rattle.codeword.specs.Places.{value}
+use Rattle.codeword.proofs.Word.{below-word}
 
 rising-distinct : (m : ℕ) → m < 255 → Distinct elements m (rising elements α)
 unfolding rising

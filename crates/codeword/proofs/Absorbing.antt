@@ -1,0 +1,133 @@
+-- The syndromes of a word, an octet after another.
+--
+--   roots-start, roots-next          α, α², .., one after another
+--   absorbed-start, absorbed-next    one syndrome after another
+--   syndromes-start, syndromes-next  one octet of the word after another
+--   allZero-all, allZero-not         all of them zero, or not
+--   zero-syndromes                   a word whose syndromes are all zero is a code word
+--
+-- Assumes nothing.
+use mathlib.Core.Path.{_≡_, refl, sym, ap, ap₂, _∙_}
+use mathlib.Core.Logic.{_≢_}
+use mathlib.Core.Bool.{Bool, true, false, cond}
+use mathlib.Core.List.{List, [], _∷_, _++_}
+use Prim.Native.Nat.{ℕ, zero, suc, _+_, _*_, _≤_, _<_}
+use native.Mathlib.Numerals.{add-one}
+use native.Mathlib.Omega.{arith}
+use native.Mathlib.Decide.{ℕ-discrete}
+use borrow.Author.Tests.{eqb-true, eq-eqb}
+use lib.Dec.{eqb}
+use lib.ListN.{length, getD, set, take, length-set}
+use lib.Seq.{getD-set-same, getD-set-other, take-suc}
+use Rattle.algebra.specs.Field.{Field}
+use Rattle.algebra.specs.Power.{pow}
+use Rattle.algebra.proofs.Ring.{ring}
+use Rattle.field.specs.Octet as Octet
+use Rattle.field.specs.Octet.Laws.{sum-octet, product-octet, power-octet}
+use Rattle.codeword.specs.Element.{elements, element, octet, α}
+use Rattle.codeword.specs.Element.Laws.{octet-lt, octet-element, element-sum, element-product, element-power, element-zero}
+use Rattle.codeword.specs.CodeWord.{Octets, CodeWord}
+use Rattle.codeword.specs.Places.{value}
+use Rattle.codeword.specs.Syndromes.{RootsAre, Absorbed, SyndromesAre, allZero}
+use Rattle.codeword.proofs.Zeros.{zeros, zeros-at, octets-zeros, octets-set}
+use Rattle.codeword.proofs.Word.{value-none, value-snoc}
+use Rattle.codeword.proofs.Criterion.{zero-codeWord}
+
+infixl 60 _⊕_
+infixl 70 _⊙_
+open Field elements using (Carrier as F, add as _⊕_, mul as _⊙_, nil as 𝟘)
+
+-- ---- the points
+
+pub roots-start : RootsAre 0 (zeros 255)
+roots-start = record { long = refl; octets = octets-zeros 255; used = λ i l. absurd (omega arith) }
+
+pub roots-next : (i v : ℕ) (x : List ℕ) → i < 255 → RootsAre i x → v ≡ Octet.power Octet.α (i + 1) → RootsAre (i + 1) (set x i v)
+roots-next i v x h r e = record {
+  long = length-set x i v ∙ r .long;
+  octets = octets-set x i v (rw e (power-octet _ _)) (r .octets);
+  used = λ j l. go j l (ℕ-discrete j i);
+}
+  where
+    go : (j : ℕ) → j < i + 1 → Dec (j ≡ i) → element (getD (set x i v) j 0) ≡ pow elements α (suc j)
+    go j l (yes p) = rw (p, getD-set-same x i v 0 (omega (arith, r .long)), e, ← add-one i) (element-power (i + 1))
+    go j l (no n) = rw (getD-set-other x i j v 0 n) (r .used j (omega arith))
+
+-- ---- one octet into all syndromes
+
+pub absorbed-start : (a : ℕ) (x s : List ℕ) → Absorbed 0 a x s s
+absorbed-start a x s = record { long = refl; used = λ i l. absurd (omega arith); unused = λ i l. refl }
+
+pub absorbed-next : (a i v : ℕ) (x s t : List ℕ) → Absorbed i a x s t → i < length s
+    → v ≡ Octet.sum (Octet.product (getD x i 0) (getD t i 0)) a → Absorbed (i + 1) a x s (set t i v)
+absorbed-next a i v x s t h l e = record {
+  long = length-set t i v ∙ h .long;
+  used = λ j m. go j m (ℕ-discrete j i);
+  unused = λ j m. getD-set-other t i j v 0 (omega arith) ∙ h .unused j (omega arith);
+}
+  where
+    go : (j : ℕ) → j < i + 1 → Dec (j ≡ i) → getD (set t i v) j 0 ≡ Octet.sum (Octet.product (getD x j 0) (getD s j 0)) a
+    go j m (yes p) =
+        rw p (getD-set-same t i v 0 (omega (arith, h .long)) ∙ e ∙ ap (λ (y : ℕ). Octet.sum (Octet.product (getD x i 0) y) a) (h .unused i (omega arith)))
+    go j m (no n) = getD-set-other t i j v 0 n ∙ h .used j (omega arith)
+
+-- ---- one octet of the word more
+
+pub syndromes-start : (m : ℕ) → SyndromesAre m [] (zeros 255)
+syndromes-start m = record {
+  long = refl;
+  octets = octets-zeros 255;
+  used = λ i l. ap element (zeros-at 255 i) ∙ element-zero ∙ sym (value-none _);
+  unused = λ i l. zeros-at 255 i;
+}
+
+pub syndromes-next : (m i a : ℕ) (w x s t : List ℕ) → RootsAre m x → i < length w → a ≡ getD w i 0 → a < 256
+    → SyndromesAre m (take i w) s → Absorbed m a x s t → SyndromesAre m (take (i + 1) w) t
+syndromes-next m i a w x s t rx l e a< h ab = record {
+  long = ab .long ∙ h .long;
+  octets = λ j. octets-at j (native.Mathlib.Decide.decLe m j);
+  used = λ j k.
+      ap element (ab .used j k) ∙ element-sum _ _ (product-octet _ _) a<
+      ∙ ap (λ (y : F). y ⊕ element a) (element-product _ _ (rx .octets j) (h .octets j) ∙ ap₂ (λ (y z : F). y ⊙ z) (rx .used j k) (h .used j k))
+      ∙ sym (ap (λ (v : List ℕ). value v (pow elements α (suc j))) longer ∙ value-snoc (take i w) a (pow elements α (suc j)));
+  unused = λ j k. ab .unused j k ∙ h .unused j k;
+}
+  where
+    longer : take (i + 1) w ≡ take i w ++ a ∷ []
+    longer = rw (add-one, e) (take-suc w i 0 l)
+
+    octets-at : (j : ℕ) → Dec (m ≤ j) → getD t j 0 < 256
+    octets-at j (yes k) = rw (ab .unused j k) (h .octets j)
+    octets-at j (no k) = rw (ab .used j (omega arith)) (sum-octet _ _ (product-octet _ _) a<)
+
+-- ---- all of them zero
+
+pub allZero-all : (m : ℕ) (s : List ℕ) → allZero m s ≡ true → (i : ℕ) → i < m → getD s i 0 ≡ 0
+unfolding allZero
+allZero-all zero s e i l = absurd (omega arith)
+allZero-all (suc m) s e i l = go (eqb (getD s m 0) 0) refl e (allZero-all m s) (ℕ-discrete i m)
+  where
+    go : (b : Bool) → eqb (getD s m 0) 0 ≡ b → cond b (allZero m s) false ≡ true → (allZero m s ≡ true → (i : ℕ) → i < m → getD s i 0 ≡ 0)
+        → Dec (i ≡ m) → getD s i 0 ≡ 0
+    go true t e ih (yes p) = rw p (eqb-true _ _ t)
+    go true t e ih (no n) = ih e i (omega arith)
+    go false t e ih d = let z : _≡_ {A = ℕ} 0 1 = cc in absurd (omega arith)
+
+pub allZero-none : (s : List ℕ) → allZero 0 s ≡ true
+unfolding allZero
+allZero-none s = refl
+
+pub allZero-more : (i : ℕ) (s : List ℕ) → allZero i s ≡ true → getD s i 0 ≡ 0 → allZero (i + 1) s ≡ true
+unfolding allZero
+allZero-more i s h e = rw (add-one i, eq-eqb (getD s i 0) 0 e) h
+
+pub allZero-not : (m i : ℕ) (s : List ℕ) → i < m → (getD s i 0 ≡ 0 → ⊥) → allZero m s ≡ false
+allZero-not m i s l n = go (allZero m s) refl
+  where
+    go : (b : Bool) → allZero m s ≡ b → allZero m s ≡ false
+    go true e = absurd (n (allZero-all m s e i l))
+    go false e = e
+
+pub zero-syndromes : (e : ℕ) (w s : List ℕ) → 2 * e < 255 → Octets w → SyndromesAre (2 * e) w s → allZero (2 * e) s ≡ true → CodeWord e w
+zero-syndromes e w s h o sy z =
+    zero-codeWord e w h o (λ i l. sym (sy .used i l) ∙ ap element (allZero-all (2 * e) s z i l) ∙ element-zero)

@@ -1,0 +1,72 @@
+-- The syndromes are those of the octets that have been taken in. Assumes nothing.
+use borrow.Author.Needs.{needs}
+use mathlib.Core.Path.{_≡_, refl}
+use Prim.Native.Nat.{_+_, _-_, _≤_}
+use native.Mathlib.Omega.{arith}
+use lib.ListN.{length, take}
+use denote.Ref.{now}
+use lib.Seq.{take-length}
+use Rattle.codeword.proofs.Absorbing.{syndromes-start, syndromes-next}
+use Rattle.codeword.specs.Syndromes.{RootsAre, SyndromesAre}
+use Rattle.codeword.proofs.syndromes.syndromes.Statement.{statement}
+use Rattle.codeword.proofs.syndromes.syndromes.Tie as tie
+
+abbrev Inv-loop : tie.InvT-loop
+Inv-loop word m x s₀ i₀ s i = (i ≤ length word) × RootsAre m x × SyndromesAre m (take i word) s
+
+abbrev μ-loop : tie.MeasureT-loop
+μ-loop word m x s₀ i₀ s i = length word - i
+
+roots-requires : tie.Need-roots-requires Inv-loop μ-loop
+roots-requires c κs = search needs
+
+loop-holds : tie.Need-loop-holds Inv-loop μ-loop
+loop-holds c = (search needs, search needs, syndromes-start _)
+
+slice-aggregate-absorb : tie.Need-slice-aggregate-absorb Inv-loop μ-loop
+slice-aggregate-absorb c = search needs
+
+slice-aggregate-absorb-2 : tie.Need-slice-aggregate-absorb-2 Inv-loop μ-loop
+slice-aggregate-absorb-2 c = search needs
+
+shared-slice-read-absorb : tie.Need-shared-slice-read-absorb Inv-loop μ-loop
+shared-slice-read-absorb c = search needs
+
+absorb-requires : tie.Need-absorb-requires Inv-loop μ-loop
+absorb-requires c κs = search needs
+
+add-i : tie.Need-add-i Inv-loop μ-loop
+add-i c = search needs
+
+loop-less : tie.Need-loop-less Inv-loop μ-loop
+loop-less c = search needs
+
+loop-again : tie.Need-loop-again Inv-loop μ-loop
+loop-again c =
+    let l = c .before .before .before .before .before .before .loop in
+    let a = c .before .before .before .before .before .before .before .before .before .args in
+    (search needs, search needs, syndromes-next _ (l .i) _ (now (a .word)) _ (l .s) _ (l .inv .1) (search needs) refl (c .before .before .shared-slice-known2 .given (l .i) .fits) (l .inv .2) (c .before .absorb .ensures))
+
+returns : tie.Need-returns Inv-loop μ-loop
+returns c =
+    let l = c .before .loop in
+    let w = now (c .before .before .before .before .args .word) in
+    let e : l .i ≡ length w = omega arith in
+    rw (e, take-length w) at (l .inv .2)
+
+pub syndromes-spec : {M : Type 1} → statement M
+syndromes-spec =
+    tie.close
+    (tie.spec
+    Inv-loop
+    μ-loop
+    roots-requires
+    loop-holds
+    slice-aggregate-absorb
+    slice-aggregate-absorb-2
+    shared-slice-read-absorb
+    absorb-requires
+    add-i
+    loop-less
+    loop-again
+    returns)

@@ -1,0 +1,35 @@
+-- What the locator step answers.
+--
+--   Held s c b r l shift q    the state of Berlekamp and Massey's algorithm after r syndromes, as the code keeps it: the recurrence c
+--                             of length l; the recurrence b from before l last grew, shifted since by `shift`; q, what b failed by
+--   LocatorIs m s c l         c is the shortest recurrence for the first m of the syndromes s, and l its length
+--
+-- Assumes nothing.
+use mathlib.Core.Path.{_≡_}
+use mathlib.Core.List.{List}
+use Prim.Native.Nat.{ℕ, zero, suc, _≤_, _<_}
+use lib.ListN.{length, getD}
+use Rattle.algebra.specs.Field.{Field}
+use Rattle.algebra.specs.Series as Ser
+use Rattle.algebra.specs.Series.{Series}
+use Rattle.algebra.specs.Polynomial.{raised}
+use Rattle.algebra.proofs.Berlekamp.{State}
+use Rattle.codeword.specs.Element.{elements, element}
+use Rattle.codeword.specs.CodeWord.{Octets}
+use Rattle.codeword.specs.Places.{places}
+
+pub record Held (s c b : List ℕ) (r l shift q : ℕ) : Type 0 where
+  pub c-long : length c ≡ 255
+  pub b-long : length b ≡ 255
+  pub c-octets : Octets c
+  pub b-octets : Octets b
+  pub q-octet : q < 256
+  pub shift-small : shift ≤ suc r
+  pub state : State elements (places s) (places c) (raised elements shift (places b)) r l (element q)
+
+pub record LocatorIs (m : ℕ) (s c : List ℕ) (l : ℕ) : Type 0 where
+  pub long : length c ≡ 255
+  pub octets : Octets c
+  pub B : Series elements
+  pub q : elements .Carrier
+  pub state : State elements (places s) (places c) B m l q

@@ -1,0 +1,39 @@
+-- What the syndrome step answers.
+--
+--   SyndromesAre m w s    s₀, .., s₍ₘ₋₁₎ are the values of w's polynomial at α, .., αᵐ, and the rest is zero
+--   RootsAre m x          x₀, .., x₍ₘ₋₁₎ are α, .., αᵐ
+--   Absorbed m a x s t    one octet a of the word taken in: each s becomes x s + a
+--   allZero m s           s₀, .., s₍ₘ₋₁₎ are zero
+--
+-- Assumes nothing.
+use mathlib.Core.Path.{_≡_}
+use mathlib.Core.Bool.{Bool, true, false, cond}
+use mathlib.Core.List.{List}
+use Prim.Native.Nat.{ℕ, zero, suc, _≤_, _<_}
+use lib.Dec.{eqb}
+use lib.ListN.{length, getD}
+use Rattle.algebra.specs.Power.{pow}
+use Rattle.field.specs.Octet as Octet
+use Rattle.codeword.specs.Element.{elements, element, α}
+use Rattle.codeword.specs.CodeWord.{Octets}
+use Rattle.codeword.specs.Places.{value}
+
+pub record RootsAre (m : ℕ) (x : List ℕ) : Type 0 where
+  pub long : length x ≡ 255
+  pub octets : Octets x
+  pub used : (i : ℕ) → i < m → element (getD x i 0) ≡ pow elements α (suc i)
+
+pub record Absorbed (m a : ℕ) (x s t : List ℕ) : Type 0 where
+  pub long : length t ≡ length s
+  pub used : (i : ℕ) → i < m → getD t i 0 ≡ Octet.sum (Octet.product (getD x i 0) (getD s i 0)) a
+  pub unused : (i : ℕ) → m ≤ i → getD t i 0 ≡ getD s i 0
+
+pub record SyndromesAre (m : ℕ) (w s : List ℕ) : Type 0 where
+  pub long : length s ≡ 255
+  pub octets : Octets s
+  pub used : (i : ℕ) → i < m → element (getD s i 0) ≡ value w (pow elements α (suc i))
+  pub unused : (i : ℕ) → m ≤ i → getD s i 0 ≡ 0
+
+unfoldable pub allZero : ℕ → List ℕ → Bool
+allZero zero s = true
+allZero (suc m) s = cond (eqb (getD s m 0) 0) (allZero m s) false

@@ -1,0 +1,2 @@
+-- What the search for the roots and the step of the values answer.
+-- Assumes nothing.

@@ -1,0 +1,61 @@
+// Form the syndromes: the values of the word's polynomial at α, .., α^m, all in one pass over the word, by Horner's rule.
+ghost use mathlib.Core.Path.{_≡_};
+ghost use Prim.Native.Nat.{_<_, _≤_};
+ghost use lib.ListN.{length};
+ghost use Rattle.codeword.specs.Syndromes.{RootsAre, Absorbed, SyndromesAre, allZero};
+
+// α, .., α^m; zero where unused.
+fn roots(m: usize) -> [u8; 255]
+    requires { ⌜ m < 255 ⌝ }
+    ensures { λ r. ⌜ RootsAre m r ⌝ }
+{
+    let mut x = [0u8; 255];
+    let mut i = 0;
+    while i < m {
+        x[i] = field::power(i + 1);
+        i += 1;
+    }
+    x
+}
+
+// The octet a of the word taken into every syndrome.
+fn absorb(s: &mut [u8], x: &[u8], m: usize, a: u8)
+    requires { ⌜ (m ≤ length (now s)) × (m ≤ length (now x)) ⌝ }
+    ensures { λ _. ⌜ Absorbed m a (now (x .entry)) (now (s .entry)) (now (s .exit)) ⌝ }
+{
+    let mut i = 0;
+    while i < m {
+        s[i] = field::sum(field::product(x[i], s[i]), a);
+        i += 1;
+    }
+}
+
+// The m syndromes of a word; zero where unused.
+pub fn syndromes(word: &[u8], m: usize) -> [u8; 255]
+    requires { ⌜ m < 255 ⌝ }
+    ensures { λ r. ⌜ SyndromesAre m (now (word .entry)) r ⌝ }
+{
+    let x = roots(m);
+    let mut s = [0u8; 255];
+    let mut i = 0;
+    while i < word.len() {
+        absorb(&mut s, &x, m, word[i]);
+        i += 1;
+    }
+    s
+}
+
+// Whether the first m octets are zero: the word is a code word.
+pub fn clean(s: &[u8], m: usize) -> bool
+    requires { ⌜ m ≤ length (now s) ⌝ }
+    ensures { λ r. ⌜ r ≡ allZero m (now (s .entry)) ⌝ }
+{
+    let mut i = 0;
+    while i < m {
+        if s[i] != 0 {
+            return false;
+        }
+        i += 1;
+    }
+    true
+}
