@@ -6,3 +6,5 @@ pub mod Distance
 pub mod Register
 pub mod Parity
 pub mod Systematic
+pub mod Mending
+pub mod Stepping

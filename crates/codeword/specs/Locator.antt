@@ -2,6 +2,8 @@
 --
 --   Held s c b r l shift q    the state of Berlekamp and Massey's algorithm after r syndromes, as the code keeps it: the recurrence c
 --                             of length l; the recurrence b from before l last grew, shifted since by `shift`; q, what b failed by
+--   discrepancyOf c s r l     c₀ sᵣ + c₁ s₍ᵣ₋₁₎ + .. + cₗ s₍ᵣ₋ₗ₎
+--   Mended top q n c b d      d is c + q x^n b, for the coefficients below `top`; the rest is as in c
 --   LocatorIs m s c l         c is the shortest recurrence for the first m of the syndromes s, and l its length
 --
 -- Assumes nothing.
@@ -14,7 +16,8 @@ use Rattle.algebra.specs.Series as Ser
 use Rattle.algebra.specs.Series.{Series}
 use Rattle.algebra.specs.Polynomial.{raised}
 use Rattle.algebra.proofs.Berlekamp.{State}
-use Rattle.codeword.specs.Element.{elements, element}
+use Rattle.algebra.proofs.Loop.{dot}
+use Rattle.codeword.specs.Element.{elements, element, octet}
 use Rattle.codeword.specs.CodeWord.{Octets}
 use Rattle.codeword.specs.Places.{places}
 
@@ -26,6 +29,15 @@ pub record Held (s c b : List ℕ) (r l shift q : ℕ) : Type 0 where
   pub q-octet : q < 256
   pub shift-small : shift ≤ suc r
   pub state : State elements (places s) (places c) (raised elements shift (places b)) r l (element q)
+
+unfoldable pub discrepancyOf : List ℕ → List ℕ → ℕ → ℕ → ℕ
+discrepancyOf c s r l = octet (dot elements (places c) (places s) r (suc l))
+
+pub record Mended (top q n : ℕ) (c b d : List ℕ) : Type 0 where
+  pub long : length d ≡ length c
+  pub octets : Octets d
+  pub done : (k : ℕ) → k < top → places d k ≡ elements .add (places c k) (elements .mul (element q) (raised elements n (places b) k))
+  pub left : (k : ℕ) → top ≤ k → getD d k 0 ≡ getD c k 0
 
 pub record LocatorIs (m : ℕ) (s c : List ℕ) (l : ℕ) : Type 0 where
   pub long : length c ≡ 255

@@ -1,5 +1,6 @@
 // The code word of 003, D.4.1.7.3: encoding and repair.
 mod encoding;
+mod locator;
 mod syndromes;
 
 ghost use lib.ListN.{length};

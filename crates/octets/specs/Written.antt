@@ -11,6 +11,7 @@
 --   written-behind
 --   written-both      one part written right behind another is both written together
 --   written-two       .. from the front
+--   written-all       what is written over all of d is all that is left
 --
 -- Assumes nothing.
 use mathlib.Core.Path.{_≡_, refl, sym, ap, ap₂, _∙_}
@@ -19,7 +20,7 @@ use mathlib.Core.List.{List, [], _++_, append-assoc, append-nil}
 use Prim.Native.Nat.{ℕ, _+_, _-_, _≤_, _<_}
 use native.Mathlib.Nat.{add-zero, zero-add}
 use native.Mathlib.Omega.{arith}
-use lib.ListN.{length, getD, take, drop, length-append, length-drop, take-append-drop, List·getD-append}
+use lib.ListN.{length, getD, take, drop, length-append, length-drop, take-append-drop, drop-of-length-le, List·getD-append}
 use lib.Seq.{paste, take-length, length-take-le, getD-append-add, getD-take, getD-drop, take-at, drop-at, drop-drop}
 
 module _ {A : Type 0} where
@@ -90,3 +91,8 @@ module _ {A : Type 0} where
   pub written-two : (d a b : List A) → length a + length b ≤ length d → written (written d 0 a) (length a) b ≡ written d 0 (a ++ b)
   written-two d a b fits =
       ap (λ (n : ℕ). written (written d 0 a) n b) (sym (zero-add (length a))) ∙ written-both d 0 a b (omega arith)
+
+  pub written-all : (d s : List A) → length d ≡ length s → written d 0 s ≡ s
+  written-all d s e =
+      let all : length d ≤ 0 + length s = omega arith in
+      ap (λ (l : List A). s ++ l) (drop-of-length-le d all) ∙ append-nil s

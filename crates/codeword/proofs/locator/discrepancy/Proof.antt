@@ -1,0 +1,70 @@
+-- After j turns d is the sum of the first j terms. Assumes nothing.
+use borrow.Author.Needs.{needs}
+use mathlib.Core.Path.{_≡_, refl, sym, _∙_}
+use Prim.Native.Nat.{_+_, _-_, _≤_}
+use native.Mathlib.Omega.{arith}
+use denote.Ref.{now}
+use lib.ListN.{length}
+use Rattle.codeword.proofs.Mending.{discrepancy-to, discrepancy-start, discrepancy-next, discrepancy-is}
+use Rattle.codeword.proofs.locator.discrepancy.Statement.{statement}
+use Rattle.codeword.proofs.locator.discrepancy.Tie as tie
+
+abbrev Inv-loop : tie.InvT-loop
+Inv-loop c s r l d₀ j₀ d j = (j ≤ l + 1) × (d ≡ discrepancy-to c s r j)
+
+abbrev μ-loop : tie.MeasureT-loop
+μ-loop c s r l d₀ j₀ d j = l + 1 - j
+
+loop-holds : tie.Need-loop-holds Inv-loop μ-loop
+loop-holds c = (search needs, sym (discrepancy-start _ _ _))
+
+shared-slice-read-product : tie.Need-shared-slice-read-product Inv-loop μ-loop
+shared-slice-read-product c = search needs
+
+sub-product : tie.Need-sub-product Inv-loop μ-loop
+sub-product c = search needs
+
+shared-slice-read-product-2 : tie.Need-shared-slice-read-product-2 Inv-loop μ-loop
+shared-slice-read-product-2 c = search needs
+
+product-requires : tie.Need-product-requires Inv-loop μ-loop
+product-requires c κs = search needs
+
+sum-requires : tie.Need-sum-requires Inv-loop μ-loop
+sum-requires c κs = search needs
+
+add-j : tie.Need-add-j Inv-loop μ-loop
+add-j c = search needs
+
+loop-less : tie.Need-loop-less Inv-loop μ-loop
+loop-less c = search needs
+
+loop-again : tie.Need-loop-again Inv-loop μ-loop
+loop-again c =
+    let l = c .before .before .before .before .before .loop in
+    let a = c .before .before .before .before .before .before .before .before .args in
+    (
+      search needs,
+      c .sum .ensures ∙ (rw (c .before .product .ensures, l .inv .1) (sym (discrepancy-next _ _ _ (l .j)
+      (c .before .before .before .shared-slice-known3 .given (l .j) .fits) (c .before .before .shared-slice-known4 .given (a .r - l .j) .fits)))),
+    )
+
+returns : tie.Need-returns Inv-loop μ-loop
+returns c = c .before .loop .inv .1 ∙ discrepancy-is _ _ _ _ (c .before .loop .j) (omega arith)
+
+pub discrepancy-spec : {M : Type 1} → statement M
+discrepancy-spec =
+    tie.close
+    (tie.spec
+    Inv-loop
+    μ-loop
+    loop-holds
+    shared-slice-read-product
+    sub-product
+    shared-slice-read-product-2
+    product-requires
+    sum-requires
+    add-j
+    loop-less
+    loop-again
+    returns)

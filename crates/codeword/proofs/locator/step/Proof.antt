@@ -1,0 +1,117 @@
+-- The discrepancy decides which of the three steps of the theory this is. Assumes nothing.
+use borrow.Author.Needs.{needs}
+use mathlib.Core.Path.{_≡_, refl, sym, _∙_}
+use mathlib.Core.List.{List}
+use Prim.Native.Nat.{ℕ}
+use native.Mathlib.Omega.{arith}
+use lib.ListN.{length}
+use denote.Ref.{now}
+use Rattle.codeword.proofs.Stepping.{held-zero, held-keep, held-grow}
+use Rattle.codeword.proofs.Zeros.{zeros}
+use Rattle.octets.specs.Written.{written, written-all}
+use Rattle.codeword.proofs.locator.step.Statement.{statement}
+use Rattle.codeword.proofs.locator.step.Tie as tie
+
+discrepancy-requires : tie.Need-discrepancy-requires
+discrepancy-requires c κs = search needs
+
+add-t16 : tie.Need-add-t16
+add-t16 c = search needs
+
+same-length : tie.Need-same-length
+same-length c = search needs
+
+returns : tie.Need-returns
+returns c = held-zero _ _ _ _ _ _ _ _ (c .before .before .before .before .before .before .pre .3) (c .before .discrepancy .ensures) (c .if1 .taken)
+
+inverse-requires : tie.Need-inverse-requires
+inverse-requires c κs = search needs
+
+product-requires : tie.Need-product-requires
+product-requires c κs = search needs
+
+add-if2 : tie.Need-add-if2
+add-if2 c = search needs
+
+slice-aggregate-write : tie.Need-slice-aggregate-write
+slice-aggregate-write c = search needs
+
+write-requires : tie.Need-write-requires
+write-requires c κs = search needs
+
+mend-requires : tie.Need-mend-requires
+mend-requires c κs = search needs
+
+slice-aggregate-write-2 : tie.Need-slice-aggregate-write-2
+slice-aggregate-write-2 c = search needs
+
+write-requires-2 : tie.Need-write-requires-2
+write-requires-2 c κs = search needs
+
+add-t32 : tie.Need-add-t32
+add-t32 c = search needs
+
+sub-t33 : tie.Need-sub-t33
+sub-t33 c = search needs
+
+same-length-2 : tie.Need-same-length-2
+same-length-2 c = search needs
+
+same-length-3 : tie.Need-same-length-3
+same-length-3 c = search needs
+
+returns-2 : tie.Need-returns-2
+returns-2 c =
+    let a = c .before .before .before .before .before .before .before .before .before .before .before .before .before .before .before .before .before .before .before .before .before .before .before .args in
+    let h = c .before .before .before .before .before .before .before .before .before .before .before .before .before .before .before .before .before .before .before .before .before .before .before .pre .3 in
+    let n : length (now (a .c)) ≡ 255 = h .c-long in
+    let m : length (now (a .b)) ≡ 255 = h .b-long in
+    let old : c .before .before .before .before .before .before .before .before .before .before .before .write .last .0 ≡ now (a .c) = c .before .before .before .before .before .before .before .before .before .before .before .write .ensures ∙ written-all (zeros 255) (now (a .c)) (sym n) in
+    let kept : c .before .before .write2 .last .0 ≡ now (a .c) = c .before .before .write2 .ensures ∙ (rw old (written-all (now (a .b)) (now (a .c)) (m ∙ sym n))) in
+    rw kept (held-grow _ _ _ _ _ _ _ _ h (c .before .before .before .before .before .before .before .before .before .before .before .before .before .before .before .before .before .before .discrepancy .ensures) (a .top) _ (search needs)
+    (rw (c .before .before .before .before .before .before .before .before .before .before .before .before .before .before .before .product .ensures, c .before .before .before .before .before .before .before .before .before .before .before .before .before .before .before .before .inverse .ensures) at (c .before .before .before .before .before .before .before .mend .ensures)) (c .before .before .before .before .before .before .before .before .before .before .before .before .before .before .before .before .before .if1 .left) (c .before .before .before .before .before .before .before .before .before .before .before .before .before .before .if2 .taken))
+
+mend-requires-2 : tie.Need-mend-requires-2
+mend-requires-2 c κs = search needs
+
+add-t18 : tie.Need-add-t18
+add-t18 c = search needs
+
+same-length-4 : tie.Need-same-length-4
+same-length-4 c = search needs
+
+same-length-5 : tie.Need-same-length-5
+same-length-5 c = search needs
+
+returns-3 : tie.Need-returns-3
+returns-3 c =
+    let a = c .before .before .before .before .before .before .before .before .before .before .before .before .before .before .args in
+    held-keep _ _ _ _ _ _ _ _ (c .before .before .before .before .before .before .before .before .before .before .before .before .before .before .pre .3) (c .before .before .before .before .before .before .before .before .before .discrepancy .ensures) (a .top) _ (search needs)
+    (rw (c .before .before .before .before .before .before .product .ensures, c .before .before .before .before .before .before .before .inverse .ensures) at (c .before .before .mend2 .ensures)) (c .before .before .before .before .before .if2 .left)
+
+pub step-spec : {M : Type 1} → statement M
+step-spec =
+    tie.close
+    (tie.spec
+    discrepancy-requires
+    add-t16
+    same-length
+    returns
+    inverse-requires
+    product-requires
+    add-if2
+    slice-aggregate-write
+    write-requires
+    mend-requires
+    slice-aggregate-write-2
+    write-requires-2
+    add-t32
+    sub-t33
+    same-length-2
+    same-length-3
+    returns-2
+    mend-requires-2
+    add-t18
+    same-length-4
+    same-length-5
+    returns-3)

@@ -1,0 +1,107 @@
+// Find the error locator: the algorithm of Berlekamp and Massey, for the shortest recurrence that the syndromes obey.
+ghost use mathlib.Core.Path.{_≡_};
+ghost use Prim.Native.Nat.{suc, _+_, _<_, _≤_};
+ghost use lib.ListN.{length};
+ghost use Rattle.codeword.specs.Locator.{Held, Mended, LocatorIs, discrepancyOf};
+
+// What the loop keeps beside the recurrence c and the one from before its length last grew, b: the length of c, how far b is to be
+// shifted, and what b failed by.
+pub struct Progress {
+    pub long: usize,
+    pub shift: usize,
+    pub failed: u8,
+}
+
+// The shortest recurrence for the syndromes, from its constant coefficient on, zero where unused; and its length.
+pub struct Recurrence {
+    pub coefficients: [u8; 255],
+    pub degree: usize,
+}
+
+// c[0] s[r] + c[1] s[r - 1] + .. + c[l] s[r - l]: what the recurrence c of length l fails by at r.
+pub fn discrepancy(c: &[u8], s: &[u8], r: usize, l: usize) -> u8
+    requires { ⌜ (l ≤ r) × (r < length (now s)) × (l < length (now c)) ⌝ }
+    ensures { λ d. ⌜ d ≡ discrepancyOf (now (c .entry)) (now (s .entry)) r l ⌝ }
+{
+    let mut d: u8 = 0;
+    let mut j = 0;
+    while j <= l {
+        d = field::sum(d, field::product(c[j], s[r - j]));
+        j += 1;
+    }
+    d
+}
+
+// Adds q x^shift b to c, as far as the coefficients below top go.
+fn mend(c: &mut [u8], b: &[u8], q: u8, shift: usize, top: usize)
+    requires { ⌜ (shift ≤ top) × (top ≤ length (now c)) × (top ≤ length (now b)) ⌝ }
+    ensures { λ _. ⌜ Mended top q shift (now (c .entry)) (now (b .entry)) (now (c .exit)) ⌝ }
+{
+    let mut j = shift;
+    while j < top {
+        c[j] = field::sum(c[j], field::product(q, b[j - shift]));
+        j += 1;
+    }
+}
+
+// One step: the recurrence is made to hold at r too.
+fn step(s: &[u8], c: &mut [u8], b: &mut [u8], r: usize, top: usize, g: Progress) -> Progress
+    requires { ⌜ (r + 1 < top) × (top ≤ 255) × (length (now s) ≡ 255) × Held (now s) (now c) (now b) r (g .long) (g .shift) (g .failed) ⌝ }
+    ensures { λ o. ⌜ Held (now (s .entry)) (now (c .exit)) (now (b .exit)) (r + 1) (o .long) (o .shift) (o .failed) ⌝ }
+{
+    let l = g.long;
+    let shift = g.shift;
+    let failed = g.failed;
+    let d = discrepancy(c, s, r, l);
+    if d == 0 {
+        return Progress {
+            long: l,
+            shift: shift + 1,
+            failed,
+        };
+    }
+    let q = field::product(d, field::inverse(failed));
+    if l + l <= r {
+        let mut old = [0u8; 255];
+        octets::write(&mut old, 0, c);
+        mend(c, b, q, shift, top);
+        octets::write(b, 0, &old);
+        return Progress {
+            long: r + 1 - l,
+            shift: 1,
+            failed: d,
+        };
+    }
+    mend(c, b, q, shift, top);
+    Progress {
+        long: l,
+        shift: shift + 1,
+        failed,
+    }
+}
+
+// The shortest recurrence for the first m syndromes.
+pub fn locator(s: &[u8], m: usize) -> Recurrence
+    requires { ⌜ (m < 255) × (length (now s) ≡ 255) ⌝ }
+    ensures { λ r. ⌜ LocatorIs m (now (s .entry)) (r .coefficients) (r .degree) ⌝ }
+{
+    let mut c = [0u8; 255];
+    c[0] = 1;
+    let mut b = [0u8; 255];
+    b[0] = 1;
+    let mut g = Progress {
+        long: 0,
+        shift: 1,
+        failed: 1,
+    };
+    let mut r = 0;
+    while r < m {
+        g = step(s, &mut c, &mut b, r, m + 1, g);
+        r += 1;
+    }
+    let degree = g.long;
+    Recurrence {
+        coefficients: c,
+        degree,
+    }
+}
