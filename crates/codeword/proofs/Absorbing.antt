@@ -1,6 +1,6 @@
 -- The syndromes of a word, an octet after another.
 --
---   roots-start, roots-next          α, α², .., one after another
+--   points-start, points-next          α, α², .., one after another
 --   absorbed-start, absorbed-next    one syndrome after another
 --   syndromes-start, syndromes-next  one octet of the word after another
 --   allZero-all, allZero-not         all of them zero, or not
@@ -28,7 +28,7 @@ use Rattle.codeword.specs.Element.{elements, element, octet, α}
 use Rattle.codeword.specs.Element.Laws.{octet-lt, octet-element, element-sum, element-product, element-power, element-zero}
 use Rattle.codeword.specs.CodeWord.{Octets, CodeWord}
 use Rattle.codeword.specs.Places.{value}
-use Rattle.codeword.specs.Syndromes.{RootsAre, Absorbed, SyndromesAre, allZero}
+use Rattle.codeword.specs.Syndromes.{PointsAre, Absorbed, SyndromesAre, allZero}
 use Rattle.codeword.proofs.Zeros.{zeros, zeros-at, octets-zeros, octets-set}
 use Rattle.codeword.proofs.Word.{value-none, value-snoc}
 use Rattle.codeword.proofs.Criterion.{zero-codeWord}
@@ -39,11 +39,11 @@ open Field elements using (Carrier as F, add as _⊕_, mul as _⊙_, nil as 𝟘
 
 -- ---- the points
 
-pub roots-start : RootsAre 0 (zeros 255)
-roots-start = record { long = refl; octets = octets-zeros 255; used = λ i l. absurd (omega arith) }
+pub points-start : PointsAre 0 (zeros 255)
+points-start = record { long = refl; octets = octets-zeros 255; used = λ i l. absurd (omega arith) }
 
-pub roots-next : (i v : ℕ) (x : List ℕ) → i < 255 → RootsAre i x → v ≡ Octet.power Octet.α (i + 1) → RootsAre (i + 1) (set x i v)
-roots-next i v x h r e = record {
+pub points-next : (i v : ℕ) (x : List ℕ) → i < 255 → PointsAre i x → v ≡ Octet.power Octet.α (i + 1) → PointsAre (i + 1) (set x i v)
+points-next i v x h r e = record {
   long = length-set x i v ∙ r .long;
   octets = octets-set x i v (rw e (power-octet _ _)) (r .octets);
   used = λ j l. go j l (ℕ-discrete j i);
@@ -81,7 +81,7 @@ syndromes-start m = record {
   unused = λ i l. zeros-at 255 i;
 }
 
-pub syndromes-next : (m i a : ℕ) (w x s t : List ℕ) → RootsAre m x → i < length w → a ≡ getD w i 0 → a < 256
+pub syndromes-next : (m i a : ℕ) (w x s t : List ℕ) → PointsAre m x → i < length w → a ≡ getD w i 0 → a < 256
     → SyndromesAre m (take i w) s → Absorbed m a x s t → SyndromesAre m (take (i + 1) w) t
 syndromes-next m i a w x s t rx l e a< h ab = record {
   long = ab .long ∙ h .long;

@@ -8,3 +8,4 @@ pub mod Parity
 pub mod Systematic
 pub mod Mending
 pub mod Stepping
+pub mod Searching

@@ -6,4 +6,5 @@ pub mod Repair
 pub mod Places
 pub mod Syndromes
 pub mod Locator
+pub mod Search
 pub mod Values

@@ -1,7 +1,7 @@
 -- What the syndrome step answers.
 --
 --   SyndromesAre m w s    s₀, .., s₍ₘ₋₁₎ are the values of w's polynomial at α, .., αᵐ, and the rest is zero
---   RootsAre m x          x₀, .., x₍ₘ₋₁₎ are α, .., αᵐ
+--   PointsAre m x          x₀, .., x₍ₘ₋₁₎ are α, .., αᵐ
 --   Absorbed m a x s t    one octet a of the word taken in: each s becomes x s + a
 --   allZero m s           s₀, .., s₍ₘ₋₁₎ are zero
 --
@@ -18,7 +18,7 @@ use Rattle.codeword.specs.Element.{elements, element, α}
 use Rattle.codeword.specs.CodeWord.{Octets}
 use Rattle.codeword.specs.Places.{value}
 
-pub record RootsAre (m : ℕ) (x : List ℕ) : Type 0 where
+pub record PointsAre (m : ℕ) (x : List ℕ) : Type 0 where
   pub long : length x ≡ 255
   pub octets : Octets x
   pub used : (i : ℕ) → i < m → element (getD x i 0) ≡ pow elements α (suc i)

@@ -1,6 +1,7 @@
 // The code word of 003, D.4.1.7.3: encoding and repair.
 mod encoding;
 mod locator;
+mod search;
 mod syndromes;
 
 ghost use lib.ListN.{length};

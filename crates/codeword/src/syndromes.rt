@@ -2,12 +2,12 @@
 ghost use mathlib.Core.Path.{_≡_};
 ghost use Prim.Native.Nat.{_<_, _≤_};
 ghost use lib.ListN.{length};
-ghost use Rattle.codeword.specs.Syndromes.{RootsAre, Absorbed, SyndromesAre, allZero};
+ghost use Rattle.codeword.specs.Syndromes.{PointsAre, Absorbed, SyndromesAre, allZero};
 
 // α, .., α^m; zero where unused.
-fn roots(m: usize) -> [u8; 255]
+fn points(m: usize) -> [u8; 255]
     requires { ⌜ m < 255 ⌝ }
-    ensures { λ r. ⌜ RootsAre m r ⌝ }
+    ensures { λ r. ⌜ PointsAre m r ⌝ }
 {
     let mut x = [0u8; 255];
     let mut i = 0;
@@ -35,7 +35,7 @@ pub fn syndromes(word: &[u8], m: usize) -> [u8; 255]
     requires { ⌜ m < 255 ⌝ }
     ensures { λ r. ⌜ SyndromesAre m (now (word .entry)) r ⌝ }
 {
-    let x = roots(m);
+    let x = points(m);
     let mut s = [0u8; 255];
     let mut i = 0;
     while i < word.len() {

@@ -1,10 +1,8 @@
 -- After j turns d is the sum of the first j terms. Assumes nothing.
 use borrow.Author.Needs.{needs}
-use mathlib.Core.Path.{_≡_, refl, sym, _∙_}
+use mathlib.Core.Path.{_≡_, sym, _∙_}
 use Prim.Native.Nat.{_+_, _-_, _≤_}
 use native.Mathlib.Omega.{arith}
-use denote.Ref.{now}
-use lib.ListN.{length}
 use Rattle.codeword.proofs.Mending.{discrepancy-to, discrepancy-start, discrepancy-next, discrepancy-is}
 use Rattle.codeword.proofs.locator.discrepancy.Statement.{statement}
 use Rattle.codeword.proofs.locator.discrepancy.Tie as tie

@@ -3,10 +3,9 @@ use borrow.Author.Needs.{needs}
 use mathlib.Core.Path.{_≡_}
 use Prim.Native.Nat.{_-_, _≤_}
 use native.Mathlib.Omega.{arith}
-use denote.Ref.{now}
 use lib.ListN.{length}
 use Rattle.codeword.proofs.Stepping.{held-start, held-done}
-use Rattle.codeword.specs.Locator.{Held, LocatorIs}
+use Rattle.codeword.specs.Locator.{Held}
 use Rattle.codeword.proofs.locator.locator.Statement.{statement}
 use Rattle.codeword.proofs.locator.locator.Tie as tie
 

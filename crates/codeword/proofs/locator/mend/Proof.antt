@@ -1,10 +1,9 @@
 -- The coefficients below j have been mended. Assumes nothing.
 use borrow.Author.Needs.{needs}
-use mathlib.Core.Path.{_≡_, refl, sym, _∙_}
-use Prim.Native.Nat.{_+_, _-_, _≤_}
+use mathlib.Core.Path.{_≡_}
+use Prim.Native.Nat.{_-_, _≤_}
 use native.Mathlib.Omega.{arith}
 use denote.Ref.{now}
-use lib.ListN.{length}
 use Rattle.codeword.proofs.Mending.{mended-start, mended-next}
 use Rattle.codeword.specs.Locator.{Mended}
 use Rattle.codeword.proofs.locator.mend.Statement.{statement}

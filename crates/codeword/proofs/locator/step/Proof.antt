@@ -1,14 +1,11 @@
 -- The discrepancy decides which of the three steps of the theory this is. Assumes nothing.
 use borrow.Author.Needs.{needs}
-use mathlib.Core.Path.{_≡_, refl, sym, _∙_}
-use mathlib.Core.List.{List}
-use Prim.Native.Nat.{ℕ}
-use native.Mathlib.Omega.{arith}
+use mathlib.Core.Path.{_≡_, sym, _∙_}
 use lib.ListN.{length}
 use denote.Ref.{now}
 use Rattle.codeword.proofs.Stepping.{held-zero, held-keep, held-grow}
 use Rattle.codeword.proofs.Zeros.{zeros}
-use Rattle.octets.specs.Written.{written, written-all}
+use Rattle.octets.specs.Written.{written-all}
 use Rattle.codeword.proofs.locator.step.Statement.{statement}
 use Rattle.codeword.proofs.locator.step.Tie as tie
 

@@ -1,9 +1,8 @@
 -- The syndromes below i have taken the octet in. Assumes nothing.
 use borrow.Author.Needs.{needs}
-use mathlib.Core.Path.{_≡_, refl}
-use Prim.Native.Nat.{_+_, _-_, _≤_}
+use mathlib.Core.Path.{_≡_}
+use Prim.Native.Nat.{_-_, _≤_}
 use native.Mathlib.Omega.{arith}
-use lib.ListN.{length, take}
 use Rattle.codeword.proofs.Absorbing.{absorbed-start, absorbed-next}
 use Rattle.codeword.specs.Syndromes.{Absorbed}
 use Rattle.codeword.proofs.syndromes.absorb.Statement.{statement}

@@ -1,10 +1,9 @@
 -- The octets below i are zero. Assumes nothing.
 use borrow.Author.Needs.{needs}
-use Prim.Native.Nat.{_+_, _-_, _≤_}
+use Prim.Native.Nat.{_-_, _≤_}
 use native.Mathlib.Omega.{arith}
-use lib.ListN.{length, take}
 use mathlib.Core.Bool.{true}
-use mathlib.Core.Path.{_≡_, sym, ap, _∙_}
+use mathlib.Core.Path.{_≡_, sym}
 use Rattle.codeword.proofs.Absorbing.{allZero-none, allZero-more, allZero-not}
 use Rattle.codeword.specs.Syndromes.{allZero}
 use Rattle.codeword.proofs.syndromes.clean.Statement.{statement}

@@ -1,24 +1,24 @@
 -- The syndromes are those of the octets that have been taken in. Assumes nothing.
 use borrow.Author.Needs.{needs}
 use mathlib.Core.Path.{_≡_, refl}
-use Prim.Native.Nat.{_+_, _-_, _≤_}
+use Prim.Native.Nat.{_-_, _≤_}
 use native.Mathlib.Omega.{arith}
 use lib.ListN.{length, take}
 use denote.Ref.{now}
 use lib.Seq.{take-length}
 use Rattle.codeword.proofs.Absorbing.{syndromes-start, syndromes-next}
-use Rattle.codeword.specs.Syndromes.{RootsAre, SyndromesAre}
+use Rattle.codeword.specs.Syndromes.{PointsAre, SyndromesAre}
 use Rattle.codeword.proofs.syndromes.syndromes.Statement.{statement}
 use Rattle.codeword.proofs.syndromes.syndromes.Tie as tie
 
 abbrev Inv-loop : tie.InvT-loop
-Inv-loop word m x s₀ i₀ s i = (i ≤ length word) × RootsAre m x × SyndromesAre m (take i word) s
+Inv-loop word m x s₀ i₀ s i = (i ≤ length word) × PointsAre m x × SyndromesAre m (take i word) s
 
 abbrev μ-loop : tie.MeasureT-loop
 μ-loop word m x s₀ i₀ s i = length word - i
 
-roots-requires : tie.Need-roots-requires Inv-loop μ-loop
-roots-requires c κs = search needs
+points-requires : tie.Need-points-requires Inv-loop μ-loop
+points-requires c κs = search needs
 
 loop-holds : tie.Need-loop-holds Inv-loop μ-loop
 loop-holds c = (search needs, search needs, syndromes-start _)
@@ -60,7 +60,7 @@ syndromes-spec =
     (tie.spec
     Inv-loop
     μ-loop
-    roots-requires
+    points-requires
     loop-holds
     slice-aggregate-absorb
     slice-aggregate-absorb-2

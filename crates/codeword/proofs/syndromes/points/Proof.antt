@@ -1,22 +1,21 @@
 -- The points below i are there. Assumes nothing.
 use borrow.Author.Needs.{needs}
-use mathlib.Core.Path.{_≡_, refl}
-use Prim.Native.Nat.{_+_, _-_, _≤_}
+use mathlib.Core.Path.{_≡_}
+use Prim.Native.Nat.{_-_, _≤_}
 use native.Mathlib.Omega.{arith}
-use lib.ListN.{length, take}
-use Rattle.codeword.proofs.Absorbing.{roots-start, roots-next}
-use Rattle.codeword.specs.Syndromes.{RootsAre}
-use Rattle.codeword.proofs.syndromes.roots.Statement.{statement}
-use Rattle.codeword.proofs.syndromes.roots.Tie as tie
+use Rattle.codeword.proofs.Absorbing.{points-start, points-next}
+use Rattle.codeword.specs.Syndromes.{PointsAre}
+use Rattle.codeword.proofs.syndromes.points.Statement.{statement}
+use Rattle.codeword.proofs.syndromes.points.Tie as tie
 
 abbrev Inv-loop : tie.InvT-loop
-Inv-loop m x₀ i₀ x i = (i ≤ m) × RootsAre i x
+Inv-loop m x₀ i₀ x i = (i ≤ m) × PointsAre i x
 
 abbrev μ-loop : tie.MeasureT-loop
 μ-loop m x₀ i₀ x i = m - i
 
 loop-holds : tie.Need-loop-holds Inv-loop μ-loop
-loop-holds c = (search needs, roots-start)
+loop-holds c = (search needs, points-start)
 
 add-power : tie.Need-add-power Inv-loop μ-loop
 add-power c = search needs
@@ -36,15 +35,15 @@ loop-less c = search needs
 loop-again : tie.Need-loop-again Inv-loop μ-loop
 loop-again c =
     let l = c .before .before .loop in
-    (search needs, roots-next (l .i) _ (l .x) (search needs) (l .inv .1) (c .power .ensures))
+    (search needs, points-next (l .i) _ (l .x) (search needs) (l .inv .1) (c .power .ensures))
 
 returns : tie.Need-returns Inv-loop μ-loop
 returns c =
     let e : c .before .loop .i ≡ c .before .before .args .m = omega arith in
     rw e at (c .before .loop .inv .1)
 
-pub roots-spec : {M : Type 1} → statement M
-roots-spec =
+pub points-spec : {M : Type 1} → statement M
+points-spec =
     tie.close
     (tie.spec
     Inv-loop
