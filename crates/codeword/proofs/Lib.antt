@@ -9,3 +9,4 @@ pub mod Systematic
 pub mod Mending
 pub mod Stepping
 pub mod Searching
+pub mod Correcting

@@ -3,6 +3,7 @@ mod encoding;
 mod locator;
 mod search;
 mod syndromes;
+mod values;
 
 ghost use lib.ListN.{length};
 ghost use Rattle.codeword.specs.Encoding.{Encoded};

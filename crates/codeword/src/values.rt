@@ -1,0 +1,59 @@
+// Find the error values by Forney's formula, and take the errors out of the word.
+use crate::locator;
+use crate::search;
+ghost use mathlib.Core.Path.{_≡_};
+ghost use Prim.Native.Nat.{ℕ, _<_, _≤_};
+ghost use lib.ListN.{length, getD};
+ghost use Rattle.codeword.specs.Values.{EvaluatorIs, DerivativeIs, errorOf, Corrected};
+
+// The error evaluator: the first l coefficients of the product of the locator c and the syndromes s; zero where unused.
+pub fn evaluator(c: &[u8], s: &[u8], l: usize) -> [u8; 255]
+    requires { ⌜ (l < 255) × (length (now c) ≡ 255) × (length (now s) ≡ 255) ⌝ }
+    ensures { λ r. ⌜ EvaluatorIs l (now (c .entry)) (now (s .entry)) r ⌝ }
+{
+    let mut o = [0u8; 255];
+    let mut k = 0;
+    while k < l {
+        o[k] = locator::discrepancy(c, s, k, k);
+        k += 1;
+    }
+    o
+}
+
+// The first l coefficients of the locator's derivative: c[1], 0, c[3], 0, ..; zero where unused.
+pub fn derivative(c: &[u8], l: usize) -> [u8; 255]
+    requires { ⌜ (l < 254) × (length (now c) ≡ 255) ⌝ }
+    ensures { λ r. ⌜ DerivativeIs l (now (c .entry)) r ⌝ }
+{
+    let mut d = [0u8; 255];
+    let mut h = 0;
+    while 2 * h < l {
+        d[2 * h] = c[2 * h + 1];
+        h += 1;
+    }
+    d
+}
+
+// The error value at the point x: the evaluator's value over the derivative's.
+fn error(o: &[u8], d: &[u8], l: usize, x: u8) -> u8
+    requires { ⌜ (l ≤ length (now o)) × (l ≤ length (now d)) ⌝ }
+    ensures { λ r. ⌜ r ≡ errorOf (now (o .entry)) (now (d .entry)) l x ⌝ }
+{
+    field::product(search::horner(o, l, x), field::inverse(search::horner(d, l, x)))
+}
+
+// Adds the error value to the word of n octets at each of the l places.
+pub fn correct(w: &mut [u8], n: usize, at: &[u8], l: usize, o: &[u8], d: &[u8])
+    requires { ⌜ (n ≤ 255) × (n ≤ length (now w)) × (l ≤ length (now at)) × (l ≤ length (now o)) × (l ≤ length (now d)) ⌝ }
+    requires { ⌜ ((j : ℕ) → j < l → getD (now at) j 0 < n) ⌝ }
+    requires { ⌜ ((i j : ℕ) → i < j → j < l → getD (now at) i 0 < getD (now at) j 0) ⌝ }
+    ensures { λ _. ⌜ Corrected n l l (now (at .entry)) (now (o .entry)) (now (d .entry)) (now (w .entry)) (now (w .exit)) ⌝ }
+{
+    let mut j = 0;
+    while j < l {
+        let p = at[j] as usize;
+        let y = error(o, d, l, search::inverse_locator(n, p));
+        w[p] = field::sum(w[p], y);
+        j += 1;
+    }
+}
