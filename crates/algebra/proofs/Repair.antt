@@ -2,8 +2,10 @@
 -- and (C, L) is what Berlekamp and Massey's algorithm made of the first t of them.
 --
 --   Search n v L C Z at   `at` lists, rising, all v places below n at whose Z the polynomial C, of degree at most L, is zero
---   search-complete       if S are the syndromes of an error of weight w with 2 w ≤ t, then L = w and the search finds L places
---   search-sound          if it finds L places, the error with Forney's values there has the syndromes S and weight L
+--   length-complete       if S are the syndromes of an error of weight w with 2 w ≤ t, then L = w
+--   search-complete       .. and the search finds L places
+--   divisor-ne            if it finds L places, Forney's divisor is not zero there
+--   search-sound          .. and the error with Forney's values there has the syndromes S, and weight L
 --
 -- Assumes nothing.
 use mathlib.Core.Path.{_≡_, refl, sym, _∙_, ap, ap₂}
@@ -14,15 +16,15 @@ use native.Mathlib.Decide.{decLt}
 use Rattle.algebra.specs.Field.{Field}
 use Rattle.algebra.specs.Series as Ser
 use Rattle.algebra.specs.Series.{Series, Operations, operations}
-use Rattle.algebra.proofs.Ring.{ring, 𝟘-⊙, 𝟙-⊙}
+use Rattle.algebra.proofs.Ring.{ring, mul-ne, 𝟘-⊙, 𝟙-⊙}
 use Rattle.algebra.proofs.Product.{⊛-local, tl-at}
 use Rattle.algebra.proofs.Value.{ev}
 use Rattle.algebra.proofs.Roots.{Distinct}
 use Rattle.algebra.specs.Power.{pow}
 use Rattle.algebra.proofs.PowerSum.{pow-zero, pow-suc, psum, psum-zero, psum-suc}
-use Rattle.algebra.proofs.Locator.{Inverses, synd, synd-at, loc, loc-one, below-loc, ev-loc, prod, prod-root, loc-annihilates, link-ne, locator-unique}
+use Rattle.algebra.proofs.Locator.{Inverses, left-ne, synd, synd-at, loc, loc-one, below-loc, ev-loc, prod, prod-root, loc-annihilates, link-ne, locator-unique}
 use Rattle.algebra.proofs.Berlekamp.{State, bm-finds}
-use Rattle.algebra.proofs.Forney.{skip, prod-ne, forney-sound}
+use Rattle.algebra.proofs.Forney.{skip, skip-ne, prod-ne, forney-sound}
 use Rattle.algebra.proofs.Derivative.{deriv, deriv-loc}
 use Rattle.algebra.proofs.Support.{Support, Lists, pick, pick-at, weight, weight-zero, weight-suc, one-if, support, support-of, psum-cong}
 
@@ -122,57 +124,76 @@ module _ (𝓕 : Field) where
         Y : Series 𝓕
         Y = pick 𝓕 E at
 
-    module _ (v : ℕ) (at : ℕ → ℕ) (found : Search n v L C Z at) where
-      -- ---- complete: the roots are the places of the error
+    -- ---- if S are the syndromes of an error of weight at most t / 2, C is its locator
 
-      module _ (E : Series 𝓕) (few : weight 𝓕 n E + weight 𝓕 n E ≤ t) (syn : (i : ℕ) → i < t → S i ≡ psum 𝓕 n E A (suc i)) where
-        bt : ℕ → ℕ
-        bt = support 𝓕 n E .0
+    module _ (E : Series 𝓕) (few : weight 𝓕 n E + weight 𝓕 n E ≤ t) (syn : (i : ℕ) → i < t → S i ≡ psum 𝓕 n E A (suc i)) where
+      at : ℕ → ℕ
+      at = support 𝓕 n E .0
 
-        su : Support 𝓕 n (weight 𝓕 n E) E bt
-        unfolding bt
-        su = support 𝓕 n E .1
+      su : Support 𝓕 n (weight 𝓕 n E) E at
+      unfolding at
+      su = support 𝓕 n E .1
 
-        located : (L ≡ weight 𝓕 n E) × (C ≡ loc 𝓕 (weight 𝓕 n E) (pick 𝓕 A bt))
-        located =
-            bm-finds 𝓕 (weight 𝓕 n E) t L S C B (pick 𝓕 E bt) (pick 𝓕 A bt) (pick 𝓕 Z bt) b
-            (listed-distinct (weight 𝓕 n E) bt (su .inside) (su .rises)) (listed-inverses (weight 𝓕 n E) bt (su .inside) (su .rises))
-            (λ k l. rw pick-at (su .not-nil k l)) (λ i l. syn i l ∙ su .sums A (suc i) ∙ sym (synd-at 𝓕 (weight 𝓕 n E) (pick 𝓕 E bt) (pick 𝓕 A bt) i)) st few
+      located : (L ≡ weight 𝓕 n E) × (C ≡ loc 𝓕 (weight 𝓕 n E) (pick 𝓕 A at))
+      located =
+          bm-finds 𝓕 (weight 𝓕 n E) t L S C B (pick 𝓕 E at) (pick 𝓕 A at) (pick 𝓕 Z at) b
+          (listed-distinct (weight 𝓕 n E) at (su .inside) (su .rises)) (listed-inverses (weight 𝓕 n E) at (su .inside) (su .rises))
+          (λ k l. rw pick-at (su .not-nil k l)) (λ i l. syn i l ∙ su .sums A (suc i) ∙ sym (synd-at 𝓕 (weight 𝓕 n E) (pick 𝓕 E at) (pick 𝓕 A at) i)) st few
 
-        value-at : (p : ℕ) → ev 𝓕 (suc L) C (Z p) ≡ prod 𝓕 (weight 𝓕 n E) (pick 𝓕 A bt) (Z p)
-        value-at p = ap₂ (λ (l : ℕ) (c : Series 𝓕). ev 𝓕 (suc l) c (Z p)) (located .0) (located .1) ∙ ev-loc 𝓕 (weight 𝓕 n E) (pick 𝓕 A bt) (Z p)
+      pub length-complete : L ≡ weight 𝓕 n E
+      length-complete = located .0
 
-        error-root : (p : ℕ) → p < n → E p ≢ 𝟘 → ev 𝓕 (suc L) C (Z p) ≡ 𝟘
-        error-root p l h =
-            let r = su .all p l h in
-            value-at p ∙ prod-root 𝓕 (weight 𝓕 n E) (pick 𝓕 A bt) (Z p) (r .0) (r .1) (rw (pick-at, r .2) (I p l))
+      value-at : (p : ℕ) → ev 𝓕 (suc L) C (Z p) ≡ prod 𝓕 (weight 𝓕 n E) (pick 𝓕 A at) (Z p)
+      value-at p = ap₂ (λ (l : ℕ) (c : Series 𝓕). ev 𝓕 (suc l) c (Z p)) (located .0) (located .1) ∙ ev-loc 𝓕 (weight 𝓕 n E) (pick 𝓕 A at) (Z p)
 
-        root-error : (p : ℕ) → p < n → ev 𝓕 (suc L) C (Z p) ≡ 𝟘 → E p ≢ 𝟘
-        root-error p l h z =
-            prod-ne 𝓕 (weight 𝓕 n E) (pick 𝓕 A bt) (Z p)
-            (λ j m. rw pick-at (link-ne 𝓕 (A (bt j)) (A p) (Z p) (I p l) (distinct-any n A D (bt j) p (su .inside j m) l (λ e. su .not-nil j m (rw e z)))))
-            (sym (value-at p) ∙ h)
+      error-root : (p : ℕ) → p < n → E p ≢ 𝟘 → ev 𝓕 (suc L) C (Z p) ≡ 𝟘
+      error-root p l h =
+          let r = su .all p l h in
+          value-at p ∙ prod-root 𝓕 (weight 𝓕 n E) (pick 𝓕 A at) (Z p) (r .0) (r .1) (rw (pick-at, r .2) (I p l))
 
-        pub search-complete : (L ≡ weight 𝓕 n E) × (v ≡ L)
-        search-complete = (
-          located .0,
-          support-of 𝓕 n v E at (record {
+      root-error : (p : ℕ) → p < n → ev 𝓕 (suc L) C (Z p) ≡ 𝟘 → E p ≢ 𝟘
+      root-error p l h z =
+          prod-ne 𝓕 (weight 𝓕 n E) (pick 𝓕 A at) (Z p)
+          (λ j m. rw pick-at (link-ne 𝓕 (A (at j)) (A p) (Z p) (I p l) (distinct-any n A D (at j) p (su .inside j m) l (λ e. su .not-nil j m (rw e z)))))
+          (sym (value-at p) ∙ h)
+
+      pub search-complete : (v : ℕ) (bt : ℕ → ℕ) → Search n v L C Z bt → v ≡ L
+      search-complete v bt found =
+          support-of 𝓕 n v E bt (record {
             inside = found .inside;
             rises = found .rises;
-            not-nil = λ j l. root-error (at j) (found .inside j l) (found .root j l);
+            not-nil = λ j l. root-error (bt j) (found .inside j l) (found .root j l);
             all = λ p l h. found .all p l (error-root p l h);
-          }) .0 ∙ sym (located .0),
-        )
+          }) .0 ∙ sym (located .0)
 
-      -- ---- sound: Forney's values at the roots make an error with these syndromes
+    -- ---- if L roots are found, C is their locator
 
-      module _ (E : Series 𝓕) (all-found : v ≡ L) (short : L ≤ t)
-          (elsewhere : (p : ℕ) → (ev 𝓕 (suc L) C (Z p) ≡ 𝟘 → ⊥) → E p ≡ 𝟘)
-          (values : (j : ℕ) → j < v → E (at j) ⊙ ev 𝓕 L (deriv 𝓕 C) (Z (at j)) ≡ ev 𝓕 L (C ⊛ S) (Z (at j))) where
+    module _ (at : ℕ → ℕ) (found : Search n L L C Z at) where
+      root-listed : (j : ℕ) → j < L → ev 𝓕 (suc L) C (pick 𝓕 Z at j) ≡ 𝟘
+      root-listed j l = rw pick-at (found .root j l)
+
+      C-is : C ≡ loc 𝓕 L (pick 𝓕 A at)
+      C-is =
+          locator-unique 𝓕 L C (pick 𝓕 A at) (pick 𝓕 Z at) (st .c-one) (st .c-below)
+          (listed-inverses L at (found .inside) (found .rises)) (listed-distinct L at (found .inside) (found .rises)) root-listed
+
+      divisor-is : (j : ℕ) → j < L → ev 𝓕 L (deriv 𝓕 C) (Z (at j)) ≡ pick 𝓕 A at j ⊙ skip 𝓕 L (pick 𝓕 A at) j (pick 𝓕 Z at j)
+      divisor-is j l =
+          (rw (C-is, ← pick-at 𝓕 Z at j) (deriv-loc 𝓕 L (pick 𝓕 A at) j (pick 𝓕 Z at j) l (listed-inverses L at (found .inside) (found .rises) j l)))
+
+      pub divisor-ne : (j : ℕ) → j < L → ev 𝓕 L (deriv 𝓕 C) (Z (at j)) ≢ 𝟘
+      divisor-ne j l =
+          rw divisor-is (mul-ne 𝓕 _ _ (left-ne 𝓕 _ _ (listed-inverses L at (found .inside) (found .rises) j l))
+          (skip-ne 𝓕 L (pick 𝓕 A at) j _ (listed-distinct L at (found .inside) (found .rises)) l (listed-inverses L at (found .inside) (found .rises) j l)))
+
+      -- ---- and Forney's values there make an error with the syndromes S
+
+      module _ (E : Series 𝓕) (short : L ≤ t) (elsewhere : (p : ℕ) → (ev 𝓕 (suc L) C (Z p) ≡ 𝟘 → ⊥) → E p ≡ 𝟘)
+          (values : (j : ℕ) → j < L → E (at j) ⊙ ev 𝓕 L (deriv 𝓕 C) (Z (at j)) ≡ ev 𝓕 L (C ⊛ S) (Z (at j))) where
         root-mark : Series 𝓕
         root-mark p = mark (𝓕 .decide (ev 𝓕 (suc L) C (Z p)) 𝟘)
 
-        marks : Lists 𝓕 n v root-mark at
+        marks : Lists 𝓕 n L root-mark at
         unfolding root-mark
         marks = record {
           inside = found .inside;
@@ -185,37 +206,15 @@ module _ (𝓕 : Field) where
         unfolding root-mark
         kept p = mark-keeps (𝓕 .decide (ev 𝓕 (suc L) C (Z p)) 𝟘) (E p) (elsewhere p)
 
-        listed : (i : ℕ) → psum 𝓕 n E A i ≡ psum 𝓕 L (pick 𝓕 E at) (pick 𝓕 A at) i
-        listed i = psum-listed n v root-mark E A at i (support-of 𝓕 n v root-mark at marks .1) kept ∙ (rw all-found)
-
-        places-inside : (j : ℕ) → j < L → at j < n
-        places-inside = rw all-found at (found .inside)
-
-        places-rise : (i j : ℕ) → i < j → j < L → at i < at j
-        places-rise = rw all-found at (found .rises)
-
-        root-listed : (j : ℕ) → j < L → ev 𝓕 (suc L) C (pick 𝓕 Z at j) ≡ 𝟘
-        root-listed j l = rw pick-at (found .root j (rw all-found l))
-
-        C-is : C ≡ loc 𝓕 L (pick 𝓕 A at)
-        C-is =
-            locator-unique 𝓕 L C (pick 𝓕 A at) (pick 𝓕 Z at) (st .c-one) (st .c-below)
-            (listed-inverses L at places-inside places-rise) (listed-distinct L at places-inside places-rise) root-listed
-
-        divisor : (j : ℕ) → j < L → pick 𝓕 A at j ⊙ skip 𝓕 L (pick 𝓕 A at) j (pick 𝓕 Z at j) ≡ ev 𝓕 L (deriv 𝓕 C) (Z (at j))
-        divisor j l =
-            sym (deriv-loc 𝓕 L (pick 𝓕 A at) j (pick 𝓕 Z at j) l (listed-inverses L at places-inside places-rise j l))
-            ∙ (rw (← C-is, pick-at))
-
         sums : (i : ℕ) → i < t → psum 𝓕 n E A (suc i) ≡ S i
         sums i l =
-            listed (suc i)
+            psum-listed n L root-mark E A at (suc i) (support-of 𝓕 n L root-mark at marks .1) kept
             ∙ forney-sound 𝓕 L t C S (pick 𝓕 E at) (pick 𝓕 A at) (pick 𝓕 Z at) (st .c-one) (st .c-below) (st .c-ann) short
-            (listed-distinct L at places-inside places-rise) (listed-inverses L at places-inside places-rise) root-listed
-            (λ j m. rw (divisor j m, pick-at 𝓕 E at j, values j (rw all-found m), pick-at 𝓕 Z at j)) i l
+            (listed-distinct L at (found .inside) (found .rises)) (listed-inverses L at (found .inside) (found .rises)) root-listed
+            (λ j m. rw (← divisor-is j m, pick-at 𝓕 E at j, values j m, pick-at 𝓕 Z at j)) i l
+
+        most : weight 𝓕 n E ≤ L
+        most = omega (arith, support-of 𝓕 n L root-mark at marks .0, weight-le n E root-mark (λ p l z. sym (kept p) ∙ (rw z (𝟘-⊙ 𝓕 _))))
 
         pub search-sound : ((i : ℕ) → i < t → psum 𝓕 n E A (suc i) ≡ S i) × (weight 𝓕 n E ≡ L)
         search-sound = (sums, omega (arith, least-weight E (λ i l. sym (sums i l)), most))
-          where
-            most : weight 𝓕 n E ≤ L
-            most = omega (arith, all-found, support-of 𝓕 n v root-mark at marks .0, weight-le n E root-mark (λ p l z. sym (kept p) ∙ (rw z (𝟘-⊙ 𝓕 _))))

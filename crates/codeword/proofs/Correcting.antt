@@ -29,7 +29,6 @@ use Rattle.codeword.specs.Locator.{discrepancyOf}
 use Rattle.codeword.specs.Values.{EvaluatorIs, DerivativeIs, errorOf, Corrected}
 use Rattle.codeword.proofs.Zeros.{zeros, zeros-at, octets-zeros, octets-set}
 use Rattle.codeword.proofs.Word.{places-at}
-
 open Field elements using (Carrier as F, nil as 𝟘)
 
 -- ---- the evaluator

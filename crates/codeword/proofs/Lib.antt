@@ -10,3 +10,4 @@ pub mod Mending
 pub mod Stepping
 pub mod Searching
 pub mod Correcting
+pub mod Repairing

@@ -15,8 +15,8 @@ use lib.Dec.{leb, ltb}
 use lib.ListN.{length}
 use Rattle.octets.specs.Written.{written}
 use Rattle.codeword.specs.CodeWord.{Within, distance}
-use Rattle.codeword.specs.declared.Repair.{Repair}
-use Rattle.codeword.specs.declared.Repair.the-variants.{Found, OutOfReach}
+use Rattle.codeword.specs.declared.Reach.{Reach}
+use Rattle.codeword.specs.declared.Reach.the-variants.{Found, OutOfReach}
 
 -- at most 255 octets, more than the 2e of the parity, and the room for them
 abbrev pub reads : ℕ → ℕ → ℕ → Bool
@@ -33,6 +33,6 @@ pub record OutOfReachIs (e : ℕ) (w before after : List ℕ) : Type 0 where
   pub none : reads (length w) e (length before) ≡ true → (c : List ℕ) → Within e w c → ⊥
   pub same : after ≡ before
 
-abbrev pub Repaired : ℕ → List ℕ → List ℕ → Repair → List ℕ → Type 0
+abbrev pub Repaired : ℕ → List ℕ → List ℕ → Reach → List ℕ → Type 0
 Repaired e w before (Found changed) after = FoundIs e w before changed after
 Repaired e w before OutOfReach after = OutOfReachIs e w before after

@@ -6,10 +6,15 @@ mod syndromes;
 mod values;
 
 ghost use lib.ListN.{length};
+ghost use mathlib.Core.Path.{_≡_};
+ghost use mathlib.Core.Bool.{true};
+ghost use Prim.Native.Nat.{_*_, _<_, _≤_};
 ghost use Rattle.codeword.specs.Encoding.{Encoded};
+ghost use Rattle.codeword.specs.Syndromes.{SyndromesAre};
+ghost use Rattle.codeword.specs.Repair.{Repaired};
 
 // What a repair answers: a code word was found, this many octets of the word were changed for it; or none lies within reach.
-pub enum Repair {
+pub enum Reach {
     Found(usize),
     OutOfReach,
 }
@@ -37,4 +42,55 @@ pub fn encode(message: &[u8], e: usize, sent: &mut [u8]) -> usize
     octets::write(sent, 0, message);
     octets::write(sent, k, &p[..m]);
     k + m
+}
+
+// The code word within e octets of a word with the syndromes s, if there is one.
+fn decode(received: &[u8], s: &[u8], e: usize, repaired: &mut [u8]) -> Reach
+    requires { ⌜ (length (now received) ≤ 255) × (2 * e < length (now received)) × (length (now received) ≤ length (now repaired)) × SyndromesAre (2 * e) (now received) (now s) ⌝ }
+    ensures { λ r. ⌜ Repaired e (now (received .entry)) (now (repaired .entry)) r (now (repaired .exit)) ⌝ }
+{
+    let n = received.len();
+    let recurrence = locator::locator(s, 2 * e);
+    let l = recurrence.degree;
+    if e < l {
+        return Reach::OutOfReach;
+    }
+    let c = recurrence.coefficients;
+    let places = search::search(&c, l, n);
+    let count = places.count;
+    if count != l {
+        return Reach::OutOfReach;
+    }
+    let at = places.at;
+    let o = values::evaluator(&c, s, l);
+    let d = values::derivative(&c, l);
+    octets::write(repaired, 0, received);
+    values::correct(repaired, n, &at, l, &o, &d);
+    Reach::Found(l)
+}
+
+// The code word within e octets of the received word into the front of `repaired`, and how many octets were changed for it; or out of
+// reach, and nothing is written. Where the word is over 255 octets or not over 2e, or `repaired` is shorter, it is out of reach too.
+pub fn repair(received: &[u8], e: usize, repaired: &mut [u8]) -> Reach
+    ensures { λ r. ⌜ Repaired e (now (received .entry)) (now (repaired .entry)) r (now (repaired .exit)) ⌝ }
+{
+    let n = received.len();
+    if 255 < n {
+        return Reach::OutOfReach;
+    }
+    if n == 0 {
+        return Reach::OutOfReach;
+    }
+    if (n - 1) / 2 < e {
+        return Reach::OutOfReach;
+    }
+    if repaired.len() < n {
+        return Reach::OutOfReach;
+    }
+    let s = syndromes::syndromes(received, 2 * e);
+    if syndromes::clean(&s, 2 * e) {
+        octets::write(repaired, 0, received);
+        return Reach::Found(0);
+    }
+    decode(received, &s, e, repaired)
 }

@@ -39,7 +39,10 @@ fn error(o: &[u8], d: &[u8], l: usize, x: u8) -> u8
     requires { ⌜ (l ≤ length (now o)) × (l ≤ length (now d)) ⌝ }
     ensures { λ r. ⌜ r ≡ errorOf (now (o .entry)) (now (d .entry)) l x ⌝ }
 {
-    field::product(search::horner(o, l, x), field::inverse(search::horner(d, l, x)))
+    field::product(
+        search::horner(o, l, x),
+        field::inverse(search::horner(d, l, x)),
+    )
 }
 
 // Adds the error value to the word of n octets at each of the l places.

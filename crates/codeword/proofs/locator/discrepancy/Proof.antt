@@ -40,11 +40,10 @@ loop-less c = search needs
 loop-again : tie.Need-loop-again Inv-loop μ-loop
 loop-again c =
     let l = c .before .before .before .before .before .loop in
-    let a = c .before .before .before .before .before .before .before .before .args in
-    (
+    let a = c .before .before .before .before .before .before .before .before .args in (
       search needs,
       c .sum .ensures ∙ (rw (c .before .product .ensures, l .inv .1) (sym (discrepancy-next _ _ _ (l .j)
-      (c .before .before .before .shared-slice-known3 .given (l .j) .fits) (c .before .before .shared-slice-known4 .given (a .r - l .j) .fits)))),
+          (c .before .before .before .shared-slice-known3 .given (l .j) .fits) (c .before .before .shared-slice-known4 .given (a .r - l .j) .fits)))),
     )
 
 returns : tie.Need-returns Inv-loop μ-loop

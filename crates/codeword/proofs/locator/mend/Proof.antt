@@ -45,12 +45,11 @@ loop-less c = search needs
 loop-again : tie.Need-loop-again Inv-loop μ-loop
 loop-again c =
     let l = c .before .before .before .before .before .loop in
-    let a = c .before .before .before .before .before .before .before .before .args in
-    (
+    let a = c .before .before .before .before .before .before .before .before .args in (
       search needs,
       search needs,
       mended-next _ _ (l .j) _ _ (now (a .b)) (l .c) (l .inv .2) (l .inv .0) (omega arith) (c .before .before .before .before .before .before .before .before .fits .q .fits)
-      (c .before .before .shared-slice-known2 .given (l .j - a .shift) .fits) (cc),
+          (c .before .before .shared-slice-known2 .given (l .j - a .shift) .fits) (cc),
     )
 
 same-length : tie.Need-same-length Inv-loop μ-loop

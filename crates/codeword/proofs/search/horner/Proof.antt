@@ -35,11 +35,10 @@ loop-again : tie.Need-loop-again Inv-loop μ-loop
 loop-again c =
     let l = c .before .before .before .before .loop in
     let a = c .before .before .before .before .before .before .args in
-    let e : l .i - 1 + 1 ≡ l .i = omega arith in
-    (
+    let e : l .i - 1 + 1 ≡ l .i = omega arith in (
       search needs,
       c .sum .ensures ∙ (rw (c .before .before .product .ensures, l .inv .1) (sym (horner-next _ _ _ (l .i - 1) (search needs) (c .before .shared-slice-known2 .given (l .i - 1) .fits)
-      (c .before .before .before .before .before .before .fits .x .fits) ∙ (rw e)))),
+          (c .before .before .before .before .before .before .fits .x .fits) ∙ (rw e)))),
     )
 
 returns : tie.Need-returns Inv-loop μ-loop

@@ -46,11 +46,10 @@ loop-again : tie.Need-loop-again Inv-loop μ-loop
 loop-again c =
     let l = c .before .before .before .before .loop in
     let x = c .before .before .inverse-locator in
-    let v = c .before .horner in
-    (
+    let v = c .before .horner in (
       search needs,
       ⊎-elim (λ w. rw (w .1, w .2) (search-hit _ (l .p) _ _ (l .at) (l .count) _ (x .ensures) (l .inv .1) (search needs) (sym (v .ensures) ∙ w .0 .taken)))
-      (λ w. rw (w .1, w .2) (search-miss _ (l .p) _ _ (l .at) (l .count) _ (x .ensures) (l .inv .1) (λ z. w .0 .left (v .ensures ∙ z)))) (c .if1 .came),
+          (λ w. rw (w .1, w .2) (search-miss _ (l .p) _ _ (l .at) (l .count) _ (x .ensures) (l .inv .1) (λ z. w .0 .left (v .ensures ∙ z)))) (c .if1 .came),
     )
 
 returns : tie.Need-returns Inv-loop μ-loop

@@ -52,11 +52,10 @@ loop-again c =
     let l = c .before .before .before .before .before .before .loop in
     let a = c .before .before .before .before .before .before .before .before .before .before .before .args in
     let pre = c .before .before .before .before .before .before .before .before .before .before .before .pre in
-    let in-loop = c .before .before .before .before .before .loop-test .taken in
-    (
+    let in-loop = c .before .before .before .before .before .loop-test .taken in (
       search needs,
       corrected-next _ _ (l .j) _ _ (now (a .at)) _ _ (now (a .w)) (l .w) refl (omega (arith, pre .1 .0 (l .j) in-loop)) (λ i h. pre .1 .1 i (l .j) h in-loop)
-      (c .sum .ensures ∙ ap (Octet.sum (getD (l .w) (getD (now (a .at)) (l .j) 0) 0)) (c .before .before .error .ensures ∙ (rw (c .before .before .before .inverse-locator .ensures)))) (l .inv .1),
+          (c .sum .ensures ∙ ap (Octet.sum (getD (l .w) (getD (now (a .at)) (l .j) 0) 0)) (c .before .before .error .ensures ∙ (rw (c .before .before .before .inverse-locator .ensures)))) (l .inv .1),
     )
 
 same-length : tie.Need-same-length Inv-loop μ-loop

@@ -1,0 +1,234 @@
+-- The repair: what the steps show, put together.
+--
+--   clean-found        a word whose syndromes are zero is found, unchanged
+--   long-lost          a locator longer than e: no code word within e
+--   roots-lost         a locator with fewer roots among the places than its length: none either
+--   refused-lost       a word that is none of the code, or has no room, is out of reach
+--   corrected-found    as many roots as its length: with Forney's values added there, the code word within e, and the count is right
+--
+-- Assumes nothing.
+use mathlib.Core.Path.{_≡_, refl, sym, ap, ap₂, _∙_}
+use mathlib.Core.Logic.{_≢_, inr}
+use mathlib.Core.Bool.{Bool, true, false, _&&_}
+use mathlib.Core.List.{List, _++_}
+use Prim.Native.Nat.{ℕ, suc, _+_, _*_, _-_, _≤_, _<_}
+use native.Mathlib.Omega.{arith}
+use native.Mathlib.Decide.{decLt}
+use borrow.Author.Tests.{le-leb, lt-ltb, leb-true, ltb-true}
+use lib.Dec.{leb, ltb}
+use lib.ListN.{length, getD, take, drop, length-drop, List·getD-eq-default, take-append-drop}
+use lib.Seq.{length-take-le, getD-take, ext-getD, getD-drop}
+use Rattle.octets.specs.Written.{written, written-length, written-inside, written-outside}
+use Rattle.algebra.specs.Field.{Field}
+use Rattle.algebra.specs.Series.{Series, Operations, operations}
+use Rattle.algebra.specs.Power.{pow}
+use Rattle.algebra.proofs.Ring.{⊕-self, ⊕-cancel, ⊕-𝟘, ⊙-assoc, ⊙-comm, ⊙-inv, ⊙-𝟙}
+use Rattle.algebra.proofs.Product.{⊞-at}
+use Rattle.algebra.proofs.Value.{ev, ev-local}
+use Rattle.algebra.proofs.PowerSum.{psum}
+use Rattle.algebra.proofs.Support.{weight}
+use Rattle.algebra.proofs.Derivative.{deriv}
+use Rattle.algebra.proofs.Repair.{length-complete, search-complete, divisor-ne, search-sound}
+use Rattle.field.specs.Octet.Laws.{product-octet, inverse-octet}
+use Rattle.codeword.specs.Element.{elements, element, octet, α}
+use Rattle.codeword.specs.Element.Laws.{octet-lt, element-octet, element-sum, element-product, element-inverse}
+use Rattle.codeword.specs.CodeWord.{Octets, distance, Within}
+use Rattle.codeword.specs.Places.{places, locators, inverses, value}
+use Rattle.codeword.specs.Syndromes.{SyndromesAre, allZero}
+use Rattle.codeword.specs.Locator.{LocatorIs}
+use Rattle.codeword.specs.Search.{valueOf, SearchIs}
+use Rattle.codeword.specs.Values.{EvaluatorIs, DerivativeIs, errorOf, Corrected}
+use Rattle.codeword.specs.Repair.{reads, FoundIs, OutOfReachIs}
+use Rattle.codeword.proofs.Word.{places-at, locators-distinct, locators-inverse}
+use Rattle.codeword.proofs.Criterion.{codeWord-zero, zero-codeWord}
+use Rattle.codeword.proofs.Distance.{difference, distance-weight, distance-self, difference-value}
+use Rattle.codeword.proofs.Absorbing.{zero-syndromes}
+use Rattle.codeword.proofs.Systematic.{octets-take}
+
+infixl 60 _⊕_
+infixl 70 _⊙_
+infixl 70 _⊛_
+open Field elements using (Carrier as F, add as _⊕_, mul as _⊙_, inv, nil as 𝟘)
+open Operations (operations elements) using (_⊛_)
+
+-- ---- values are octets
+
+valueOf-octet : (p : List ℕ) (l x : ℕ) → valueOf p l x < 256
+unfolding valueOf
+valueOf-octet p l x = octet-lt _
+
+errorOf-octet : (o d : List ℕ) (l x : ℕ) → errorOf o d l x < 256
+unfolding errorOf
+errorOf-octet o d l x = product-octet _ _
+
+same-drop : (n : ℕ) (u v : List ℕ) → length u ≡ length v → length (drop n u) ≡ length (drop n v)
+same-drop n u v e = length-drop n u ∙ ap (λ (k : ℕ). k - n) e ∙ sym (length-drop n v)
+
+-- ---- a clean word
+
+pub clean-found : (e : ℕ) (w before s after : List ℕ) → reads (length w) e (length before) ≡ true → 2 * e < 255 → Octets w
+    → SyndromesAre (2 * e) w s → allZero (2 * e) s ≡ true → after ≡ written before 0 w → FoundIs e w before 0 after
+clean-found e w before s after fits small o sy z is = record {
+  fits = fits;
+  found = w;
+  within = record { long = refl; code = zero-syndromes e w s small o sy z; near = rw (distance-self w) (omega arith) };
+  count = sym (distance-self w);
+  written-is = is;
+}
+
+-- ---- what the steps show
+
+module _ (e : ℕ) (w s c : List ℕ) (l : ℕ) (n-small : length w ≤ 255) (o : Octets w) (sy : SyndromesAre (2 * e) w s) (lo : LocatorIs (2 * e) s c l) where
+  -- the syndromes of the error that turns a code word into w
+  syndrome : (i : ℕ) → i < 2 * e → places s i ≡ value w (pow elements α (suc i))
+  syndrome i h = places-at s i ∙ sy .used i h
+
+  error-syndromes : (v : List ℕ) → Within e w v → (i : ℕ) → i < 2 * e → places s i ≡ psum elements (length w) (difference w v) (locators (length w)) (suc i)
+  error-syndromes v h i k = syndrome i k ∙ sym (difference-value w v (sym (h .long)) (suc i) ∙ (rw (codeWord-zero e v (h .code) i k) (⊕-𝟘 elements _)))
+
+  error-weight : (v : List ℕ) → (h : Within e w v) → weight elements (length w) (difference w v) ≤ e
+  error-weight v h = rw (← distance-weight w v (sym (h .long)) o (h .code .octets)) (h .near)
+
+  twice : (v : List ℕ) → (h : Within e w v) → weight elements (length w) (difference w v) + weight elements (length w) (difference w v) ≤ 2 * e
+  twice v h = omega (arith, error-weight v h)
+
+  pub long-lost : e < l → (v : List ℕ) → Within e w v → ⊥
+  long-lost k v h =
+      omega (
+        arith,
+        error-weight v h,
+        length-complete elements (length w) (2 * e) l (locators (length w)) (inverses (length w)) (places s) (places c) (lo .B) (lo .q)
+            (locators-distinct (length w) n-small) (locators-inverse (length w) n-small) (lo .state) (difference w v) (twice v h) (error-syndromes v h),
+      )
+
+  pub roots-lost : (at : List ℕ) (count : ℕ) → SearchIs (length w) (length w) l c at count → count ≢ l → (v : List ℕ) → Within e w v → ⊥
+  roots-lost at count se ne v h =
+      ne (search-complete elements (length w) (2 * e) l (locators (length w)) (inverses (length w)) (places s) (places c) (lo .B) (lo .q)
+      (locators-distinct (length w) n-small) (locators-inverse (length w) n-small) (lo .state) (difference w v) (twice v h) (error-syndromes v h) count _ (se .search))
+
+  -- ---- as many roots as the length
+
+  module _ (at ov de : List ℕ) (se : SearchIs (length w) (length w) l c at l) (short : l ≤ e) (evaluator : EvaluatorIs l c s ov) (derivative : DerivativeIs l c de) where
+    value-element : (p : List ℕ) (f : Series elements) (k : ℕ) → ((i : ℕ) → i < l → places p i ≡ f i)
+        → element (valueOf p l (octet (inverses (length w) k))) ≡ ev elements l f (inverses (length w) k)
+    unfolding valueOf
+    value-element p f k same =
+        element-octet _ ∙ ap (ev elements l (places p)) (element-octet (inverses (length w) k)) ∙ ev-local elements l (places p) f (inverses (length w) k) same
+
+    error-element : (k : ℕ) → element (errorOf ov de l (octet (inverses (length w) k)))
+        ≡ ev elements l (places c ⊛ places s) (inverses (length w) k) ⊙ inv (ev elements l (deriv elements (places c)) (inverses (length w) k))
+    unfolding errorOf
+    error-element k =
+        element-product _ _ (valueOf-octet ov l _) (inverse-octet _)
+        ∙ ap₂ (λ (x y : F). x ⊙ y) (value-element ov (places c ⊛ places s) k (evaluator .used))
+        (element-inverse _ (valueOf-octet de l _) ∙ ap inv (value-element de (deriv elements (places c)) k (derivative .used)))
+
+    divided : (j : ℕ) → j < l → element (errorOf ov de l (octet (inverses (length w) (getD at j 0)))) ⊙ ev elements l (deriv elements (places c)) (inverses (length w) (getD at j 0))
+        ≡ ev elements l (places c ⊛ places s) (inverses (length w) (getD at j 0))
+    divided j h =
+        ap (λ (x : F). x ⊙ ev elements l (deriv elements (places c)) (inverses (length w) (getD at j 0))) (error-element (getD at j 0))
+        ∙ ⊙-assoc elements _ _ _
+        ∙ ap (λ (x : F). ev elements l (places c ⊛ places s) (inverses (length w) (getD at j 0)) ⊙ x)
+        (⊙-comm elements _ _ ∙ ⊙-inv elements _ (divisor-ne elements (length w) (2 * e) l (locators (length w)) (inverses (length w)) (places s) (places c) (lo .B) (lo .q)
+        (locators-distinct (length w) n-small) (locators-inverse (length w) n-small) (lo .state) (λ i. getD at i 0) (se .search) j h))
+        ∙ ⊙-𝟙 elements _
+
+    module _ (before u : List ℕ) (room : length w ≤ length before) (co : Corrected (length w) l l at ov de (written before 0 w) u) where
+      u-long : length u ≡ length before
+      u-long = co .long ∙ written-length before 0 w (omega arith)
+
+      long : length (take (length w) u) ≡ length w
+      long = length-take-le (length w) u (omega (arith, u-long))
+
+      copied : (p : ℕ) → p < length w → getD (written before 0 w) p 0 ≡ getD w p 0
+      copied p h = let z : p ≡ 0 + p = omega arith in ap (λ (k : ℕ). getD (written before 0 w) k 0) z ∙ written-inside before 0 w (omega arith) p 0 h
+
+      repaired-at : (p : ℕ) → p < length w → getD (take (length w) u) p 0 ≡ getD u p 0
+      repaired-at p h = getD-take (length w) u p 0 h
+
+      difference-at : (p : ℕ) → difference w (take (length w) u) p ≡ element (getD w p 0) ⊕ element (getD (take (length w) u) p 0)
+      difference-at p = ⊞-at elements _ _ p ∙ ap₂ (λ (x y : F). x ⊕ y) (places-at w p) (places-at (take (length w) u) p)
+
+      same-none : (p : ℕ) → getD (take (length w) u) p 0 ≡ getD w p 0 → difference w (take (length w) u) p ≡ 𝟘
+      same-none p h = difference-at p ∙ (rw h (⊕-self elements _))
+
+      elsewhere : (p : ℕ) → (ev elements (suc l) (places c) (inverses (length w) p) ≡ 𝟘 → ⊥) → difference w (take (length w) u) p ≡ 𝟘
+      elsewhere p no-root = same-none p (elim (decLt p (length w)) [
+        | yes h ↦ repaired-at p h ∙ co .same p (λ j m z. no-root (rw z at (se .search .root j m))) ∙ copied p h
+        | no h ↦ List·getD-eq-default (take (length w) u) 0 (beyond (take (length w) u) long h) ∙ sym (List·getD-eq-default w 0 (beyond w refl h))
+      ])
+        where
+          beyond : (x : List ℕ) → length x ≡ length w → (p < length w → ⊥) → length x ≤ p
+          beyond x q h = omega arith
+
+      listed : (j : ℕ) → j < l → difference w (take (length w) u) (getD at j 0) ≡ element (errorOf ov de l (octet (inverses (length w) (getD at j 0))))
+      listed j h =
+          difference-at (getD at j 0)
+          ∙ (rw (repaired-at (getD at j 0) inside, co .changed j h, copied (getD at j 0) inside)
+          (ap (λ (x : F). element (getD w (getD at j 0) 0) ⊕ x) (element-sum _ _ (o (getD at j 0)) (errorOf-octet ov de l _)) ∙ ⊕-cancel elements _ _))
+        where
+          inside : getD at j 0 < length w
+          inside = se .search .inside j h
+
+      sound : ((i : ℕ) → i < 2 * e → psum elements (length w) (difference w (take (length w) u)) (locators (length w)) (suc i) ≡ places s i)
+          × (weight elements (length w) (difference w (take (length w) u)) ≡ l)
+      sound =
+          search-sound elements (length w) (2 * e) l (locators (length w)) (inverses (length w)) (places s) (places c) (lo .B) (lo .q)
+          (locators-distinct (length w) n-small) (locators-inverse (length w) n-small) (lo .state) (λ i. getD at i 0) (se .search)
+          (difference w (take (length w) u)) (omega arith) elsewhere
+          (λ j h. ap (λ (x : F). x ⊙ ev elements l (deriv elements (places c)) (inverses (length w) (getD at j 0))) (listed j h) ∙ divided j h)
+
+      octets-repaired : Octets (take (length w) u)
+      octets-repaired = octets-take (length w) u (co .octets)
+
+      zero-value : (i : ℕ) → i < 2 * e → value (take (length w) u) (pow elements α (suc i)) ≡ 𝟘
+      zero-value i h =
+          sym (⊕-cancel elements (value w (pow elements α (suc i))) _)
+          ∙ ap (λ (x : F). value w (pow elements α (suc i)) ⊕ x) (sym (difference-value w (take (length w) u) (sym long) (suc i)) ∙ sound .0 i h ∙ syndrome i h)
+          ∙ ⊕-self elements _
+
+      pub corrected-found : 2 * e < 255 → reads (length w) e (length before) ≡ true → FoundIs e w before l u
+      corrected-found small fits = record {
+        fits = fits;
+        found = take (length w) u;
+        within = record {
+          long = long;
+          code = zero-codeWord e (take (length w) u) small octets-repaired zero-value;
+          near = omega (arith, apart);
+        };
+        count = sym apart;
+        written-is = kept;
+      }
+        where
+          apart : distance w (take (length w) u) ≡ l
+          apart = distance-weight w (take (length w) u) (sym long) o octets-repaired ∙ sound .1
+
+          behind : drop (length w) u ≡ drop (length w) before
+          behind = ext-getD 0 (drop (length w) u) (drop (length w) before) (same-drop (length w) u before u-long) (λ i h.
+              getD-drop (length w) u i 0 ∙ co .same (length w + i) (λ j m z. far i j m z)
+              ∙ written-outside before 0 w (omega arith) (length w + i) 0 (inr (omega arith)) ∙ sym (getD-drop (length w) before i 0))
+            where
+              far : (i j : ℕ) → j < l → getD at j 0 ≡ length w + i → ⊥
+              far i j m z = omega (arith, se .search .inside j m)
+
+          kept : u ≡ written before 0 (take (length w) u)
+          kept =
+              let z : length w ≡ 0 + length (take (length w) u) = omega (arith, long) in
+              sym (take-append-drop (length w) u) ∙ ap (λ (x : List ℕ). take (length w) u ++ x) (behind ∙ ap (λ (k : ℕ). drop k before) z)
+
+-- ---- whether the word is one of the code
+
+pub reads-true : (n e room : ℕ) → n ≤ 255 → 2 * e < n → n ≤ room → reads n e room ≡ true
+reads-true n e room a b c = rw (le-leb n 255 a, lt-ltb (2 * e) n b, le-leb n room c)
+
+pub reads-all : (n e room : ℕ) → reads n e room ≡ true → (n ≤ 255) × (2 * e < n) × (n ≤ room)
+reads-all n e room h = go (leb n 255) (ltb (2 * e) n) (leb n room) refl refl refl h
+  where
+    go : (a b c : Bool) → leb n 255 ≡ a → ltb (2 * e) n ≡ b → leb n room ≡ c → a && b && c ≡ true → (n ≤ 255) × (2 * e < n) × (n ≤ room)
+    go true true true p q r h = (leb-true n 255 p, ltb-true (2 * e) n q, leb-true n room r)
+    go true true false p q r h = let z : _≡_ {A = ℕ} 0 1 = cc in absurd (omega arith)
+    go true false c p q r h = let z : _≡_ {A = ℕ} 0 1 = cc in absurd (omega arith)
+    go false b c p q r h = let z : _≡_ {A = ℕ} 0 1 = cc in absurd (omega arith)
+
+pub refused-lost : (e : ℕ) (w before : List ℕ) → ((length w ≤ 255) × (2 * e < length w) × (length w ≤ length before) → ⊥) → OutOfReachIs e w before before
+refused-lost e w before no-fit = record { none = λ h. absurd (no-fit (reads-all (length w) e (length before) h)); same = refl }
