@@ -8,7 +8,6 @@
 --
 -- Assumes nothing.
 use mathlib.Core.Path.{_≡_, refl, sym, ap, ap₂, _∙_}
-use mathlib.Core.Logic.{_≢_}
 use mathlib.Core.Bool.{Bool, true, false, cond}
 use mathlib.Core.List.{List, [], _∷_, _++_}
 use Prim.Native.Nat.{ℕ, zero, suc, _+_, _*_, _≤_, _<_}
@@ -21,11 +20,10 @@ use lib.ListN.{length, getD, set, take, length-set}
 use lib.Seq.{getD-set-same, getD-set-other, take-suc}
 use Rattle.algebra.specs.Field.{Field}
 use Rattle.algebra.specs.Power.{pow}
-use Rattle.algebra.proofs.Ring.{ring}
 use Rattle.field.specs.Octet as Octet
 use Rattle.field.specs.Octet.Laws.{sum-octet, product-octet, power-octet}
-use Rattle.codeword.specs.Element.{elements, element, octet, α}
-use Rattle.codeword.specs.Element.Laws.{octet-lt, octet-element, element-sum, element-product, element-power, element-zero}
+use Rattle.codeword.specs.Element.{elements, element, α}
+use Rattle.codeword.specs.Element.Laws.{element-sum, element-product, element-power, element-zero}
 use Rattle.codeword.specs.CodeWord.{Octets, CodeWord}
 use Rattle.codeword.specs.Places.{value}
 use Rattle.codeword.specs.Syndromes.{PointsAre, Absorbed, SyndromesAre, allZero}

@@ -8,7 +8,6 @@
 use mathlib.Core.Path.{_≡_, refl, sym, ap, _∙_, subst}
 use mathlib.Core.List.{List}
 use Prim.Native.Nat.{ℕ, zero, suc, _+_, _*_, _/_, _%_, _≤_, _<_}
-use native.Mathlib.Numerals.{add-one}
 use native.Mathlib.Omega.{arith}
 use native.Mathlib.Decide.{ℕ-discrete}
 use lib.ListN.{length, getD, set, length-set}
@@ -17,7 +16,7 @@ use Rattle.algebra.specs.Field.{Field}
 use Rattle.algebra.specs.Series as Ser
 use Rattle.algebra.specs.Series.{Series}
 use Rattle.algebra.proofs.Product.{tl-at}
-use Rattle.algebra.proofs.Loop.{dot, ⊛-dot}
+use Rattle.algebra.proofs.Loop.{⊛-dot}
 use Rattle.algebra.proofs.Derivative.{deriv, deriv-zero, deriv-one, deriv-two}
 use Rattle.field.specs.Octet as Octet
 use Rattle.field.specs.Octet.Laws.{sum-octet, product-octet}

@@ -11,3 +11,4 @@ pub mod Stepping
 pub mod Searching
 pub mod Correcting
 pub mod Repairing
+pub mod Theorems

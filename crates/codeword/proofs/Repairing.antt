@@ -9,7 +9,7 @@
 -- Assumes nothing.
 use mathlib.Core.Path.{_≡_, refl, sym, ap, ap₂, _∙_}
 use mathlib.Core.Logic.{_≢_, inr}
-use mathlib.Core.Bool.{Bool, true, false, _&&_}
+use mathlib.Core.Bool.{true}
 use mathlib.Core.List.{List, _++_}
 use Prim.Native.Nat.{ℕ, suc, _+_, _*_, _-_, _≤_, _<_}
 use native.Mathlib.Omega.{arith}
@@ -18,6 +18,7 @@ use borrow.Author.Tests.{le-leb, lt-ltb, leb-true, ltb-true}
 use lib.Dec.{leb, ltb}
 use lib.ListN.{length, getD, take, drop, length-drop, List·getD-eq-default, take-append-drop}
 use lib.Seq.{length-take-le, getD-take, ext-getD, getD-drop}
+use Rattle.octets.specs.Tests.{three-true}
 use Rattle.octets.specs.Written.{written, written-length, written-inside, written-outside}
 use Rattle.algebra.specs.Field.{Field}
 use Rattle.algebra.specs.Series.{Series, Operations, operations}
@@ -222,13 +223,9 @@ pub reads-true : (n e room : ℕ) → n ≤ 255 → 2 * e < n → n ≤ room →
 reads-true n e room a b c = rw (le-leb n 255 a, lt-ltb (2 * e) n b, le-leb n room c)
 
 pub reads-all : (n e room : ℕ) → reads n e room ≡ true → (n ≤ 255) × (2 * e < n) × (n ≤ room)
-reads-all n e room h = go (leb n 255) (ltb (2 * e) n) (leb n room) refl refl refl h
-  where
-    go : (a b c : Bool) → leb n 255 ≡ a → ltb (2 * e) n ≡ b → leb n room ≡ c → a && b && c ≡ true → (n ≤ 255) × (2 * e < n) × (n ≤ room)
-    go true true true p q r h = (leb-true n 255 p, ltb-true (2 * e) n q, leb-true n room r)
-    go true true false p q r h = let z : _≡_ {A = ℕ} 0 1 = cc in absurd (omega arith)
-    go true false c p q r h = let z : _≡_ {A = ℕ} 0 1 = cc in absurd (omega arith)
-    go false b c p q r h = let z : _≡_ {A = ℕ} 0 1 = cc in absurd (omega arith)
+reads-all n e room h =
+    let t = three-true (leb n 255) (ltb (2 * e) n) (leb n room) h in
+    (leb-true n 255 (t .0), ltb-true (2 * e) n (t .1), leb-true n room (t .2))
 
 pub refused-lost : (e : ℕ) (w before : List ℕ) → ((length w ≤ 255) × (2 * e < length w) × (length w ≤ length before) → ⊥) → OutOfReachIs e w before before
 refused-lost e w before no-fit = record { none = λ h. absurd (no-fit (reads-all (length w) e (length before) h)); same = refl }

@@ -6,7 +6,7 @@
 -- Assumes nothing.
 use mathlib.Core.Path.{_≡_, refl, sym, ap, ap₂, _∙_, subst}
 use mathlib.Core.List.{List}
-use Prim.Native.Nat.{ℕ, zero, suc, _+_, _-_, _≤_, _<_}
+use Prim.Native.Nat.{ℕ, suc, _+_, _-_, _<_}
 use native.Mathlib.Numerals.{add-one}
 use native.Mathlib.Omega.{arith}
 use native.Mathlib.Decide.{ℕ-discrete, decLt}
@@ -16,9 +16,7 @@ use Rattle.algebra.specs.Field.{Field}
 use Rattle.algebra.proofs.Ring.{⊕-comm, ⊙-comm}
 use Rattle.algebra.proofs.Value.{ev, ev-zero}
 use Rattle.algebra.proofs.Loop.{from, from-zero, horner}
-use Rattle.algebra.proofs.Repair.{Search}
 use Rattle.field.specs.Octet as Octet
-use Rattle.field.specs.Octet.Laws.{power-wrap}
 use Rattle.codeword.specs.Element.{elements, element, octet}
 use Rattle.codeword.specs.Element.Laws.{octet-element, octet-same, octet-add, octet-mul, octet-nil}
 use Rattle.codeword.specs.Places.{places, inverses}

@@ -7,27 +7,27 @@
 --   held-done      after the last
 --
 -- Assumes nothing.
-use mathlib.Core.Path.{_≡_, refl, sym, ap, ap₂, fun-ext, _∙_}
+use mathlib.Core.Path.{_≡_, refl, sym, ap, fun-ext, _∙_}
 use mathlib.Core.Logic.{_≢_}
 use mathlib.Core.List.{List}
 use Prim.Native.Nat.{ℕ, zero, suc, _+_, _-_, _≤_, _<_}
 use native.Mathlib.Numerals.{add-one}
 use native.Mathlib.Omega.{arith}
 use lib.Dec.{lit<}
-use lib.ListN.{length, getD, set}
-use lib.Seq.{getD-set-same, getD-set-other}
+use lib.ListN.{set}
+use lib.Seq.{getD-set-same}
 use Rattle.algebra.specs.Field.{Field}
-use Rattle.algebra.specs.Series.{Series, Operations, operations}
+use Rattle.algebra.specs.Series.{Operations, operations}
 use Rattle.algebra.specs.Polynomial.{raised}
 use Rattle.algebra.proofs.Ring.{⊙-comm, ⊙-assoc, ⊙-inv, ⊙-𝟙}
 use Rattle.algebra.proofs.Product.{unit-zero, unit-suc}
 use Rattle.algebra.proofs.Polynomial.{raised-zero, raised-suc}
 use Rattle.algebra.proofs.Loop.{⊛-dot-below}
-use Rattle.algebra.proofs.Berlekamp.{State, start, step-zero, step-keep, step-grow}
+use Rattle.algebra.proofs.Berlekamp.{start, step-zero, step-keep, step-grow}
 use Rattle.field.specs.Octet as Octet
-use Rattle.field.specs.Octet.Laws.{product-octet, inverse-octet}
-use Rattle.codeword.specs.Element.{elements, element, octet}
-use Rattle.codeword.specs.Element.Laws.{octet-lt, octet-element, element-octet, octet-nil, element-product, element-inverse, element-zero, element-one, element-ne}
+use Rattle.field.specs.Octet.Laws.{inverse-octet}
+use Rattle.codeword.specs.Element.{elements, element}
+use Rattle.codeword.specs.Element.Laws.{octet-lt, element-octet, element-product, element-inverse, element-zero, element-one, element-ne}
 use Rattle.codeword.specs.Places.{places}
 use Rattle.codeword.specs.Locator.{Held, Mended, LocatorIs, discrepancyOf}
 use Rattle.codeword.proofs.Zeros.{zeros, zeros-at, octets-zeros, octets-set}

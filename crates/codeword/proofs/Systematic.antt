@@ -4,19 +4,21 @@
 --   codeWord-parity      and in a code word that begins with the message the rest is its parity
 --   parity-unique        which is the only one
 --   encoded-unique       any two answers that encoding's promise allows are equal, what is left in the lent octets included
---   encodes-empty, encodes-long, encodes-short    what does not fit
+--   encodes-all                                   what fits
+--   encodes-empty, encodes-long, encodes-short    what does not
 --   encoded-not, encoded-done                     the two cases of the promise
 --
 -- Assumes nothing.
 use mathlib.Core.Path.{_≡_, refl, sym, ap, _∙_, subst}
-use mathlib.Core.Bool.{Bool, true, false, _&&_}
+use mathlib.Core.Bool.{Bool, true, false}
 use mathlib.Core.List.{List, [], _∷_, _++_}
 use Prim.Native.Nat.{ℕ, zero, suc, _+_, _*_, _≤_, _<_}
 use native.Mathlib.Omega.{arith}
-use borrow.Author.Tests.{le-ltb, lt-ltb, lt-leb, le-leb}
+use borrow.Author.Tests.{le-ltb, lt-ltb, lt-leb, le-leb, ltb-true, leb-true}
 use lib.Dec.{leb, ltb}
 use lib.ListN.{length, take}
 use lib.Seq.{length-take-le}
+use Rattle.octets.specs.Tests.{three-true, first-false, second-false, third-false}
 use Rattle.octets.specs.Written.{written}
 use Rattle.algebra.specs.Polynomial.{polynomial, raised}
 use Rattle.algebra.proofs.Roots.{below-rooted, rooted-top}
@@ -81,26 +83,14 @@ pub register-parity : (e : ℕ) (u p : List ℕ) → 2 * e ≤ length p → Regi
 unfolding generator
 register-parity e u p l r = record { long = length-take-le (2 * e) p l; octets = octets-take (2 * e) p (r .octets); remainder = r .remainder }
 
-and-first : (a b c : Bool) → a ≡ false → a && b && c ≡ false
-and-first a b c e = rw e
-
-and-second : (a b c : Bool) → b ≡ false → a && b && c ≡ false
-and-second true b c e = rw e
-and-second false b c e = refl
-
-and-third : (a b c : Bool) → c ≡ false → a && b && c ≡ false
-and-third true true c e = e
-and-third true false c e = refl
-and-third false b c e = refl
-
 pub encodes-empty : (k e room : ℕ) → k ≡ 0 → encodes k e room ≡ false
-encodes-empty k e room h = and-first (ltb 0 k) _ _ (le-ltb 0 k (omega arith))
+encodes-empty k e room h = first-false (ltb 0 k) _ _ (le-ltb 0 k (omega arith))
 
 pub encodes-long : (k e room : ℕ) → 255 < k + 2 * e → encodes k e room ≡ false
-encodes-long k e room h = and-second (ltb 0 k) _ _ (lt-leb (k + 2 * e) 255 h)
+encodes-long k e room h = second-false (ltb 0 k) _ _ (lt-leb (k + 2 * e) 255 h)
 
 pub encodes-short : (k e room : ℕ) → room < k + 2 * e → encodes k e room ≡ false
-encodes-short k e room h = and-third (ltb 0 k) (leb (k + 2 * e) 255) _ (lt-leb (k + 2 * e) room h)
+encodes-short k e room h = third-false (ltb 0 k) (leb (k + 2 * e) 255) _ (lt-leb (k + 2 * e) room h)
 
 pub encoded-unique : (e : ℕ) (u before : List ℕ) (n m : ℕ) (after left : List ℕ)
     → Encoded e u before n after → Encoded e u before m left → (n ≡ m) × (after ≡ left)
@@ -121,3 +111,8 @@ encoded-done e n u before p after some all room r c w =
   where
     fits : encodes (length u) e (length before) ≡ true
     fits = rw (lt-ltb 0 (length u) some, le-leb (length u + 2 * e) 255 all, le-leb (length u + 2 * e) (length before) room)
+
+pub encodes-all : (k e room : ℕ) → encodes k e room ≡ true → (0 < k) × (k + 2 * e ≤ 255) × (k + 2 * e ≤ room)
+encodes-all k e room h =
+    let t = three-true (ltb 0 k) (leb (k + 2 * e) 255) (leb (k + 2 * e) room) h in
+    (ltb-true 0 k (t .0), leb-true (k + 2 * e) 255 (t .1), leb-true (k + 2 * e) room (t .2))

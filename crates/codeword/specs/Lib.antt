@@ -8,3 +8,4 @@ pub mod Syndromes
 pub mod Locator
 pub mod Search
 pub mod Values
+pub mod Claims

@@ -9,10 +9,8 @@
 -- Assumes nothing.
 use mathlib.Core.Path.{_≡_}
 use mathlib.Core.List.{List}
-use Prim.Native.Nat.{ℕ, zero, suc, _≤_, _<_}
+use Prim.Native.Nat.{ℕ, suc, _≤_, _<_}
 use lib.ListN.{length, getD}
-use Rattle.algebra.specs.Field.{Field}
-use Rattle.algebra.specs.Series as Ser
 use Rattle.algebra.specs.Series.{Series}
 use Rattle.algebra.specs.Polynomial.{raised}
 use Rattle.algebra.proofs.Berlekamp.{State}

@@ -9,7 +9,6 @@
 use mathlib.Core.List.{List}
 use Prim.Native.Nat.{ℕ, suc, _-_}
 use lib.ListN.{length, getD}
-use Rattle.algebra.specs.Field.{Field}
 use Rattle.algebra.specs.Series.{Series}
 use Rattle.algebra.specs.Power.{pow}
 use Rattle.algebra.specs.Polynomial.{polynomial}

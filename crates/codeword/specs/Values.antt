@@ -10,11 +10,10 @@ use mathlib.Core.Path.{_≡_}
 use mathlib.Core.List.{List}
 use Prim.Native.Nat.{ℕ, _<_}
 use lib.ListN.{length, getD}
-use Rattle.algebra.specs.Field.{Field}
 use Rattle.algebra.specs.Series as Ser
 use Rattle.algebra.proofs.Derivative.{deriv}
 use Rattle.field.specs.Octet as Octet
-use Rattle.codeword.specs.Element.{elements, element, octet}
+use Rattle.codeword.specs.Element.{elements, octet}
 use Rattle.codeword.specs.CodeWord.{Octets}
 use Rattle.codeword.specs.Places.{places, inverses}
 use Rattle.codeword.specs.Search.{valueOf}

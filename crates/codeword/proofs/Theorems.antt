@@ -1,0 +1,109 @@
+-- The claims of specs/Claims.antt.
+--
+-- Assumes nothing.
+use mathlib.Core.Path.{_≡_, refl, sym, ap, ap₂, _∙_, subst}
+use mathlib.Core.Bool.{Bool, true}
+use mathlib.Core.List.{List, _++_}
+use Prim.Native.Nat.{ℕ, _+_, _*_}
+use native.Mathlib.Omega.{arith}
+use lib.ListN.{length, take, drop, length-append, length-drop, take-append-drop}
+use lib.Seq.{take-take}
+use Rattle.octets.specs.Written.{written, written-part, written-behind}
+use Rattle.codeword.specs.CodeWord.{distance}
+use Rattle.codeword.specs.Encoding.{encodes, Done, Left, either, Encoded}
+use Rattle.codeword.specs.Claims.{EncodedIsCodeWord, EncodedIsOnly, CodeWordsApart, ZeroSyndromes, FoundExactly, FoundIsIt, NeverSecond, LostUntouched, EncodedUnique, RepairedUnique}
+use Rattle.codeword.specs.declared.Reach.the-variants.{Found, OutOfReach}
+use Rattle.codeword.proofs.Criterion.{codeWord-zero, zero-codeWord}
+use Rattle.codeword.proofs.Distance.{codeWords-apart, within-unique}
+use Rattle.codeword.proofs.Systematic.{parity-codeWord, codeWord-parity, parity-unique, encoded-unique, encodes-all}
+use Rattle.codeword.proofs.Repairing.{reads-all}
+
+-- ---- what was written at the front
+
+front : (before s : List ℕ) → Prim.Native.Nat._≤_ (length s) (length before) → take (length s) (written before 0 s) ≡ s
+front before s h = written-part before 0 s (omega arith)
+
+rest : (before s : List ℕ) (n : ℕ) → n ≡ length s → Prim.Native.Nat._≤_ n (length before) → drop n (written before 0 s) ≡ drop n before
+rest before s n e h = let z : n ≡ 0 + length s = omega arith in rw z (written-behind before 0 s (omega arith))
+
+-- ---- encoding
+
+done : (e : ℕ) (u before after : List ℕ) (n : ℕ) → encodes (length u) e (length before) ≡ true → Encoded e u before n after → Done e u before n after
+done e u before after n h p = subst (λ (b : Bool). either b (Done e u before n after) (Left n before after)) h p
+
+module _ (e : ℕ) (u before after : List ℕ) (n : ℕ) (fits : encodes (length u) e (length before) ≡ true) (p : Encoded e u before n after) where
+  d : Done e u before n after
+  d = done e u before after n fits p
+
+  n-is : n ≡ length (u ++ d .parity)
+  n-is = d .count ∙ ap (λ (k : ℕ). length u + k) (sym (d .right .long)) ∙ sym (length-append u (d .parity))
+
+  room : Prim.Native.Nat._≤_ (length (u ++ d .parity)) (length before)
+  room = omega (arith, encodes-all (length u) e (length before) fits .2, n-is, d .count)
+
+  whole : take n after ≡ u ++ d .parity
+  whole = ap₂ take n-is (d .written-is) ∙ front before (u ++ d .parity) room
+
+pub encodedIsCodeWord : EncodedIsCodeWord
+encodedIsCodeWord e u before after n o fits p =
+    let r = d e u before after n fits p in
+    let w = whole e u before after n fits p in
+    (
+      r .count,
+      rw w (parity-codeWord e u (r .parity) o (r .right)),
+      sym (take-take (length u) n after (omega (arith, r .count))) ∙ ap (take (length u)) w ∙ lib.Seq.take-append-seam u (r .parity),
+      ap (drop n) (r .written-is) ∙ rest before (u ++ r .parity) n (n-is e u before after n fits p) (omega (arith, n-is e u before after n fits p, room e u before after n fits p)),
+    )
+
+pub encodedIsOnly : EncodedIsOnly
+encodedIsOnly e u before after n fits p c l code begins =
+    let r = d e u before after n fits p in
+    let split : c ≡ u ++ drop (length u) c = sym (take-append-drop (length u) c) ∙ ap (λ (x : List ℕ). x ++ drop (length u) c) begins in
+    let long : length (drop (length u) c) ≡ 2 * e = length-drop (length u) c ∙ omega (arith, r .count) in
+    split ∙ ap (λ (x : List ℕ). u ++ x) (parity-unique e u _ _ (codeWord-parity e u (drop (length u) c) long (rw split at code)) (r .right))
+    ∙ sym (whole e u before after n fits p)
+
+pub encodedUnique : EncodedUnique
+encodedUnique = encoded-unique
+
+-- ---- code words
+
+pub codeWordsApart : CodeWordsApart
+codeWordsApart = codeWords-apart
+
+pub zeroSyndromes : ZeroSyndromes
+zeroSyndromes e w h o = (codeWord-zero e w, zero-codeWord e w h o)
+
+pub neverSecond : NeverSecond
+neverSecond = within-unique
+
+-- ---- the repair
+
+pub foundExactly : FoundExactly
+foundExactly e w before after (Found k) fits p = (λ t. (p .found, p .within), λ c. refl)
+foundExactly e w before after OutOfReach fits p = (
+  (λ t. let z : _≡_ {A = ℕ} 0 1 = cc in absurd (omega arith)),
+  (λ c. absurd (p .none fits (c .0) (c .1))),
+)
+
+pub foundIsIt : FoundIsIt
+foundIsIt e w before after changed p c h =
+    let f = reads-all (length w) e (length before) (p .fits) in
+    let same : p .found ≡ c = within-unique e w (p .found) c (f .0) (p .within) h in
+    (
+      (rw (← p .within .long) (ap (take (length (p .found))) (p .written-is) ∙ front before (p .found) (omega (arith, p .within .long)))) ∙ same,
+      p .count ∙ ap (distance w) same,
+      ap (drop (length w)) (p .written-is) ∙ rest before (p .found) (length w) (sym (p .within .long)) (f .2),
+    )
+
+pub lostUntouched : LostUntouched
+lostUntouched e w before after p = p .same
+
+pub repairedUnique : RepairedUnique
+repairedUnique e w before (Found k) (Found j) after left p q =
+    let f = reads-all (length w) e (length before) (p .fits) in
+    let same : p .found ≡ q .found = within-unique e w (p .found) (q .found) (f .0) (p .within) (q .within) in
+    (ap Found (p .count ∙ ap (distance w) same ∙ sym (q .count)), p .written-is ∙ ap (written before 0) same ∙ sym (q .written-is))
+repairedUnique e w before (Found k) OutOfReach after left p q = absurd (q .none (p .fits) (p .found) (p .within))
+repairedUnique e w before OutOfReach (Found j) after left p q = absurd (p .none (q .fits) (q .found) (q .within))
+repairedUnique e w before OutOfReach OutOfReach after left p q = (refl, p .same ∙ sym (q .same))

