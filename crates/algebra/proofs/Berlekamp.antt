@@ -15,13 +15,13 @@ use Prim.Native.Nat.{ℕ, zero, suc, _+_, _-_, _≤_, _<_}
 use native.Mathlib.Omega.{arith}
 use native.Mathlib.Decide.{decLe}
 use Rattle.algebra.specs.Field.{Field}
-use Rattle.algebra.proofs.Ring.{ring, ⊕-self, ⊙-assoc, ⊙-comm, ⊙-inv, ⊙-𝟙}
+use Rattle.algebra.proofs.Ring.{ring, ⊕-self}
 use Rattle.algebra.specs.Series.{Series, Below, Operations, operations}
 use Rattle.algebra.proofs.Product.{⊞-at, ⊡-at, sh-zero, sh-suc, unit-zero, ⊞-⊛, ⊡-⊛, sh-⊛, ⊛-local, below-sh}
 use Rattle.algebra.proofs.Value.{ev, ev-more}
-use Rattle.algebra.proofs.Roots.{Distinct, roots}
+use Rattle.algebra.proofs.Roots.{Distinct, roots, below-unit}
 use Rattle.algebra.proofs.Recurrence.{Annihilates, massey}
-use Rattle.algebra.proofs.Locator.{Inverses, synd, loc, loc-one, below-loc, below-unit, loc-annihilates, vanishes, inverses-distinct, locator-unique}
+use Rattle.algebra.proofs.Locator.{Inverses, synd, loc, loc-one, below-loc, loc-annihilates, vanishes, inverses-distinct, locator-unique}
 
 module _ (𝓕 : Field) where
   infixl 60 _⊕_
@@ -29,7 +29,7 @@ module _ (𝓕 : Field) where
   infixl 60 _⊞_
   infixl 70 _⊛_
   infixr 80 _⊡_
-  open Field 𝓕 using (Carrier as F, add as _⊕_, mul as _⊙_, nil as 𝟘, one as 𝟙, inv)
+  open Field 𝓕 using (Carrier as F, add as _⊕_, mul as _⊙_, nil as 𝟘, one as 𝟙)
   open Operations (operations 𝓕) using (_⊞_, _⊡_, _⊛_, unit, sh)
 
   pub record State (S C B : Series 𝓕) (r L : ℕ) (b : F) : Type 0 where
@@ -165,30 +165,3 @@ module _ (𝓕 : Field) where
 
       same : L ≡ v
       same = elim (decLe v L) [ yes p ↦ omega (arith, at-most) | no p ↦ absurd (𝓕 .one-ne-nil (long (omega arith))) ]
-
-  -- the steps cover every case: a run of n of them
-  pub record Run (S : Series 𝓕) (n : ℕ) : Type 0 where
-    pub C : Series 𝓕
-    pub B : Series 𝓕
-    pub L : ℕ
-    pub b : F
-    pub state : State S C B n L b
-
-  pub run : (S : Series 𝓕) (n : ℕ) → Run S n
-  run S zero = record { C = unit; B = sh unit; L = 0; b = 𝟙; state = start S }
-  run S (suc n) = next (run S n)
-    where
-      next : Run S n → Run S (suc n)
-      next g = go (𝓕 .decide ((g .C ⊛ S) n) 𝟘) (decLe (g .L + g .L) n)
-        where
-          q : F
-          q = (g .C ⊛ S) n ⊙ inv (g .b)
-
-          q-is : q ⊙ g .b ≡ (g .C ⊛ S) n
-          q-is = ⊙-assoc 𝓕 _ _ _ ∙ (rw (⊙-comm 𝓕 (inv (g .b)) (g .b), ⊙-inv 𝓕 (g .b) (g .state .b-ne)) (⊙-𝟙 𝓕 _))
-
-          go : Dec ((g .C ⊛ S) n ≡ 𝟘) → Dec (g .L + g .L ≤ n) → Run S (suc n)
-          go (yes d) (yes l) = record { C = g .C; B = sh (g .B); L = g .L; b = g .b; state = step-zero S _ _ n _ _ (g .state) d }
-          go (yes d) (no l) = record { C = g .C; B = sh (g .B); L = g .L; b = g .b; state = step-zero S _ _ n _ _ (g .state) d }
-          go (no d) (no l) = record { C = g .C ⊞ q ⊡ g .B; B = sh (g .B); L = g .L; b = g .b; state = step-keep S _ _ n _ _ (g .state) q q-is (omega arith) }
-          go (no d) (yes l) = record { C = g .C ⊞ q ⊡ g .B; B = sh (g .C); L = suc n - g .L; b = (g .C ⊛ S) n; state = step-grow S _ _ n _ _ (g .state) q q-is d l }

@@ -19,9 +19,9 @@ use Rattle.algebra.specs.Field.{Field}
 use Rattle.algebra.proofs.Ring.{ring, ⊙-comm, ⊙-assoc, 𝟘-⊙, ⊙-𝟘, ⊕-𝟘, 𝟘-⊕, ⊕-self, eq-of-sum, factor}
 use Rattle.algebra.specs.Series as Ser
 use Rattle.algebra.specs.Series.{Series, Below, Operations, operations}
-use Rattle.algebra.proofs.Product.{below-tl, below-⊞, below-⊡, below-sh, below-more, tl-at, ⊞-at, ⊡-at, sh-zero, unit-zero, unit-suc, ⊛-zero, ⊛-suc, ⊛-⊞, ⊛-⊡, ⊞-⊛, ⊡-⊛, sh-⊛, none-at, none-⊛, ⊛-comm}
+use Rattle.algebra.proofs.Product.{below-tl, below-⊞, below-⊡, below-sh, below-more, tl-at, ⊞-at, ⊡-at, sh-zero, unit-zero, ⊛-zero, ⊛-suc, ⊛-⊞, ⊛-⊡, ⊞-⊛, ⊡-⊛, sh-⊛, none-at, none-⊛, ⊛-comm}
 use Rattle.algebra.proofs.Value.{ev, ev-suc, ev-one, ev-⊞, ev-⊡, ev-sh, ev-more}
-use Rattle.algebra.proofs.Roots.{Distinct, roots}
+use Rattle.algebra.proofs.Roots.{Distinct, roots, below-unit}
 use Rattle.algebra.proofs.Recurrence.{Annihilates}
 use Rattle.algebra.specs.Power.{pow}
 use Rattle.algebra.proofs.PowerSum.{pow-suc, psum, psum-zero, psum-suc, psum-none, vandermonde}
@@ -172,16 +172,12 @@ module _ (𝓕 : Field) where
   unfolding prod
   prod-suc v X x = refl
 
-  pub below-unit : Below 𝓕 1 unit
-  below-unit zero l = absurd (omega arith)
-  below-unit (suc k) l = unit-suc 𝓕 k
-
   pub loc-one : (v : ℕ) (X : Series 𝓕) → loc v X 0 ≡ 𝟙
   loc-one zero X = rw loc-zero (unit-zero 𝓕)
   loc-one (suc v) X = rw (loc-suc, lin-zero) (loc-one v (tl X))
 
   pub below-loc : (v : ℕ) (X : Series 𝓕) → Below 𝓕 (suc v) (loc v X)
-  below-loc zero X = rw loc-zero below-unit
+  below-loc zero X = rw loc-zero (below-unit 𝓕)
   below-loc (suc v) X = rw loc-suc (below-lin (suc v) (X 0) _ (below-loc v (tl X)))
 
   pub ev-loc : (v : ℕ) (X : Series 𝓕) (x : F) → ev 𝓕 (suc v) (loc v X) x ≡ prod v X x

@@ -8,11 +8,9 @@
 --
 -- Assumes nothing.
 use mathlib.Core.Path.{_≡_, refl, _∙_}
-use mathlib.Core.List.{List}
 use Prim.Native.Nat.{ℕ, zero, suc, _-_, _≤_, _<_}
 use native.Mathlib.Omega.{arith}
 use native.Mathlib.Decide.{decLe}
-use lib.ListN.{getD}
 use Rattle.algebra.specs.Field.{Field}
 use Rattle.algebra.proofs.Ring.{ring}
 use Rattle.algebra.specs.Series.{Series, Below, Operations, operations}
@@ -84,11 +82,3 @@ module _ (𝓕 : Field) where
   -- acc = acc x + fᵢ, for i from d - 1 down to 0
   pub horner : (d i : ℕ) (f : Series 𝓕) (x : F) → i < d → ev 𝓕 (d - i) (from i f) x ≡ f i ⊕ x ⊙ ev 𝓕 (d - suc i) (from (suc i) f) x
   horner d i f x l = let e : d - i ≡ suc (d - suc i) = omega arith in rw (e, ev-suc, from-at, tl-from)
-
-  -- a list, followed by zeros
-  unfoldable pub series : List F → Series 𝓕
-  series l n = getD l n 𝟘
-
-  pub series-at : (l : List F) (n : ℕ) → series l n ≡ getD l n 𝟘
-  unfolding series
-  series-at l n = refl

@@ -16,7 +16,7 @@ use native.Mathlib.Omega.{arith}
 use Rattle.algebra.specs.Field.{Field}
 use Rattle.algebra.specs.Series as Ser
 use Rattle.algebra.specs.Series.{Series, Below, Operations, operations}
-use Rattle.algebra.proofs.Ring.{ring, ⊙-𝟘, ⊕-𝟘}
+use Rattle.algebra.proofs.Ring.{ring, ⊕-𝟘}
 
 module _ (𝓕 : Field) where
   infixl 60 _⊕_
@@ -191,10 +191,6 @@ module _ (𝓕 : Field) where
       rw (⊛-suc, below-none (tl f) (below-tl 0 f h), none-⊛-at) (⊕-𝟘 𝓕 _)
   window (suc d) (suc r) f g h w =
       rw (⊛-suc, window d r (tl f) g (below-tl (suc d) f h) (λ k l m. w k (omega arith) (omega arith)), w r (omega arith) (omega arith)) (simp ring)
-
-  -- the product of two polynomials
-  pub below-⊛ : (a b : ℕ) (f g : Series 𝓕) → Below 𝓕 (suc a) f → Below 𝓕 b g → Below 𝓕 (a + b) (f ⊛ g)
-  below-⊛ a b f g h k i l = window a i f g h (λ j m n. k j (omega arith)) ∙ (rw (k i (omega arith)) (⊙-𝟘 𝓕 _))
 
   -- a coefficient of the product sees only the coefficients up to it
   pub ⊛-local : (f g h : Series 𝓕) (n : ℕ) → ((k : ℕ) → k ≤ n → g k ≡ h k) → (f ⊛ g) n ≡ (f ⊛ h) n

@@ -5,7 +5,7 @@
 --   ⊙-assoc, ⊙-comm, ⊙-left, ⊙-𝟙, 𝟙-⊙    the product: associative, commutative, with one
 --   ⊙-𝟘, 𝟘-⊙, ⊙-⊕, ⊕-⊙                   zero, and distributive
 --   eq-of-sum, sum-of-eq, sum-ne           a + b = 0 says a = b
---   ⊙-inv, inv-ne                          inverses
+--   ⊙-inv                                  inverses
 --   factor, mul-ne                         no divisors of zero
 --   ring                                   for `simp ring`, which sorts both sides of an equation: with a + a = 0 it brings any
 --                                          two equal sums of products to one form
@@ -93,8 +93,5 @@ module _ (𝓕 : Field) where
 
   pub mul-ne : (a b : F) → a ≢ 𝟘 → b ≢ 𝟘 → a ⊙ b ≢ 𝟘
   mul-ne a b h k e = k (factor a b h e)
-
-  pub inv-ne : (a : F) → a ≢ 𝟘 → inv a ≢ 𝟘
-  inv-ne a h e = 𝓕 .one-ne-nil (sym (⊙-inv a h) ∙ ap (λ x. a ⊙ x) e ∙ ⊙-𝟘 a)
 
 pub ruleset ring = (⊕-assoc, ⊕-comm, ⊕-left, ⊕-𝟘, 𝟘-⊕, ⊕-self, ⊕-cancel, ⊙-assoc, ⊙-comm, ⊙-left, ⊙-𝟙, 𝟙-⊙, ⊙-𝟘, 𝟘-⊙, ⊙-⊕, ⊕-⊙)

@@ -4,7 +4,6 @@
 --   quo-splits       f = (x - r) quo + f(r)
 --   Distinct d X     X₀, .., X₍d₋₁₎ are distinct
 --   roots            d distinct points at which the first d coefficients evaluate to zero: all d are zero
---   roots-none       degree below d and d distinct roots: the zero polynomial
 --   divides-root     what (x - X₀) .. (x - Xₘ₋₁) divides is zero at each Xᵢ
 --   roots-divide     and what is zero at each of the distinct Xᵢ it divides
 --
@@ -80,10 +79,6 @@ module _ (𝓕 : Field) where
       at : (k : ℕ) → k < d → ev 𝓕 d (quo d f (X 0)) (tl X k) ≡ 𝟘
       at k l = rw tl-at (factor 𝓕 (X (suc k) ⊕ X 0) _ (sum-ne 𝓕 _ _ (λ p. D 0 (suc k) (omega arith) (omega arith) (sym p)))
           (sym (factor-theorem d f (X 0) (X (suc k))) ∙ (rw (e (suc k) (omega arith), e 0 (omega arith)) (simp ring))))
-
-  -- degree < d and d distinct roots: the zero polynomial
-  pub roots-none : (d : ℕ) (f X : Series 𝓕) → Below 𝓕 d f → Distinct d X → ((k : ℕ) → k < d → ev 𝓕 d f (X k) ≡ 𝟘) → (k : ℕ) → f k ≡ 𝟘
-  roots-none d f X h D e k = elim (decLe d k) [ yes l ↦ h k l | no n ↦ roots d f X D e k (omega arith) ]
 
   -- ---- the factor x - r
 

@@ -2,10 +2,10 @@
 --
 --   GeneratorTo m j g                 g₀, .., g₍ⱼ₋₁₎ are right
 --   generator-start, generator-next   from the highest coefficient down, each from the one above it
---   turned-start, turned-next         one octet of the register after another
+--   turned-next                       one octet of the register after another
 --
 -- Assumes nothing.
-use mathlib.Core.Path.{_≡_, refl, sym, ap, ap₂, _∙_}
+use mathlib.Core.Path.{_≡_, sym, ap, ap₂, _∙_}
 use mathlib.Core.Logic.{_≢_}
 use mathlib.Core.List.{List}
 use Prim.Native.Nat.{ℕ, suc, _+_, _-_, _≤_, _<_}
@@ -106,9 +106,6 @@ pub generator-done : (m j : ℕ) (g : List ℕ) → m < j → GeneratorTo m j g 
 generator-done m j g h t = record { octets = t .octets; coefficients = λ i l. t .coefficients i (omega arith) }
 
 -- ---- a turn of the register
-
-pub turned-start : (g : List ℕ) (a : ℕ) (p : List ℕ) → Turned g 0 a p p
-turned-start g a p = record { long = refl; used = λ j l. absurd (omega arith); unused = λ j l. refl }
 
 pub turned-next : (g : List ℕ) (a f v : ℕ) (p q : List ℕ) (j : ℕ) → Turned g j a p q → j < length p
     → f ≡ Octet.sum (getD p 0 0) a → v ≡ Octet.sum (getD q (j + 1) 0) (Octet.product f (getD g (j + 1) 0))

@@ -47,8 +47,7 @@ module _ (e : ℕ) (u before after : List ℕ) (n : ℕ) (fits : encodes (length
 pub encodedIsCodeWord : EncodedIsCodeWord
 encodedIsCodeWord e u before after n o fits p =
     let r = d e u before after n fits p in
-    let w = whole e u before after n fits p in
-    (
+    let w = whole e u before after n fits p in (
       r .count,
       rw w (parity-codeWord e u (r .parity) o (r .right)),
       sym (take-take (length u) n after (omega (arith, r .count))) ∙ ap (take (length u)) w ∙ lib.Seq.take-append-seam u (r .parity),
@@ -89,8 +88,7 @@ foundExactly e w before after OutOfReach fits p = (
 pub foundIsIt : FoundIsIt
 foundIsIt e w before after changed p c h =
     let f = reads-all (length w) e (length before) (p .fits) in
-    let same : p .found ≡ c = within-unique e w (p .found) c (f .0) (p .within) h in
-    (
+    let same : p .found ≡ c = within-unique e w (p .found) c (f .0) (p .within) h in (
       (rw (← p .within .long) (ap (take (length (p .found))) (p .written-is) ∙ front before (p .found) (omega (arith, p .within .long)))) ∙ same,
       p .count ∙ ap (distance w) same,
       ap (drop (length w)) (p .written-is) ∙ rest before (p .found) (length w) (sym (p .within .long)) (f .2),
