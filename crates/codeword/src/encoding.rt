@@ -2,51 +2,55 @@
 ghost use mathlib.Core.Path.{_≡_};
 ghost use Prim.Native.Nat.{_+_, _<_, _≤_};
 ghost use lib.ListN.{length};
+ghost use Rattle.field.specs.Octet.Table.{Tables};
 ghost use Rattle.codeword.specs.Register.{GeneratorIs, RegisterIs, Turned};
 
 // The coefficients of (x - α) .. (x - α^m), highest first, each from the one above it; zero where unused.
-pub fn generator(m: usize) -> [u8; 255]
+pub fn generator(m: usize, t: &[u8; 511]) -> [u8; 255]
     requires { ⌜ m < 255 ⌝ }
+    requires { ⌜ Tables (now t) ⌝ }
     ensures { λ r. ⌜ GeneratorIs m r ⌝ }
 {
     let mut g = [0u8; 255];
     g[0] = 1;
-    let last = field::power(m);
+    let last = field::power_by(m, t);
     let mut j = 1;
     while j <= m {
         let k = m - j;
-        let above = field::product(last, field::sum(field::power(k + 1), 1));
-        let below = field::sum(field::power(k), last);
-        let ratio = field::product(above, field::inverse(below));
-        g[j] = field::product(g[j - 1], ratio);
+        let above = field::product_by(last, field::sum(field::power_by(k + 1, t), 1), t);
+        let below = field::sum(field::power_by(k, t), last);
+        let ratio = field::product_by(above, field::inverse_by(below, t), t);
+        g[j] = field::product_by(g[j - 1], ratio, t);
         j += 1;
     }
     g
 }
 
 // One turn of the register: every octet moves up by one, and the feedback times the generator is added.
-fn turn(p: &mut [u8], g: &[u8], m: usize, a: u8)
+fn turn(p: &mut [u8], g: &[u8], m: usize, a: u8, t: &[u8; 511])
     requires { ⌜ (m < length (now p)) × (m < length (now g)) ⌝ }
+    requires { ⌜ Tables (now t) ⌝ }
     ensures { λ _. ⌜ Turned (now (g .entry)) m a (now (p .entry)) (now (p .exit)) ⌝ }
 {
     let feedback = field::sum(p[0], a);
     let mut j = 0;
     while j < m {
-        p[j] = field::sum(p[j + 1], field::product(feedback, g[j + 1]));
+        p[j] = field::sum(p[j + 1], field::product_by(feedback, g[j + 1], t));
         j += 1;
     }
 }
 
 // The remainder of x^m times the message by (x - α) .. (x - α^m), highest coefficient first; zero where unused.
-pub fn parity(message: &[u8], m: usize) -> [u8; 255]
+pub fn parity(message: &[u8], m: usize, t: &[u8; 511]) -> [u8; 255]
     requires { ⌜ m < 255 ⌝ }
+    requires { ⌜ Tables (now t) ⌝ }
     ensures { λ r. ⌜ RegisterIs m (now (message .entry)) r ⌝ }
 {
-    let g = generator(m);
+    let g = generator(m, t);
     let mut p = [0u8; 255];
     let mut i = 0;
     while i < message.len() {
-        turn(&mut p, &g, m, message[i]);
+        turn(&mut p, &g, m, message[i], t);
         i += 1;
     }
     p

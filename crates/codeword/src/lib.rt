@@ -9,6 +9,7 @@ ghost use lib.ListN.{length};
 ghost use mathlib.Core.Path.{_≡_};
 ghost use mathlib.Core.Bool.{true};
 ghost use Prim.Native.Nat.{_*_, _<_, _≤_};
+ghost use Rattle.field.specs.Octet.Table.{Tables};
 ghost use Rattle.codeword.specs.Encoding.{Encoded};
 ghost use Rattle.codeword.specs.Syndromes.{SyndromesAre};
 ghost use Rattle.codeword.specs.Repair.{Repaired};
@@ -38,34 +39,36 @@ pub fn encode(message: &[u8], e: usize, sent: &mut [u8]) -> usize
     if sent.len() < k + m {
         return 0;
     }
-    let p = encoding::parity(message, m);
+    let t = field::tables();
+    let p = encoding::parity(message, m, &t);
     octets::write(sent, 0, message);
     octets::write(sent, k, &p[..m]);
     k + m
 }
 
 // The code word within e octets of a word with the syndromes s, if there is one.
-fn decode(received: &[u8], s: &[u8], e: usize, repaired: &mut [u8]) -> Reach
+fn decode(received: &[u8], s: &[u8], e: usize, repaired: &mut [u8], t: &[u8; 511]) -> Reach
     requires { ⌜ (length (now received) ≤ 255) × (2 * e < length (now received)) × (length (now received) ≤ length (now repaired)) × SyndromesAre (2 * e) (now received) (now s) ⌝ }
+    requires { ⌜ Tables (now t) ⌝ }
     ensures { λ r. ⌜ Repaired e (now (received .entry)) (now (repaired .entry)) r (now (repaired .exit)) ⌝ }
 {
     let n = received.len();
-    let recurrence = locator::locator(s, 2 * e);
+    let recurrence = locator::locator(s, 2 * e, t);
     let l = recurrence.degree;
     if e < l {
         return Reach::OutOfReach;
     }
     let c = recurrence.coefficients;
-    let places = search::search(&c, l, n);
+    let places = search::search(&c, l, n, t);
     let count = places.count;
     if count != l {
         return Reach::OutOfReach;
     }
     let at = places.at;
-    let o = values::evaluator(&c, s, l);
+    let o = values::evaluator(&c, s, l, t);
     let d = values::derivative(&c, l);
     octets::write(repaired, 0, received);
-    values::correct(repaired, n, &at, l, &o, &d);
+    values::correct(repaired, n, &at, l, &o, &d, t);
     Reach::Found(l)
 }
 
@@ -87,10 +90,11 @@ pub fn repair(received: &[u8], e: usize, repaired: &mut [u8]) -> Reach
     if repaired.len() < n {
         return Reach::OutOfReach;
     }
-    let s = syndromes::syndromes(received, 2 * e);
+    let t = field::tables();
+    let s = syndromes::syndromes(received, 2 * e, &t);
     if syndromes::clean(&s, 2 * e) {
         octets::write(repaired, 0, received);
         return Reach::Found(0);
     }
-    decode(received, &s, e, repaired)
+    decode(received, &s, e, repaired, &t)
 }

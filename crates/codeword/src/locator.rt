@@ -2,6 +2,7 @@
 ghost use mathlib.Core.Path.{_≡_};
 ghost use Prim.Native.Nat.{suc, _+_, _<_, _≤_};
 ghost use lib.ListN.{length};
+ghost use Rattle.field.specs.Octet.Table.{Tables};
 ghost use Rattle.codeword.specs.Locator.{Held, Mended, LocatorIs, discrepancyOf};
 
 // What the loop keeps beside the recurrence c and the one from before its length last grew, b: the length of c, how far b is to be
@@ -19,40 +20,51 @@ pub struct Recurrence {
 }
 
 // c[0] s[r] + c[1] s[r - 1] + .. + c[l] s[r - l]: what the recurrence c of length l fails by at r.
-pub fn discrepancy(c: &[u8], s: &[u8], r: usize, l: usize) -> u8
+pub fn discrepancy(c: &[u8], s: &[u8], r: usize, l: usize, t: &[u8; 511]) -> u8
     requires { ⌜ (l ≤ r) × (r < length (now s)) × (l < length (now c)) ⌝ }
+    requires { ⌜ Tables (now t) ⌝ }
     ensures { λ d. ⌜ d ≡ discrepancyOf (now (c .entry)) (now (s .entry)) r l ⌝ }
 {
     let mut d: u8 = 0;
     let mut j = 0;
     while j <= l {
-        d = field::sum(d, field::product(c[j], s[r - j]));
+        d = field::sum(d, field::product_by(c[j], s[r - j], t));
         j += 1;
     }
     d
 }
 
 // Adds q x^shift b to c, as far as the coefficients below top go.
-fn mend(c: &mut [u8], b: &[u8], q: u8, shift: usize, top: usize)
+fn mend(c: &mut [u8], b: &[u8], q: u8, shift: usize, top: usize, t: &[u8; 511])
     requires { ⌜ (shift ≤ top) × (top ≤ length (now c)) × (top ≤ length (now b)) ⌝ }
+    requires { ⌜ Tables (now t) ⌝ }
     ensures { λ _. ⌜ Mended top q shift (now (c .entry)) (now (b .entry)) (now (c .exit)) ⌝ }
 {
     let mut j = shift;
     while j < top {
-        c[j] = field::sum(c[j], field::product(q, b[j - shift]));
+        c[j] = field::sum(c[j], field::product_by(q, b[j - shift], t));
         j += 1;
     }
 }
 
 // One step: the recurrence is made to hold at r too.
-fn step(s: &[u8], c: &mut [u8], b: &mut [u8], r: usize, top: usize, g: Progress) -> Progress
+fn step(
+    s: &[u8],
+    c: &mut [u8],
+    b: &mut [u8],
+    r: usize,
+    top: usize,
+    g: Progress,
+    t: &[u8; 511],
+) -> Progress
     requires { ⌜ (r + 1 < top) × (top ≤ 255) × (length (now s) ≡ 255) × Held (now s) (now c) (now b) r (g .long) (g .shift) (g .failed) ⌝ }
+    requires { ⌜ Tables (now t) ⌝ }
     ensures { λ o. ⌜ Held (now (s .entry)) (now (c .exit)) (now (b .exit)) (r + 1) (o .long) (o .shift) (o .failed) ⌝ }
 {
     let l = g.long;
     let shift = g.shift;
     let failed = g.failed;
-    let d = discrepancy(c, s, r, l);
+    let d = discrepancy(c, s, r, l, t);
     if d == 0 {
         return Progress {
             long: l,
@@ -60,11 +72,11 @@ fn step(s: &[u8], c: &mut [u8], b: &mut [u8], r: usize, top: usize, g: Progress)
             failed,
         };
     }
-    let q = field::product(d, field::inverse(failed));
+    let q = field::product_by(d, field::inverse_by(failed, t), t);
     if l + l <= r {
         let mut old = [0u8; 255];
         octets::write(&mut old, 0, c);
-        mend(c, b, q, shift, top);
+        mend(c, b, q, shift, top, t);
         octets::write(b, 0, &old);
         return Progress {
             long: r + 1 - l,
@@ -72,7 +84,7 @@ fn step(s: &[u8], c: &mut [u8], b: &mut [u8], r: usize, top: usize, g: Progress)
             failed: d,
         };
     }
-    mend(c, b, q, shift, top);
+    mend(c, b, q, shift, top, t);
     Progress {
         long: l,
         shift: shift + 1,
@@ -81,8 +93,9 @@ fn step(s: &[u8], c: &mut [u8], b: &mut [u8], r: usize, top: usize, g: Progress)
 }
 
 // The shortest recurrence for the first m syndromes.
-pub fn locator(s: &[u8], m: usize) -> Recurrence
+pub fn locator(s: &[u8], m: usize, t: &[u8; 511]) -> Recurrence
     requires { ⌜ (m < 255) × (length (now s) ≡ 255) ⌝ }
+    requires { ⌜ Tables (now t) ⌝ }
     ensures { λ r. ⌜ LocatorIs m (now (s .entry)) (r .coefficients) (r .degree) ⌝ }
 {
     let mut c = [0u8; 255];
@@ -96,7 +109,7 @@ pub fn locator(s: &[u8], m: usize) -> Recurrence
     };
     let mut r = 0;
     while r < m {
-        g = step(s, &mut c, &mut b, r, m + 1, g);
+        g = step(s, &mut c, &mut b, r, m + 1, g, t);
         r += 1;
     }
     let degree = g.long;

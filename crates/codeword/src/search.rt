@@ -2,6 +2,7 @@
 ghost use mathlib.Core.Path.{_≡_};
 ghost use Prim.Native.Nat.{_<_, _≤_};
 ghost use lib.ListN.{length};
+ghost use Rattle.field.specs.Octet.Table.{Tables};
 ghost use Rattle.codeword.specs.Element.{octet};
 ghost use Rattle.codeword.specs.Places.{inverses};
 ghost use Rattle.codeword.specs.Search.{valueOf, SearchIs};
@@ -13,37 +14,40 @@ pub struct Places {
 }
 
 // c[0] + c[1] x + .. + c[n - 1] x^(n - 1), by Horner's rule.
-pub fn horner(c: &[u8], n: usize, x: u8) -> u8
+pub fn horner(c: &[u8], n: usize, x: u8, t: &[u8; 511]) -> u8
     requires { ⌜ n ≤ length (now c) ⌝ }
+    requires { ⌜ Tables (now t) ⌝ }
     ensures { λ r. ⌜ r ≡ valueOf (now (c .entry)) n x ⌝ }
 {
     let mut v: u8 = 0;
     let mut i = n;
     while 0 < i {
         i -= 1;
-        v = field::sum(field::product(v, x), c[i]);
+        v = field::sum(field::product_by(v, x, t), c[i]);
     }
     v
 }
 
 // The inverse of the locator of place p of n.
-pub fn inverse_locator(n: usize, p: usize) -> u8
+pub fn inverse_locator(n: usize, p: usize, t: &[u8; 511]) -> u8
     requires { ⌜ (p < n) × (n ≤ 255) ⌝ }
+    requires { ⌜ Tables (now t) ⌝ }
     ensures { λ r. ⌜ r ≡ octet (inverses n p) ⌝ }
 {
-    field::power(255 - (n - 1 - p))
+    field::power_by(255 - (n - 1 - p), t)
 }
 
 // All places of n at the inverse of whose locator the polynomial c, of degree at most l, is zero.
-pub fn search(c: &[u8], l: usize, n: usize) -> Places
+pub fn search(c: &[u8], l: usize, n: usize, t: &[u8; 511]) -> Places
     requires { ⌜ (l < length (now c)) × (n ≤ 255) ⌝ }
+    requires { ⌜ Tables (now t) ⌝ }
     ensures { λ r. ⌜ SearchIs n n l (now (c .entry)) (r .at) (r .count) ⌝ }
 {
     let mut at = [0u8; 255];
     let mut count = 0;
     let mut p = 0;
     while p < n {
-        if horner(c, l + 1, inverse_locator(n, p)) == 0 {
+        if horner(c, l + 1, inverse_locator(n, p, t), t) == 0 {
             at[count] = p as u8;
             count += 1;
         }

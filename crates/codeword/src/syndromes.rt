@@ -2,44 +2,48 @@
 ghost use mathlib.Core.Path.{_≡_};
 ghost use Prim.Native.Nat.{_<_, _≤_};
 ghost use lib.ListN.{length};
+ghost use Rattle.field.specs.Octet.Table.{Tables};
 ghost use Rattle.codeword.specs.Syndromes.{PointsAre, Absorbed, SyndromesAre, allZero};
 
 // α, .., α^m; zero where unused.
-fn points(m: usize) -> [u8; 255]
+fn points(m: usize, t: &[u8; 511]) -> [u8; 255]
     requires { ⌜ m < 255 ⌝ }
+    requires { ⌜ Tables (now t) ⌝ }
     ensures { λ r. ⌜ PointsAre m r ⌝ }
 {
     let mut x = [0u8; 255];
     let mut i = 0;
     while i < m {
-        x[i] = field::power(i + 1);
+        x[i] = field::power_by(i + 1, t);
         i += 1;
     }
     x
 }
 
 // The octet a of the word taken into every syndrome.
-fn absorb(s: &mut [u8], x: &[u8], m: usize, a: u8)
+fn absorb(s: &mut [u8], x: &[u8], m: usize, a: u8, t: &[u8; 511])
     requires { ⌜ (m ≤ length (now s)) × (m ≤ length (now x)) ⌝ }
+    requires { ⌜ Tables (now t) ⌝ }
     ensures { λ _. ⌜ Absorbed m a (now (x .entry)) (now (s .entry)) (now (s .exit)) ⌝ }
 {
     let mut i = 0;
     while i < m {
-        s[i] = field::sum(field::product(x[i], s[i]), a);
+        s[i] = field::sum(field::product_by(x[i], s[i], t), a);
         i += 1;
     }
 }
 
 // The m syndromes of a word; zero where unused.
-pub fn syndromes(word: &[u8], m: usize) -> [u8; 255]
+pub fn syndromes(word: &[u8], m: usize, t: &[u8; 511]) -> [u8; 255]
     requires { ⌜ m < 255 ⌝ }
+    requires { ⌜ Tables (now t) ⌝ }
     ensures { λ r. ⌜ SyndromesAre m (now (word .entry)) r ⌝ }
 {
-    let x = points(m);
+    let x = points(m, t);
     let mut s = [0u8; 255];
     let mut i = 0;
     while i < word.len() {
-        absorb(&mut s, &x, m, word[i]);
+        absorb(&mut s, &x, m, word[i], t);
         i += 1;
     }
     s

@@ -4,17 +4,19 @@ use crate::search;
 ghost use mathlib.Core.Path.{_≡_};
 ghost use Prim.Native.Nat.{ℕ, _<_, _≤_};
 ghost use lib.ListN.{length, getD};
+ghost use Rattle.field.specs.Octet.Table.{Tables};
 ghost use Rattle.codeword.specs.Values.{EvaluatorIs, DerivativeIs, errorOf, Corrected};
 
 // The error evaluator: the first l coefficients of the product of the locator c and the syndromes s; zero where unused.
-pub fn evaluator(c: &[u8], s: &[u8], l: usize) -> [u8; 255]
+pub fn evaluator(c: &[u8], s: &[u8], l: usize, t: &[u8; 511]) -> [u8; 255]
     requires { ⌜ (l < 255) × (length (now c) ≡ 255) × (length (now s) ≡ 255) ⌝ }
+    requires { ⌜ Tables (now t) ⌝ }
     ensures { λ r. ⌜ EvaluatorIs l (now (c .entry)) (now (s .entry)) r ⌝ }
 {
     let mut o = [0u8; 255];
     let mut k = 0;
     while k < l {
-        o[k] = locator::discrepancy(c, s, k, k);
+        o[k] = locator::discrepancy(c, s, k, k, t);
         k += 1;
     }
     o
@@ -35,27 +37,30 @@ pub fn derivative(c: &[u8], l: usize) -> [u8; 255]
 }
 
 // The error value at the point x: the evaluator's value over the derivative's.
-fn error(o: &[u8], d: &[u8], l: usize, x: u8) -> u8
+fn error(o: &[u8], d: &[u8], l: usize, x: u8, t: &[u8; 511]) -> u8
     requires { ⌜ (l ≤ length (now o)) × (l ≤ length (now d)) ⌝ }
+    requires { ⌜ Tables (now t) ⌝ }
     ensures { λ r. ⌜ r ≡ errorOf (now (o .entry)) (now (d .entry)) l x ⌝ }
 {
-    field::product(
-        search::horner(o, l, x),
-        field::inverse(search::horner(d, l, x)),
+    field::product_by(
+        search::horner(o, l, x, t),
+        field::inverse_by(search::horner(d, l, x, t), t),
+        t,
     )
 }
 
 // Adds the error value to the word of n octets at each of the l places.
-pub fn correct(w: &mut [u8], n: usize, at: &[u8], l: usize, o: &[u8], d: &[u8])
+pub fn correct(w: &mut [u8], n: usize, at: &[u8], l: usize, o: &[u8], d: &[u8], t: &[u8; 511])
     requires { ⌜ (n ≤ 255) × (n ≤ length (now w)) × (l ≤ length (now at)) × (l ≤ length (now o)) × (l ≤ length (now d)) ⌝ }
     requires { ⌜ ((j : ℕ) → j < l → getD (now at) j 0 < n) ⌝ }
     requires { ⌜ ((i j : ℕ) → i < j → j < l → getD (now at) i 0 < getD (now at) j 0) ⌝ }
+    requires { ⌜ Tables (now t) ⌝ }
     ensures { λ _. ⌜ Corrected n l l (now (at .entry)) (now (o .entry)) (now (d .entry)) (now (w .entry)) (now (w .exit)) ⌝ }
 {
     let mut j = 0;
     while j < l {
         let p = at[j] as usize;
-        let y = error(o, d, l, search::inverse_locator(n, p));
+        let y = error(o, d, l, search::inverse_locator(n, p, t), t);
         w[p] = field::sum(w[p], y);
         j += 1;
     }

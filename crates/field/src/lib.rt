@@ -3,6 +3,7 @@
 ghost use mathlib.Core.Path.{_≡_};
 ghost use Prim.Native.Nat.{_<_};
 ghost use Rattle.field.specs.Octet;
+ghost use Rattle.field.specs.Octet.Table;
 
 // Table D.I.1 of 003 in its order: entry k is α to the k. Its row "0" is the zero element and no power.
 // Each entry is twice the one before: 80, entry 7, doubles to 100, less 11D that is 1D, entry 8; the last, 8E, doubles to 01.
@@ -50,22 +51,38 @@ pub fn sum(a: u8, b: u8) -> u8
     a ^ b
 }
 
+// Both tables, the powers and behind them the logarithms. A constant is laid out anew wherever it is used; whoever multiplies much lays
+// the tables out once by this and lends them to `power_by`, `product_by` and `inverse_by`.
+pub fn tables() -> [u8; 511]
+    ensures { λ r. ⌜ Table.Tables r ⌝ }
+{
+    let mut t = [0u8; 511];
+    let powers = POWERS;
+    octets::write(&mut t, 0, &powers);
+    let logarithms = LOGARITHMS;
+    octets::write(&mut t, 255, &logarithms);
+    t
+}
+
 // α to the k.
-pub fn power(k: usize) -> u8
+pub fn power_by(k: usize, t: &[u8; 511]) -> u8
+    requires { ⌜ Table.Tables (now t) ⌝ }
     ensures { λ r. ⌜ r ≡ Octet.power Octet.α k ⌝ }
 {
-    POWERS[k % 255]
+    t[k % 255]
 }
 
 // The k below 255 of which a is α to the k; at 0, which is no power, some number below 255.
-fn logarithm(a: u8) -> u8
+fn logarithm(a: u8, t: &[u8; 511]) -> u8
+    requires { ⌜ Table.Tables (now t) ⌝ }
     ensures { λ r. ⌜ (r < 255) × (0 < a → Octet.power Octet.α r ≡ a) ⌝ }
 {
-    LOGARITHMS[a as usize]
+    t[255 + a as usize]
 }
 
 // a times b: logarithms add, modulo 255.
-pub fn product(a: u8, b: u8) -> u8
+pub fn product_by(a: u8, b: u8, t: &[u8; 511]) -> u8
+    requires { ⌜ Table.Tables (now t) ⌝ }
     ensures { λ r. ⌜ r ≡ Octet.product a b ⌝ }
 {
     if a == 0 {
@@ -74,16 +91,41 @@ pub fn product(a: u8, b: u8) -> u8
     if b == 0 {
         return 0;
     }
-    let k = logarithm(a) as usize + logarithm(b) as usize;
-    if k < 255 { POWERS[k] } else { POWERS[k - 255] }
+    let k = logarithm(a, t) as usize + logarithm(b, t) as usize;
+    if k < 255 { t[k] } else { t[k - 255] }
+}
+
+// The octet whose product with a is 1, and 0 for 0, which has none.
+pub fn inverse_by(a: u8, t: &[u8; 511]) -> u8
+    requires { ⌜ Table.Tables (now t) ⌝ }
+    ensures { λ r. ⌜ r ≡ Octet.inverse a ⌝ }
+{
+    if a == 0 {
+        return 0;
+    }
+    power_by(255 - logarithm(a, t) as usize, t)
+}
+
+// α to the k.
+pub fn power(k: usize) -> u8
+    ensures { λ r. ⌜ r ≡ Octet.power Octet.α k ⌝ }
+{
+    let t = tables();
+    power_by(k, &t)
+}
+
+// a times b.
+pub fn product(a: u8, b: u8) -> u8
+    ensures { λ r. ⌜ r ≡ Octet.product a b ⌝ }
+{
+    let t = tables();
+    product_by(a, b, &t)
 }
 
 // The octet whose product with a is 1, and 0 for 0, which has none.
 pub fn inverse(a: u8) -> u8
     ensures { λ r. ⌜ r ≡ Octet.inverse a ⌝ }
 {
-    if a == 0 {
-        return 0;
-    }
-    power(255 - logarithm(a) as usize)
+    let t = tables();
+    inverse_by(a, &t)
 }

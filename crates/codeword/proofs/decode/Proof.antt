@@ -20,7 +20,7 @@ returns : tie.Need-returns
 returns c =
     let a = c .before .before .before .before .before .args in
     record {
-      none = λ fits. long-lost (a .e) (now (a .received)) (now (a .s)) _ _ (search needs) (λ i. c .before .before .before .before .shared-slice-known .given i .fits) (c .before .before .before .before .before .pre .3) (c .before .locator .ensures) (c .if1 .taken);
+      none = λ fits. long-lost (a .e) (now (a .received)) (now (a .s)) _ _ (search needs) (λ i. c .before .before .before .before .shared-slice-known .given i .fits) (c .before .before .before .before .before .pre .0 .3) (c .before .locator .ensures) (c .if1 .taken);
       same = refl;
     }
 
@@ -34,7 +34,7 @@ returns-2 : tie.Need-returns-2
 returns-2 c =
     let a = c .before .before .before .before .before .before .before .before .before .args in
     record {
-      none = λ fits. roots-lost (a .e) (now (a .received)) (now (a .s)) _ _ (search needs) (λ i. c .before .before .before .before .before .before .before .before .shared-slice-known .given i .fits) (c .before .before .before .before .before .before .before .before .before .pre .3) (c .before .before .before .before .before .locator .ensures) _ _
+      none = λ fits. roots-lost (a .e) (now (a .received)) (now (a .s)) _ _ (search needs) (λ i. c .before .before .before .before .before .before .before .before .shared-slice-known .given i .fits) (c .before .before .before .before .before .before .before .before .before .pre .0 .3) (c .before .before .before .before .before .locator .ensures) _ _
           (c .before .search .ensures) (c .if2 .taken);
       same = refl;
     }
@@ -66,9 +66,17 @@ slice-aggregate-correct-3 c = search needs
 correct-requires : tie.Need-correct-requires
 correct-requires c κs =
     let s = c .before .before .before .before .before .before .before .before .before .before .before .before .before .before .search .ensures in
-    let all = c .before .before .before .before .before .before .before .before .before .before .before .before .before .if2 .left in (
-      (search needs, omega (arith, c .before .before .before .before .before .before .write .kept .0, c .before .before .before .before .before .before .before .before .before .before .before .before .before .before .before .before .before .before .before .before .before .before .pre), omega (arith, s .long, c .before .before .before .before .before .before .before .before .before .before .before .before .before .before .before .before .before .if1 .left, c .before .before .before .before .before .before .before .before .before .before .before .before .before .before .before .before .before .before .before .before .before .before .pre), omega (arith, c .before .before .before .before .before .before .before .before .before .before .evaluator .ensures .long, c .before .before .before .before .before .before .before .before .before .before .before .before .before .before .before .before .before .if1 .left, c .before .before .before .before .before .before .before .before .before .before .before .before .before .before .before .before .before .before .before .before .before .before .pre), omega (arith, c .before .before .before .before .before .before .before .before .derivative .ensures .long, c .before .before .before .before .before .before .before .before .before .before .before .before .before .before .before .before .before .if1 .left, c .before .before .before .before .before .before .before .before .before .before .before .before .before .before .before .before .before .before .before .before .before .before .pre)),
-      (λ j h. s .search .inside j (omega arith), λ i j h k. s .search .rises i j h (omega arith)),
+    let all = c .before .before .before .before .before .before .before .before .before .before .before .before .before .if2 .left in
+    let short = c .before .before .before .before .before .before .before .before .before .before .before .before .before .before .before .before .before .if1 .left in
+    let pre = c .before .before .before .before .before .before .before .before .before .before .before .before .before .before .before .before .before .before .before .before .before .before .pre .0 in (
+      (
+        search needs,
+        omega (arith, c .before .before .before .before .before .before .write .kept .0, pre),
+        omega (arith, s .long, short, pre),
+        omega (arith, c .before .before .before .before .before .before .before .before .before .before .evaluator .ensures .long, short, pre),
+        omega (arith, c .before .before .before .before .before .before .before .before .derivative .ensures .long, short, pre),
+      ),
+      (λ j h. s .search .inside j (omega arith), (λ i j h k. s .search .rises i j h (omega arith), c .before .before .before .before .before .before .before .before .before .before .before .before .before .before .before .before .before .before .before .before .before .before .pre .1)),
     )
 
 same-length : tie.Need-same-length
@@ -77,7 +85,7 @@ same-length c = search needs
 returns-3 : tie.Need-returns-3
 returns-3 c =
     let a = c .before .before .before .before .before .before .before .before .before .before .before .before .before .before .before .before .before .before .before .before .before .before .before .before .before .args in
-    let pre = c .before .before .before .before .before .before .before .before .before .before .before .before .before .before .before .before .before .before .before .before .before .before .before .before .before .pre in
+    let pre = c .before .before .before .before .before .before .before .before .before .before .before .before .before .before .before .before .before .before .before .before .before .before .before .before .before .pre .0 in
     let l = c .before .before .before .before .before .before .before .before .before .before .before .before .before .before .before .before .before .before .before .before .before .locator in
     let s = c .before .before .before .before .before .before .before .before .before .before .before .before .before .before .before .before .before .search in
     let n = length (now (a .received)) in

@@ -38,6 +38,9 @@ returns-4 c =
     let a = c .before .before .before .before .before .before .args in
     encoded-not (a .e) (now (a .message)) (now (a .sent)) (encodes-short _ (a .e) _ (c .if4 .taken))
 
+tables-requires : tie.Need-tables-requires
+tables-requires c κs = search needs
+
 parity-requires : tie.Need-parity-requires
 parity-requires c κs = search needs
 
@@ -51,7 +54,7 @@ slice-aggregate-write : tie.Need-slice-aggregate-write
 slice-aggregate-write c = sym (length-take-le _ (c .before .before .before .before .before .before .parity .result) (omega (arith, c .before .before .before .before .before .before .parity .ensures .long)))
 
 write-requires-2 : tie.Need-write-requires-2
-write-requires-2 c κs = rw (length-take-le (2 * c .before .before .before .before .before .before .before .before .before .before .before .before .before .args .e) (c .before .before .before .before .before .before .parity .result) (omega (arith, c .before .before .before .before .before .before .parity .ensures .long))) (search needs)
+write-requires-2 c κs = rw (length-take-le (2 * c .before .before .before .before .before .before .before .before .before .before .before .before .before .before .before .args .e) (c .before .before .before .before .before .before .parity .result) (omega (arith, c .before .before .before .before .before .before .parity .ensures .long))) (search needs)
 
 add-result : tie.Need-add-result
 add-result c = search needs
@@ -61,7 +64,7 @@ same-length c = search needs
 
 returns-5 : tie.Need-returns-5
 returns-5 c =
-    let a = c .before .before .before .before .before .before .before .before .before .before .before .before .before .before .before .before .args in
+    let a = c .before .before .before .before .before .before .before .before .before .before .before .before .before .before .before .before .before .before .args in
     let u = now (a .message) in
     let p = c .before .before .before .before .before .before .before .before .before .parity in
     let m = 2 * a .e in
@@ -82,6 +85,7 @@ encode-spec =
     mul-m
     add-if4
     returns-4
+    tables-requires
     parity-requires
     write-requires
     array-share-prefix-p

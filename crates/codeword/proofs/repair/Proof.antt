@@ -23,6 +23,9 @@ returns-3 c = refused-lost (c .before .before .before .before .before .args .e) 
 returns-4 : tie.Need-returns-4
 returns-4 c = refused-lost (c .before .before .before .before .before .before .args .e) (now (c .before .before .before .before .before .before .args .received)) (now (c .before .before .before .before .before .before .args .repaired)) (λ h. omega arith)
 
+tables-requires : tie.Need-tables-requires
+tables-requires c κs = search needs
+
 mul-syndromes : tie.Need-mul-syndromes
 mul-syndromes c = search needs
 
@@ -46,16 +49,16 @@ same-length c = search needs
 
 returns-5 : tie.Need-returns-5
 returns-5 c =
-    let a = c .before .before .before .before .before .before .before .before .before .before .before .before .before .before .args in
+    let a = c .before .before .before .before .before .before .before .before .before .before .before .before .before .before .before .before .args in
     let n = length (now (a .received)) in
     clean-found (a .e) (now (a .received)) (now (a .repaired)) (c .before .before .before .before .before .before .before .syndromes .result) _ (reads-true n (a .e) _ (omega arith) (omega arith) (omega arith)) (omega arith)
-    (λ i. c .before .before .before .before .before .before .before .before .before .before .before .before .before .shared-slice-known .given i .fits) (c .before .before .before .before .before .before .before .syndromes .ensures) (sym (c .before .before .before .before .before .clean .ensures) ∙ c .before .before .before .before .if5 .taken) (c .before .before .write .ensures)
+    (λ i. c .before .before .before .before .before .before .before .before .before .before .before .before .before .before .before .shared-slice-known .given i .fits) (c .before .before .before .before .before .before .before .syndromes .ensures) (sym (c .before .before .before .before .before .clean .ensures) ∙ c .before .before .before .before .if5 .taken) (c .before .before .write .ensures)
 
 slice-aggregate-decode : tie.Need-slice-aggregate-decode
 slice-aggregate-decode c = search needs
 
 decode-requires : tie.Need-decode-requires
-decode-requires c κs = search needs
+decode-requires c κs = ((search needs, search needs, search needs, search needs), search needs)
 
 same-length-2 : tie.Need-same-length-2
 same-length-2 c = search needs
@@ -72,6 +75,7 @@ repair-spec =
     sub-if3
     returns-3
     returns-4
+    tables-requires
     mul-syndromes
     syndromes-requires
     slice-aggregate-clean

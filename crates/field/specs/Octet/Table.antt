@@ -3,21 +3,25 @@
 --   powers          the 255 entries of Table D.I.1 in their order, from α⁰ on; its row "0" is the zero element and no power.
 --                   One worked: entry 7 is 80; twice 80 is 100, less the modulus 11D that is 1D, which is entry 8.
 --   logs            entry a is the k below 255 of which a is αᵏ; entry 0 is not used, and is 0
+--   Tables t        t is both tables, the powers and behind them the logarithms
 --   powers-double   each entry is twice the one before; the last, 8E, doubles to the first, 01
 --   powers-at       entry k is αᵏ
 --   alpha-around    α²⁵⁵ = 1
 --   logs-lt         a logarithm is below 255
 --   logs-power      the logarithm of αᵏ is k
 --   power-logs      α to the logarithm of a is a
+--   tables-power    what stands where in t
+--   tables-log
 --
 -- Each rule is tested once over all the entries, and a lemma carries it to each. Assumes nothing.
 use mathlib.Core.Path.{_≡_, refl, sym, ap, _∙_}
 use mathlib.Core.Bool.{Bool}
-use mathlib.Core.List.{List, [], _∷_}
-use Prim.Native.Nat.{ℕ, zero, suc, _%_, _<_}
+use mathlib.Core.List.{List, [], _∷_, _++_}
+use Prim.Native.Nat.{ℕ, zero, suc, _+_, _%_, _<_}
 use native.Mathlib.Nat.{le-trans, le-suc, le-of-suc-le-suc, not-suc-le-zero, mod-eq-of-lt}
 use lib.Dec.{T, eqb, eqb→eq, ltb, ltb→lt, lit<}
-use lib.ListN.{getD}
+use lib.ListN.{length, getD, List·getD-append}
+use lib.Seq.{getD-append-add}
 use Rattle.octets.specs.Every.{every, every-at}
 use Rattle.field.specs.Octet.{sum, modulus, double, α, power}
 use Rattle.field.specs.Octet.Ring.{alpha-product}
@@ -60,6 +64,9 @@ logs =
     0x6c ∷ 0xa1 ∷ 0x3b ∷ 0x52 ∷ 0x29 ∷ 0x9d ∷ 0x55 ∷ 0xaa ∷ 0xfb ∷ 0x60 ∷ 0x86 ∷ 0xb1 ∷ 0xbb ∷ 0xcc ∷ 0x3e ∷ 0x5a ∷
     0xcb ∷ 0x59 ∷ 0x5f ∷ 0xb0 ∷ 0x9c ∷ 0xa9 ∷ 0xa0 ∷ 0x51 ∷ 0x0b ∷ 0xf5 ∷ 0x16 ∷ 0xeb ∷ 0x7a ∷ 0x75 ∷ 0x2c ∷ 0xd7 ∷
     0x4f ∷ 0xae ∷ 0xd5 ∷ 0xe9 ∷ 0xe6 ∷ 0xe7 ∷ 0xad ∷ 0xe8 ∷ 0x74 ∷ 0xd6 ∷ 0xf4 ∷ 0xea ∷ 0xa8 ∷ 0x50 ∷ 0x58 ∷ 0xaf ∷ []
+
+pub Tables : List ℕ → Type 0
+Tables t = t ≡ powers ++ logs
 
 -- ---- the powers
 
@@ -126,3 +133,27 @@ unfolding forth-at
 power-logs zero p h = absurd (not-suc-le-zero p)
 power-logs (suc a) p h =
     sym (powers-at (getD logs (suc a) 0) (logs-lt (suc a) h)) ∙ eqb→eq _ _ (every-at forth-at 255 forth-test a (le-of-suc-le-suc h))
+
+-- ---- both tables
+
+pub tables-both : (t : List ℕ) → t ≡ powers ++ logs → Tables t
+unfolding Tables
+tables-both t e = e
+
+powers-long : length powers ≡ 255
+unfolding powers
+powers-long = refl
+
+tables-front : (t : List ℕ) → Tables t → (k : ℕ) → k < 255 → getD t k 0 ≡ getD powers k 0
+unfolding Tables
+tables-front t e k h = ap (λ (l : List ℕ). getD l k 0) e ∙ List·getD-append powers logs 0 k (rw powers-long h)
+
+pub tables-power : (t : List ℕ) → Tables t → (k : ℕ) → k < 255 → getD t k 0 ≡ power α k
+tables-power t h k l = tables-front t h k l ∙ powers-at k l
+
+tables-back : (t : List ℕ) → Tables t → (a : ℕ) → getD t (255 + a) 0 ≡ getD logs a 0
+unfolding Tables
+tables-back t e a = ap (λ (l : List ℕ). getD l (255 + a) 0) e ∙ ap (λ (n : ℕ). getD (powers ++ logs) (n + a) 0) (sym powers-long) ∙ getD-append-add powers logs a 0
+
+pub tables-log : (t : List ℕ) → Tables t → (a : ℕ) → a < 256 → (getD t (255 + a) 0 < 255) × (0 < a → power α (getD t (255 + a) 0) ≡ a)
+tables-log t h a l = rw (tables-back t h a) (logs-lt a l, λ p. power-logs a p l)

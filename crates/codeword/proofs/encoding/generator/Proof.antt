@@ -10,52 +10,52 @@ use Rattle.codeword.proofs.encoding.generator.Statement.{statement}
 use Rattle.codeword.proofs.encoding.generator.Tie as tie
 
 abbrev Inv-loop : tie.InvT-loop
-Inv-loop m g₀ last j₀ g j = (1 ≤ j) × (j ≤ m + 1) × GeneratorTo m j g × (last ≡ Octet.power Octet.α m)
+Inv-loop m t g₀ last j₀ g j = (1 ≤ j) × (j ≤ m + 1) × GeneratorTo m j g × (last ≡ Octet.power Octet.α m)
 
 abbrev μ-loop : tie.MeasureT-loop
-μ-loop m g₀ last j₀ g j = m + 1 - j
+μ-loop m t g₀ last j₀ g j = m + 1 - j
 
 array-write-g : tie.Need-array-write-g Inv-loop μ-loop
 array-write-g c = search needs
 
-power-requires : tie.Need-power-requires Inv-loop μ-loop
-power-requires c κs = search needs
+power-by-requires : tie.Need-power-by-requires Inv-loop μ-loop
+power-by-requires c κs = search needs
 
 loop-holds : tie.Need-loop-holds Inv-loop μ-loop
 loop-holds c = (search needs, search needs, generator-start (c .before .args .m) (zeros 255) refl (octets-zeros 255), search needs)
 
-add-power : tie.Need-add-power Inv-loop μ-loop
-add-power c = search needs
+add-power-by : tie.Need-add-power-by Inv-loop μ-loop
+add-power-by c = search needs
 
-power-requires-2 : tie.Need-power-requires-2 Inv-loop μ-loop
-power-requires-2 c κs = search needs
+power-by-requires-2 : tie.Need-power-by-requires-2 Inv-loop μ-loop
+power-by-requires-2 c κs = search needs
 
 sum-requires : tie.Need-sum-requires Inv-loop μ-loop
 sum-requires c κs = search needs
 
-product-requires : tie.Need-product-requires Inv-loop μ-loop
-product-requires c κs = search needs
+product-by-requires : tie.Need-product-by-requires Inv-loop μ-loop
+product-by-requires c κs = search needs
 
-power-requires-3 : tie.Need-power-requires-3 Inv-loop μ-loop
-power-requires-3 c κs = search needs
+power-by-requires-3 : tie.Need-power-by-requires-3 Inv-loop μ-loop
+power-by-requires-3 c κs = search needs
 
 sum-requires-2 : tie.Need-sum-requires-2 Inv-loop μ-loop
 sum-requires-2 c κs = search needs
 
-inverse-requires : tie.Need-inverse-requires Inv-loop μ-loop
-inverse-requires c κs = search needs
+inverse-by-requires : tie.Need-inverse-by-requires Inv-loop μ-loop
+inverse-by-requires c κs = search needs
 
-product-requires-2 : tie.Need-product-requires-2 Inv-loop μ-loop
-product-requires-2 c κs = search needs
+product-by-requires-2 : tie.Need-product-by-requires-2 Inv-loop μ-loop
+product-by-requires-2 c κs = search needs
 
-sub-product : tie.Need-sub-product Inv-loop μ-loop
-sub-product c = search needs
+sub-product-by : tie.Need-sub-product-by Inv-loop μ-loop
+sub-product-by c = search needs
 
-array-read-product : tie.Need-array-read-product Inv-loop μ-loop
-array-read-product c = search needs
+array-read-product-by : tie.Need-array-read-product-by Inv-loop μ-loop
+array-read-product-by c = search needs
 
-product-requires-3 : tie.Need-product-requires-3 Inv-loop μ-loop
-product-requires-3 c κs = search needs
+product-by-requires-3 : tie.Need-product-by-requires-3 Inv-loop μ-loop
+product-by-requires-3 c κs = search needs
 
 array-write-g-2 : tie.Need-array-write-g-2 Inv-loop μ-loop
 array-write-g-2 c = search needs
@@ -81,19 +81,19 @@ generator-spec =
     Inv-loop
     μ-loop
     array-write-g
-    power-requires
+    power-by-requires
     loop-holds
-    add-power
-    power-requires-2
+    add-power-by
+    power-by-requires-2
     sum-requires
-    product-requires
-    power-requires-3
+    product-by-requires
+    power-by-requires-3
     sum-requires-2
-    inverse-requires
-    product-requires-2
-    sub-product
-    array-read-product
-    product-requires-3
+    inverse-by-requires
+    product-by-requires-2
+    sub-product-by
+    array-read-product-by
+    product-by-requires-3
     array-write-g-2
     add-j
     loop-less

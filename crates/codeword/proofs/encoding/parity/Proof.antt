@@ -12,10 +12,10 @@ use Rattle.codeword.proofs.encoding.parity.Statement.{statement}
 use Rattle.codeword.proofs.encoding.parity.Tie as tie
 
 abbrev Inv-loop : tie.InvT-loop
-Inv-loop message m g p₀ i₀ p i = (i ≤ length message) × GeneratorIs m g × RegisterIs m (take i message) p × (length g ≡ 255)
+Inv-loop message m t g p₀ i₀ p i = (i ≤ length message) × GeneratorIs m g × RegisterIs m (take i message) p × (length g ≡ 255)
 
 abbrev μ-loop : tie.MeasureT-loop
-μ-loop message m g p₀ i₀ p i = length message - i
+μ-loop message m t g p₀ i₀ p i = length message - i
 
 generator-requires : tie.Need-generator-requires Inv-loop μ-loop
 generator-requires c κs = search needs

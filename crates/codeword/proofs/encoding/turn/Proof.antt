@@ -11,10 +11,10 @@ use Rattle.codeword.proofs.encoding.turn.Statement.{statement}
 use Rattle.codeword.proofs.encoding.turn.Tie as tie
 
 abbrev Inv-loop : tie.InvT-loop
-Inv-loop p₀ g m a feedback j₀ p j = (j ≤ m) × Turned g j a p₀ p × (feedback ≡ Octet.sum (getD p₀ 0 0) a)
+Inv-loop p₀ g m a t feedback j₀ p j = (j ≤ m) × Turned g j a p₀ p × (feedback ≡ Octet.sum (getD p₀ 0 0) a)
 
 abbrev μ-loop : tie.MeasureT-loop
-μ-loop p₀ g m a feedback j₀ p j = m - j
+μ-loop p₀ g m a t feedback j₀ p j = m - j
 
 slice-read-sum : tie.Need-slice-read-sum Inv-loop μ-loop
 slice-read-sum c = search needs
@@ -31,14 +31,14 @@ add-sum c = search needs
 slice-read-sum-2 : tie.Need-slice-read-sum-2 Inv-loop μ-loop
 slice-read-sum-2 c = search needs
 
-add-product : tie.Need-add-product Inv-loop μ-loop
-add-product c = search needs
+add-product-by : tie.Need-add-product-by Inv-loop μ-loop
+add-product-by c = search needs
 
-shared-slice-read-product : tie.Need-shared-slice-read-product Inv-loop μ-loop
-shared-slice-read-product c = search needs
+shared-slice-read-product-by : tie.Need-shared-slice-read-product-by Inv-loop μ-loop
+shared-slice-read-product-by c = search needs
 
-product-requires : tie.Need-product-requires Inv-loop μ-loop
-product-requires c κs = search needs
+product-by-requires : tie.Need-product-by-requires Inv-loop μ-loop
+product-by-requires c κs = search needs
 
 sum-requires-2 : tie.Need-sum-requires-2 Inv-loop μ-loop
 sum-requires-2 c κs = search needs
@@ -77,9 +77,9 @@ turn-spec =
     loop-holds
     add-sum
     slice-read-sum-2
-    add-product
-    shared-slice-read-product
-    product-requires
+    add-product-by
+    shared-slice-read-product-by
+    product-by-requires
     sum-requires-2
     slice-write-p
     add-j

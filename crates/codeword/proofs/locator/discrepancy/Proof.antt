@@ -8,25 +8,25 @@ use Rattle.codeword.proofs.locator.discrepancy.Statement.{statement}
 use Rattle.codeword.proofs.locator.discrepancy.Tie as tie
 
 abbrev Inv-loop : tie.InvT-loop
-Inv-loop c s r l d₀ j₀ d j = (j ≤ l + 1) × (d ≡ discrepancy-to c s r j)
+Inv-loop c s r l t d₀ j₀ d j = (j ≤ l + 1) × (d ≡ discrepancy-to c s r j)
 
 abbrev μ-loop : tie.MeasureT-loop
-μ-loop c s r l d₀ j₀ d j = l + 1 - j
+μ-loop c s r l t d₀ j₀ d j = l + 1 - j
 
 loop-holds : tie.Need-loop-holds Inv-loop μ-loop
 loop-holds c = (search needs, sym (discrepancy-start _ _ _))
 
-shared-slice-read-product : tie.Need-shared-slice-read-product Inv-loop μ-loop
-shared-slice-read-product c = search needs
+shared-slice-read-product-by : tie.Need-shared-slice-read-product-by Inv-loop μ-loop
+shared-slice-read-product-by c = search needs
 
-sub-product : tie.Need-sub-product Inv-loop μ-loop
-sub-product c = search needs
+sub-product-by : tie.Need-sub-product-by Inv-loop μ-loop
+sub-product-by c = search needs
 
-shared-slice-read-product-2 : tie.Need-shared-slice-read-product-2 Inv-loop μ-loop
-shared-slice-read-product-2 c = search needs
+shared-slice-read-product-by-2 : tie.Need-shared-slice-read-product-by-2 Inv-loop μ-loop
+shared-slice-read-product-by-2 c = search needs
 
-product-requires : tie.Need-product-requires Inv-loop μ-loop
-product-requires c κs = search needs
+product-by-requires : tie.Need-product-by-requires Inv-loop μ-loop
+product-by-requires c κs = search needs
 
 sum-requires : tie.Need-sum-requires Inv-loop μ-loop
 sum-requires c κs = search needs
@@ -42,7 +42,7 @@ loop-again c =
     let l = c .before .before .before .before .before .loop in
     let a = c .before .before .before .before .before .before .before .before .args in (
       search needs,
-      c .sum .ensures ∙ (rw (c .before .product .ensures, l .inv .1) (sym (discrepancy-next _ _ _ (l .j)
+      c .sum .ensures ∙ (rw (c .before .product-by .ensures, l .inv .1) (sym (discrepancy-next _ _ _ (l .j)
           (c .before .before .before .shared-slice-known3 .given (l .j) .fits) (c .before .before .shared-slice-known4 .given (a .r - l .j) .fits)))),
     )
 
@@ -56,10 +56,10 @@ discrepancy-spec =
     Inv-loop
     μ-loop
     loop-holds
-    shared-slice-read-product
-    sub-product
-    shared-slice-read-product-2
-    product-requires
+    shared-slice-read-product-by
+    sub-product-by
+    shared-slice-read-product-by-2
+    product-by-requires
     sum-requires
     add-j
     loop-less

@@ -10,10 +10,10 @@ use Rattle.codeword.proofs.locator.locator.Statement.{statement}
 use Rattle.codeword.proofs.locator.locator.Tie as tie
 
 abbrev Inv-loop : tie.InvT-loop
-Inv-loop s m c₀ b₀ g₀ r₀ c b g r = (r ≤ m) × Held s c b r (g .long) (g .shift) (g .failed) × (length s ≡ 255)
+Inv-loop s m t c₀ b₀ g₀ r₀ c b g r = (r ≤ m) × Held s c b r (g .long) (g .shift) (g .failed) × (length s ≡ 255)
 
 abbrev μ-loop : tie.MeasureT-loop
-μ-loop s m c₀ b₀ g₀ r₀ c b g r = m - r
+μ-loop s m t c₀ b₀ g₀ r₀ c b g r = m - r
 
 array-write-c : tie.Need-array-write-c Inv-loop μ-loop
 array-write-c c = search needs
@@ -34,7 +34,7 @@ add-step : tie.Need-add-step Inv-loop μ-loop
 add-step c = search needs
 
 step-requires : tie.Need-step-requires Inv-loop μ-loop
-step-requires c κs = search needs
+step-requires c κs = ((search needs, search needs, search needs, search needs), search needs)
 
 add-r : tie.Need-add-r Inv-loop μ-loop
 add-r c = search needs

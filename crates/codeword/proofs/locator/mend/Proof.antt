@@ -10,10 +10,10 @@ use Rattle.codeword.proofs.locator.mend.Statement.{statement}
 use Rattle.codeword.proofs.locator.mend.Tie as tie
 
 abbrev Inv-loop : tie.InvT-loop
-Inv-loop c₀ b q shift top j₀ c j = (shift ≤ j) × (j ≤ top) × Mended j q shift c₀ b c
+Inv-loop c₀ b q shift top t j₀ c j = (shift ≤ j) × (j ≤ top) × Mended j q shift c₀ b c
 
 abbrev μ-loop : tie.MeasureT-loop
-μ-loop c₀ b q shift top j₀ c j = top - j
+μ-loop c₀ b q shift top t j₀ c j = top - j
 
 loop-holds : tie.Need-loop-holds Inv-loop μ-loop
 loop-holds c = (search needs, search needs, mended-start _ _ _ _ (λ i. c .before .slice-known .given i .fits))
@@ -21,14 +21,14 @@ loop-holds c = (search needs, search needs, mended-start _ _ _ _ (λ i. c .befor
 slice-read-sum : tie.Need-slice-read-sum Inv-loop μ-loop
 slice-read-sum c = search needs
 
-sub-product : tie.Need-sub-product Inv-loop μ-loop
-sub-product c = search needs
+sub-product-by : tie.Need-sub-product-by Inv-loop μ-loop
+sub-product-by c = search needs
 
-shared-slice-read-product : tie.Need-shared-slice-read-product Inv-loop μ-loop
-shared-slice-read-product c = search needs
+shared-slice-read-product-by : tie.Need-shared-slice-read-product-by Inv-loop μ-loop
+shared-slice-read-product-by c = search needs
 
-product-requires : tie.Need-product-requires Inv-loop μ-loop
-product-requires c κs = search needs
+product-by-requires : tie.Need-product-by-requires Inv-loop μ-loop
+product-by-requires c κs = search needs
 
 sum-requires : tie.Need-sum-requires Inv-loop μ-loop
 sum-requires c κs = search needs
@@ -68,9 +68,9 @@ mend-spec =
     μ-loop
     loop-holds
     slice-read-sum
-    sub-product
-    shared-slice-read-product
-    product-requires
+    sub-product-by
+    shared-slice-read-product-by
+    product-by-requires
     sum-requires
     slice-write-c
     add-j

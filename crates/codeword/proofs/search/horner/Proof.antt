@@ -8,10 +8,10 @@ use Rattle.codeword.proofs.search.horner.Statement.{statement}
 use Rattle.codeword.proofs.search.horner.Tie as tie
 
 abbrev Inv-loop : tie.InvT-loop
-Inv-loop c n x v₀ i₀ v i = (i ≤ n) × (v ≡ horner-from c n x i)
+Inv-loop c n x t v₀ i₀ v i = (i ≤ n) × (v ≡ horner-from c n x i)
 
 abbrev μ-loop : tie.MeasureT-loop
-μ-loop c n x v₀ i₀ v i = i
+μ-loop c n x t v₀ i₀ v i = i
 
 loop-holds : tie.Need-loop-holds Inv-loop μ-loop
 loop-holds c = (search needs, sym (horner-start _ _ _))
@@ -19,8 +19,8 @@ loop-holds c = (search needs, sym (horner-start _ _ _))
 sub-i : tie.Need-sub-i Inv-loop μ-loop
 sub-i c = search needs
 
-product-requires : tie.Need-product-requires Inv-loop μ-loop
-product-requires c κs = search needs
+product-by-requires : tie.Need-product-by-requires Inv-loop μ-loop
+product-by-requires c κs = search needs
 
 shared-slice-read-sum : tie.Need-shared-slice-read-sum Inv-loop μ-loop
 shared-slice-read-sum c = search needs
@@ -37,7 +37,7 @@ loop-again c =
     let a = c .before .before .before .before .before .before .args in
     let e : l .i - 1 + 1 ≡ l .i = omega arith in (
       search needs,
-      c .sum .ensures ∙ (rw (c .before .before .product .ensures, l .inv .1) (sym (horner-next _ _ _ (l .i - 1) (search needs) (c .before .shared-slice-known2 .given (l .i - 1) .fits)
+      c .sum .ensures ∙ (rw (c .before .before .product-by .ensures, l .inv .1) (sym (horner-next _ _ _ (l .i - 1) (search needs) (c .before .shared-slice-known2 .given (l .i - 1) .fits)
           (c .before .before .before .before .before .before .fits .x .fits) ∙ (rw e)))),
     )
 
@@ -54,7 +54,7 @@ horner-spec =
     μ-loop
     loop-holds
     sub-i
-    product-requires
+    product-by-requires
     shared-slice-read-sum
     sum-requires
     loop-less

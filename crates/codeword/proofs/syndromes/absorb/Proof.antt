@@ -9,22 +9,22 @@ use Rattle.codeword.proofs.syndromes.absorb.Statement.{statement}
 use Rattle.codeword.proofs.syndromes.absorb.Tie as tie
 
 abbrev Inv-loop : tie.InvT-loop
-Inv-loop s₀ x m a i₀ s i = (i ≤ m) × Absorbed i a x s₀ s
+Inv-loop s₀ x m a t i₀ s i = (i ≤ m) × Absorbed i a x s₀ s
 
 abbrev μ-loop : tie.MeasureT-loop
-μ-loop s₀ x m a i₀ s i = m - i
+μ-loop s₀ x m a t i₀ s i = m - i
 
 loop-holds : tie.Need-loop-holds Inv-loop μ-loop
 loop-holds c = (search needs, absorbed-start _ _ _)
 
-shared-slice-read-product : tie.Need-shared-slice-read-product Inv-loop μ-loop
-shared-slice-read-product c = search needs
+shared-slice-read-product-by : tie.Need-shared-slice-read-product-by Inv-loop μ-loop
+shared-slice-read-product-by c = search needs
 
-slice-read-product : tie.Need-slice-read-product Inv-loop μ-loop
-slice-read-product c = search needs
+slice-read-product-by : tie.Need-slice-read-product-by Inv-loop μ-loop
+slice-read-product-by c = search needs
 
-product-requires : tie.Need-product-requires Inv-loop μ-loop
-product-requires c κs = search needs
+product-by-requires : tie.Need-product-by-requires Inv-loop μ-loop
+product-by-requires c κs = search needs
 
 sum-requires : tie.Need-sum-requires Inv-loop μ-loop
 sum-requires c κs = search needs
@@ -58,9 +58,9 @@ absorb-spec =
     Inv-loop
     μ-loop
     loop-holds
-    shared-slice-read-product
-    slice-read-product
-    product-requires
+    shared-slice-read-product-by
+    slice-read-product-by
+    product-by-requires
     sum-requires
     slice-write-s
     add-i

@@ -9,19 +9,19 @@ use Rattle.codeword.proofs.syndromes.points.Statement.{statement}
 use Rattle.codeword.proofs.syndromes.points.Tie as tie
 
 abbrev Inv-loop : tie.InvT-loop
-Inv-loop m x₀ i₀ x i = (i ≤ m) × PointsAre i x
+Inv-loop m t x₀ i₀ x i = (i ≤ m) × PointsAre i x
 
 abbrev μ-loop : tie.MeasureT-loop
-μ-loop m x₀ i₀ x i = m - i
+μ-loop m t x₀ i₀ x i = m - i
 
 loop-holds : tie.Need-loop-holds Inv-loop μ-loop
 loop-holds c = (search needs, points-start)
 
-add-power : tie.Need-add-power Inv-loop μ-loop
-add-power c = search needs
+add-power-by : tie.Need-add-power-by Inv-loop μ-loop
+add-power-by c = search needs
 
-power-requires : tie.Need-power-requires Inv-loop μ-loop
-power-requires c κs = search needs
+power-by-requires : tie.Need-power-by-requires Inv-loop μ-loop
+power-by-requires c κs = search needs
 
 array-write-x : tie.Need-array-write-x Inv-loop μ-loop
 array-write-x c = search needs
@@ -35,7 +35,7 @@ loop-less c = search needs
 loop-again : tie.Need-loop-again Inv-loop μ-loop
 loop-again c =
     let l = c .before .before .loop in
-    (search needs, points-next (l .i) _ (l .x) (search needs) (l .inv .1) (c .power .ensures))
+    (search needs, points-next (l .i) _ (l .x) (search needs) (l .inv .1) (c .power-by .ensures))
 
 returns : tie.Need-returns Inv-loop μ-loop
 returns c =
@@ -49,8 +49,8 @@ points-spec =
     Inv-loop
     μ-loop
     loop-holds
-    add-power
-    power-requires
+    add-power-by
+    power-by-requires
     array-write-x
     add-i
     loop-less

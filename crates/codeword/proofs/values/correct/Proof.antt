@@ -12,10 +12,10 @@ use Rattle.codeword.proofs.values.correct.Statement.{statement}
 use Rattle.codeword.proofs.values.correct.Tie as tie
 
 abbrev Inv-loop : tie.InvT-loop
-Inv-loop w₀ n at l o d j₀ w j = (j ≤ l) × Corrected n l j at o d w₀ w
+Inv-loop w₀ n at l o d t j₀ w j = (j ≤ l) × Corrected n l j at o d w₀ w
 
 abbrev μ-loop : tie.MeasureT-loop
-μ-loop w₀ n at l o d j₀ w j = l - j
+μ-loop w₀ n at l o d t j₀ w j = l - j
 
 loop-holds : tie.Need-loop-holds Inv-loop μ-loop
 loop-holds c = (search needs, corrected-start _ _ _ _ _ _ (λ i. c .before .before .before .slice-known .given i .fits))
@@ -27,7 +27,7 @@ cast-p : tie.Need-cast-p Inv-loop μ-loop
 cast-p c = omega (arith, c .shared-slice-known4 .given (c .before .before .loop .j))
 
 inverse-locator-requires : tie.Need-inverse-locator-requires Inv-loop μ-loop
-inverse-locator-requires c κs = (c .before .before .before .before .before .before .before .pre .1 .0 (c .before .before .loop .j) (c .before .loop-test .taken), search needs)
+inverse-locator-requires c κs = ((c .before .before .before .before .before .before .before .pre .1 .0 (c .before .before .loop .j) (c .before .loop-test .taken), search needs), search needs)
 
 error-requires : tie.Need-error-requires Inv-loop μ-loop
 error-requires c κs = search needs
@@ -54,7 +54,7 @@ loop-again c =
     let pre = c .before .before .before .before .before .before .before .before .before .before .before .pre in
     let in-loop = c .before .before .before .before .before .loop-test .taken in (
       search needs,
-      corrected-next _ _ (l .j) _ _ (now (a .at)) _ _ (now (a .w)) (l .w) refl (omega (arith, pre .1 .0 (l .j) in-loop)) (λ i h. pre .1 .1 i (l .j) h in-loop)
+      corrected-next _ _ (l .j) _ _ (now (a .at)) _ _ (now (a .w)) (l .w) refl (omega (arith, pre .1 .0 (l .j) in-loop)) (λ i h. pre .1 .1 .0 i (l .j) h in-loop)
           (c .sum .ensures ∙ ap (Octet.sum (getD (l .w) (getD (now (a .at)) (l .j) 0) 0)) (c .before .before .error .ensures ∙ (rw (c .before .before .before .inverse-locator .ensures)))) (l .inv .1),
     )
 

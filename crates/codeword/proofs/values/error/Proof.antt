@@ -12,17 +12,17 @@ horner-requires c κs = search needs
 horner-requires-2 : tie.Need-horner-requires-2
 horner-requires-2 c κs = search needs
 
-inverse-requires : tie.Need-inverse-requires
-inverse-requires c κs = search needs
+inverse-by-requires : tie.Need-inverse-by-requires
+inverse-by-requires c κs = search needs
 
-product-requires : tie.Need-product-requires
-product-requires c κs = search needs
+product-by-requires : tie.Need-product-by-requires
+product-by-requires c κs = search needs
 
 returns : tie.Need-returns
 unfolding errorOf
-returns c = c .product .ensures ∙ ap₂ Octet.product (c .before .before .before .horner .ensures) (c .before .inverse .ensures ∙ ap Octet.inverse (c .before .before .horner2 .ensures))
+returns c = c .product-by .ensures ∙ ap₂ Octet.product (c .before .before .before .horner .ensures) (c .before .inverse-by .ensures ∙ ap Octet.inverse (c .before .before .horner2 .ensures))
 
 pub error-spec : {M : Type 1} → statement M
 error-spec =
     tie.close
-    (tie.spec horner-requires horner-requires-2 inverse-requires product-requires returns)
+    (tie.spec horner-requires horner-requires-2 inverse-by-requires product-by-requires returns)
