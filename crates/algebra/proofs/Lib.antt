@@ -16,3 +16,5 @@ pub mod Distance
 pub mod Remainder
 pub mod Geometric
 pub mod Polynomial
+pub mod Division
+pub mod Register

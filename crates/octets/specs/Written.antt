@@ -9,8 +9,9 @@
 --   written-part      what stands where s was written is s
 --   written-before    what stands before it, and behind it, is as it was
 --   written-behind
---   written-both      one part written right behind another is both written together
---   written-two       .. from the front
+--   written-append    s written, and t behind it: s ++ t
+--   written-front     what was written at the front stands there
+--   written-next      .. and what is written behind it joins it
 --   written-all       what is written over all of d is all that is left
 --
 -- Assumes nothing.
@@ -18,7 +19,7 @@ use mathlib.Core.Path.{_≡_, refl, sym, ap, ap₂, _∙_}
 use mathlib.Core.Logic.{_⊎_, ⊎-elim}
 use mathlib.Core.List.{List, [], _++_, append-assoc, append-nil}
 use Prim.Native.Nat.{ℕ, _+_, _-_, _≤_, _<_}
-use native.Mathlib.Nat.{add-zero, zero-add}
+use native.Mathlib.Nat.{add-zero, zero-add, add-assoc}
 use native.Mathlib.Omega.{arith}
 use lib.ListN.{length, getD, take, drop, length-append, length-drop, take-append-drop, drop-of-length-le, List·getD-append}
 use lib.Seq.{paste, take-length, length-take-le, getD-append-add, getD-take, getD-drop, take-at, drop-at, drop-drop}
@@ -77,20 +78,18 @@ module _ {A : Type 0} where
     pub written-behind : drop (at + length s) (written d at s) ≡ drop (at + length s) d
     written-behind = drop-at (take at d ++ s) (drop (at + length s) d) (at + length s) both-length
 
-    written-front : take (at + length s) (written d at s) ≡ take at d ++ s
-    written-front = take-at (take at d ++ s) (drop (at + length s) d) (at + length s) both-length
+    pub written-append : (t : List A) → written (written d at s) (at + length s) t ≡ written d at (s ++ t)
+    written-append t =
+        ap₂ (λ (x y : List A). x ++ t ++ y) (take-at (take at d ++ s) (drop (at + length s) d) (at + length s) both-length)
+        (sym (drop-drop (length t) (at + length s) (written d at s)) ∙ ap (drop (length t)) written-behind ∙ drop-drop (length t) (at + length s) d)
+        ∙ ap₂ (λ (x : List A) (n : ℕ). x ++ drop n d) (append-assoc (take at d) s t) (add-assoc at (length s) (length t) ∙ ap (λ (n : ℕ). at + n) (sym (length-append s t)))
 
-  pub written-both : (d : List A) (at : ℕ) (a b : List A) → at + length a + length b ≤ length d
-      → written (written d at a) (at + length a) b ≡ written d at (a ++ b)
-  written-both d at a b fits =
-      let long : at + length a + length b ≡ at + length (a ++ b) = rw length-append (omega arith) in
-      ap₂ (λ (x y : List A). x ++ b ++ y) (written-front d at a (omega arith))
-      (sym (drop-drop (length b) (at + length a) (written d at a)) ∙ ap (drop (length b)) (written-behind d at a (omega arith)) ∙ drop-drop (length b) (at + length a) d)
-      ∙ ap₂ (λ (x : List A) (n : ℕ). x ++ drop n d) (append-assoc (take at d) a b) long
+  pub written-front : (d s : List A) → length s ≤ length d → take (length s) (written d 0 s) ≡ s
+  written-front d s fits = written-part d 0 s (omega arith)
 
-  pub written-two : (d a b : List A) → length a + length b ≤ length d → written (written d 0 a) (length a) b ≡ written d 0 (a ++ b)
-  written-two d a b fits =
-      ap (λ (n : ℕ). written (written d 0 a) n b) (sym (zero-add (length a))) ∙ written-both d 0 a b (omega arith)
+  pub written-next : (d s t : List A) → length s ≤ length d → written (written d 0 s) (length s) t ≡ written d 0 (s ++ t)
+  written-next d s t fits =
+      ap (λ (n : ℕ). written (written d 0 s) n t) (sym (zero-add (length s))) ∙ written-append d 0 s (omega arith) t
 
   pub written-all : (d s : List A) → length d ≡ length s → written d 0 s ≡ s
   written-all d s e =

@@ -2,6 +2,7 @@
 ghost use mathlib.Core.Path.{_≡_};
 ghost use Prim.Native.Nat.{_+_, _≤_};
 ghost use lib.ListN.{length};
+ghost use Rattle.octets.specs.Same as sameness;
 ghost use Rattle.octets.specs.Written.{written};
 
 // Writes all of src over dst, from at on.
@@ -14,4 +15,21 @@ pub fn write(dst: &mut [u8], at: usize, src: &[u8])
         dst[at + j] = src[j];
         j += 1;
     }
+}
+
+// Whether a and b are the same octets.
+pub fn same(a: &[u8], b: &[u8]) -> bool
+    ensures { λ r. ⌜ r ≡ sameness.same (now (a .entry)) (now (b .entry)) ⌝ }
+{
+    if a.len() != b.len() {
+        return false;
+    }
+    let mut j = 0;
+    while j < a.len() {
+        if a[j] != b[j] {
+            return false;
+        }
+        j += 1;
+    }
+    true
 }

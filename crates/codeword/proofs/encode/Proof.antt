@@ -7,7 +7,7 @@ use borrow.Author.Needs.{needs}
 use denote.Ref.{now}
 use lib.ListN.{length, take}
 use lib.Seq.{length-take-le}
-use Rattle.octets.specs.Written.{written, written-two}
+use Rattle.octets.specs.Written.{written, written-next}
 use Rattle.codeword.proofs.Systematic.{register-parity, encodes-empty, encodes-long, encodes-short, encoded-not, encoded-done}
 use Rattle.codeword.proofs.encode.Statement.{statement}
 use Rattle.codeword.proofs.encode.Tie as tie
@@ -73,7 +73,7 @@ returns-5 c =
     encoded-done (a .e) _ u (now (a .sent)) (take m (p .result)) _ (omega arith) (omega arith) (omega arith)
     (register-parity (a .e) u (p .result) l (p .ensures)) refl
     (c .before .before .write2 .ensures ∙ ap (λ (d : List ℕ). written d (length u) (take m (p .result))) (c .before .before .before .before .before .before .before .write .ensures)
-    ∙ written-two (now (a .sent)) u (take m (p .result)) (omega arith))
+    ∙ written-next (now (a .sent)) u (take m (p .result)) (omega arith))
 
 pub encode-spec : {M : Type 1} → statement M
 encode-spec =

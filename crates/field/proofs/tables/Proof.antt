@@ -6,7 +6,7 @@ use Prim.Native.Nat.{ℕ}
 use lib.ListN.{replicate}
 use lib.Dec.{lit≤}
 use Rattle.field.specs.Octet.Table.{powers, logs, tables-both}
-use Rattle.octets.specs.Written.{written, written-two, written-all}
+use Rattle.octets.specs.Written.{written, written-next, written-all}
 use Rattle.field.proofs.tables.Statement.{statement}
 use Rattle.field.proofs.tables.Tie as tie
 
@@ -32,7 +32,7 @@ returns : tie.Need-returns
 unfolding powers logs
 returns c =
     tables-both _ (c .before .write2 .ensures ∙ ap (λ (d : List ℕ). written d 255 logs) (c .before .before .before .before .before .write .ensures)
-    ∙ written-two (replicate 511 0) powers logs (lit≤ tt) ∙ written-all (replicate 511 0) (powers ++ logs) refl)
+    ∙ written-next (replicate 511 0) powers logs (lit≤ tt) ∙ written-all (replicate 511 0) (powers ++ logs) refl)
 
 pub tables-spec : {M : Type 1} → statement M
 tables-spec =

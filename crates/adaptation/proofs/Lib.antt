@@ -1,0 +1,10 @@
+pub mod Octets
+pub mod Remainders
+pub mod Residue
+pub mod Rule
+pub mod Behind
+pub mod Sendable
+pub mod Arrivals
+pub mod Wholes
+pub mod Unique
+pub mod Refusals

@@ -1,0 +1,42 @@
+-- What reading tells is judged. Assumes nothing.
+use borrow.Author.Needs.{needs}
+use mathlib.Core.Path.{sym, ap, _∙_}
+use denote.Ref.{now}
+use Rattle.adaptation.specs.Refusal.{Told}
+use Rattle.adaptation.specs.AL2.{unitOf, Parts, judged, received, apartSays}
+use Rattle.adaptation.specs.declared.al2.Apart.{Apart}
+use Rattle.adaptation.proofs.al2.receive.Statement.{statement}
+use Rattle.adaptation.proofs.al2.receive.Tie as tie
+
+read-requires : tie.Need-read-requires
+read-requires c κs = search needs
+
+enum-known-number : tie.Need-enum-known-number
+enum-known-number c = search needs
+
+settle-requires : tie.Need-settle-requires
+settle-requires c κs = search needs
+
+enum-known-k : tie.Need-enum-known-k
+enum-known-k c = search needs
+
+returns : tie.Need-returns
+unfolding received
+returns c =
+    let r = c .before .before in
+    let a = r .before .before .before .before .args in
+    let u = unitOf (a .numbered) (now (a .whole)) in
+    c .settle .ensures u ∙ ap (λ (t : Told Parts). judged t (a .expected)) (ap (λ (x : Apart). apartSays x u) (sym (r .number .given .1)) ∙ r .before .before .read .ensures)
+
+returns-2 : tie.Need-returns-2
+unfolding received
+returns-2 c =
+    let r = c .before in
+    let a = r .before .before .before .before .args in
+    let u = unitOf (a .numbered) (now (a .whole)) in
+    ap (λ (t : Told Parts). judged t (a .expected)) (ap (λ (x : Apart). apartSays x u) (sym (r .k .given .1)) ∙ r .before .before .read .ensures)
+
+pub receive-spec : {M : Type 1} → statement M
+receive-spec =
+    tie.close
+    (tie.spec read-requires enum-known-number settle-requires enum-known-k returns returns-2)

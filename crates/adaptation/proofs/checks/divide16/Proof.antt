@@ -1,0 +1,72 @@
+-- After i turns the register is what the first i octets leave: a turn is `residues-turn`. Assumes nothing.
+use mathlib.Core.Path.{_≡_, refl, sym}
+use mathlib.Core.List.{[], _∷_}
+use Prim.Native.Nat.{_-_, _≤_}
+use native.Mathlib.Numerals.{add-one}
+use native.Mathlib.Omega.{arith}
+use borrow.Author.Needs.{needs}
+use lib.ListN.{length, take}
+use Rattle.adaptation.specs.Bits.{number, octetsOf}
+use Rattle.adaptation.specs.Check.{sixteen}
+use Rattle.adaptation.proofs.Residue.{residues, residues-none, residues-turn, start, residues-end}
+use denote.Ref.{now}
+use Rattle.adaptation.specs.Table.{entry}
+use Rattle.adaptation.proofs.checks.divide16.Statement.{statement}
+use Rattle.adaptation.proofs.checks.divide16.Tie as tie
+
+abbrev Inv-loop : tie.InvT-loop
+Inv-loop content firsts seconds first₀ second₀ i₀ first second i = (first ∷ second ∷ [] ≡ residues sixteen (take i content)) × (i ≤ length content)
+
+abbrev μ-loop : tie.MeasureT-loop
+μ-loop content firsts seconds first₀ second₀ i₀ first second i = length content - i
+
+loop-holds : tie.Need-loop-holds Inv-loop μ-loop
+unfolding number octetsOf sixteen start
+loop-holds c = (sym (residues-none sixteen), search needs)
+
+shared-slice-read-x : tie.Need-shared-slice-read-x Inv-loop μ-loop
+shared-slice-read-x c = search needs
+
+remainder-requires : tie.Need-remainder-requires Inv-loop μ-loop
+remainder-requires c κs = search needs
+
+remainder-requires-2 : tie.Need-remainder-requires-2 Inv-loop μ-loop
+remainder-requires-2 c κs = search needs
+
+add-i : tie.Need-add-i Inv-loop μ-loop
+add-i c = search needs
+
+loop-less : tie.Need-loop-less Inv-loop μ-loop
+loop-less c = search needs
+
+loop-again : tie.Need-loop-again Inv-loop μ-loop
+unfolding octetsOf entry sixteen
+loop-again c =
+    let a = c .before .before .before .before in
+    let l = a .loop in
+    let s = a .before .before in (
+      (rw (c .before .remainder .ensures sixteen 0 (s .pre .0), c .remainder2 .ensures sixteen 1 (s .pre .1), add-one)
+          (residues-turn sixteen 1 refl (now (s .args .content)) (l .i) (l .first) (l .second ∷ []) (omega arith) (c .before .before .shared-slice-known2 .given (l .i) .fits) (l .inv .0))),
+      search needs,
+    )
+
+returns : tie.Need-returns Inv-loop μ-loop
+unfolding number octetsOf sixteen start
+returns c =
+    let l = c .before .loop in
+    residues-end sixteen (now (c .before .before .before .args .content)) (l .i) _ (omega arith) (l .inv .0)
+
+pub divide16-spec : {M : Type 1} → statement M
+divide16-spec =
+    tie.close
+    (tie.spec
+    Inv-loop
+    μ-loop
+    loop-holds
+    shared-slice-read-x
+    remainder-requires
+    remainder-requires-2
+    add-i
+    loop-less
+    loop-again
+    returns)

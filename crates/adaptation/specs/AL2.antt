@@ -1,0 +1,135 @@
+-- AL2 (000, 7.3; document 01, "AL1 and AL2"), but for the numbers that a channel keeps.
+--
+--   field n         a number as it is sent: one octet, or none where units have no number (7.3.3.2.1)
+--   fieldLength s   how many octets that is, by whether units have numbers
+--   whole n u       a unit u with its number, and the check of 8 bits over both (7.3.3.2.3)
+--   isSendable n u  u has an octet, and the whole at most 1,024
+--   refusals        what refuses to put it into a lent output, in this order
+--   sent n u out    how that ends: with the octets written, or a refusal
+--   isWhole s w     w is no shorter than a number if there is one, a unit and a check, and no longer than 1,024 octets
+--   numberOf s w    the number and the unit that w is made of
+--   unitOf s w
+--   Parts           a unit that was read: its number, whether its check agrees, and the unit
+--   apart s w       how reading w ends
+--   distance n e    n - e modulo 256
+--   mostMissing     the largest that counts as missing units, and not as a misdelivered one
+--   arrival n e     what becomes of number n where e is expected (house): up to 127 past it, that many are missing and the one
+--                   behind n is expected next; else the unit is misdelivered
+--   Receipt         what becomes of a unit: it is handed up, with how many are missing before it, or it is discarded; and the
+--                   number that is expected next
+--   delivered       .. by what becomes of its number, where its check agrees
+--   settled         .. by its parts: the check first, then the number if there is one
+--   judged          .. by what reading told
+--   received s w e  how receiving w ends, where e is expected
+--   sentSays, apartSays, receivedSays   what each answer of the functions says
+--
+-- Assumes nothing.
+use mathlib.Core.Bool.{Bool, true, false, cond, not, _&&_}
+use mathlib.Core.List.{List, [], _∷_, _++_}
+use Prim.Native.Nat.{ℕ, _+_, _-_, _%_}
+use lib.Dec.{leb, ltb}
+use lib.ListN.{length, getD, take, drop}
+use Rattle.octets.specs.Written.{written}
+use Rattle.adaptation.specs.Refusal.{Told, refused, told, Ended, leaving, refusing, Test, _when_, checked}
+use Rattle.adaptation.specs.Check.{checkOf, agrees, eight}
+use Rattle.adaptation.specs.Handed.{longest, Handed, handed}
+use Rattle.adaptation.specs.declared.Badge.the-variants.{Clean, CheckFailed}
+use Rattle.adaptation.specs.declared.al2.Number.{Number}
+use Rattle.adaptation.specs.declared.al2.Number.the-variants.{Numbered, Plain}
+use Rattle.adaptation.specs.declared.al2.Sent.{Sent}
+use Rattle.adaptation.specs.declared.al2.Sent.the-variants as send
+use Rattle.adaptation.specs.declared.al2.Apart.{Apart}
+use Rattle.adaptation.specs.declared.al2.Apart.the-variants as read
+use Rattle.adaptation.specs.declared.al2.Arrival.{Arrival}
+use Rattle.adaptation.specs.declared.al2.Arrival.the-variants.{Taken, Misdelivered}
+use Rattle.adaptation.specs.declared.al2.Received.{Received}
+use Rattle.adaptation.specs.declared.al2.Received.the-variants.{Unit, Discarded, Refused}
+
+-- ---- sending
+
+abbrev pub field : Number → List ℕ
+field (Numbered n) = n ∷ []
+field Plain = []
+
+abbrev pub whole : Number → List ℕ → List ℕ
+whole n u = (field n ++ u) ++ checkOf eight (field n ++ u)
+
+abbrev pub isSendable : Number → List ℕ → Bool
+isSendable n u = leb 1 (length u) && leb (length (whole n u)) longest
+
+abbrev pub refusals : Number → List ℕ → List ℕ → List Test
+refusals n u out = 2 when not (isSendable n u) ∷ 3 when ltb (length out) (length (whole n u)) ∷ []
+
+unfoldable pub sent : Number → List ℕ → List ℕ → Ended ℕ (List ℕ)
+sent n u out = checked (refusing out) (refusals n u out) (leaving (length (whole n u)) (written out 0 (whole n u)))
+
+-- ---- reading
+
+abbrev pub fieldLength : Bool → ℕ
+fieldLength s = cond s 1 0
+
+abbrev pub isWhole : Bool → List ℕ → Bool
+isWhole s w = leb (fieldLength s + 1 + 1) (length w) && leb (length w) longest
+
+abbrev pub numberOf : Bool → List ℕ → Number
+numberOf s w = cond s (Numbered (getD w 0 0)) Plain
+
+abbrev pub unitOf : Bool → List ℕ → List ℕ
+unitOf s w = take (length w - 1 - fieldLength s) (drop (fieldLength s) w)
+
+pub record Parts : Type 0 where
+  pub number : Number
+  pub agreeing : Bool
+  pub unit : List ℕ
+
+unfoldable pub apart : Bool → List ℕ → Told Parts
+apart s w =
+    checked refused (2 when not (isWhole s w) ∷ [])
+    (told (record { number = numberOf s w; agreeing = agrees eight w; unit = unitOf s w }))
+
+-- ---- receiving
+
+abbrev pub distance : ℕ → ℕ → ℕ
+distance n e = (n + 256 - e) % 256
+
+abbrev pub mostMissing : ℕ
+mostMissing = 127
+
+unfoldable pub arrival : ℕ → ℕ → Arrival
+arrival n e = cond (leb (distance n e) mostMissing) (Taken (distance n e) ((n + 1) % 256)) Misdelivered
+
+pub data Receipt : Type 0 where
+  handedUp : Handed → (missing expected : ℕ) → Receipt
+  discarded : (expected : ℕ) → Receipt
+
+abbrev pub delivered : Arrival → List ℕ → ℕ → Receipt
+delivered (Taken d x) u e = handedUp (handed Clean u) d x
+delivered Misdelivered u e = discarded e
+
+abbrev pub settled : Number → Bool → List ℕ → ℕ → Receipt
+settled n false u e = handedUp (handed CheckFailed u) 0 e
+settled (Numbered n) true u e = delivered (arrival n e) u e
+settled Plain true u e = handedUp (handed Clean u) 0 e
+
+abbrev pub judged : Told Parts → ℕ → Told Receipt
+judged (refused k) e = refused k
+judged (told p) e = told (settled (p .number) (p .agreeing) (p .unit) e)
+
+unfoldable pub received : Bool → List ℕ → ℕ → Told Receipt
+received s w e = judged (apart s w) e
+
+-- ---- what each answer says
+
+abbrev pub sentSays : Sent → List ℕ → Ended ℕ (List ℕ)
+sentSays (send.Octets n) out = leaving n out
+sentSays (send.Refused k) out = refusing out k
+
+abbrev pub apartSays : Apart → List ℕ → Told Parts
+apartSays (read.Parts n t) u = told (record { number = n; agreeing = t; unit = u })
+apartSays (read.Refused k) u = refused k
+
+-- u is the unit, and e the number that was expected
+abbrev pub receivedSays : Received → List ℕ → ℕ → Told Receipt
+receivedSays (Unit b d x) u e = told (handedUp (handed b u) d x)
+receivedSays Discarded u e = told (discarded e)
+receivedSays (Refused k) u e = refused k

@@ -1,0 +1,11 @@
+pub mod Refusal
+pub mod Binary
+pub mod Bits
+pub mod Check
+pub mod Table
+pub mod Width
+pub mod Handed
+pub mod AL1
+pub mod AL2
+pub mod AL1M
+pub mod Small
