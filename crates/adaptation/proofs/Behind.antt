@@ -4,6 +4,7 @@
 --   check-octets      .. and they are octets
 --   check-part        of a list that begins with the check, the part of that length is the check
 --   check-fits        .. and it is there
+--   sealed-front      a content written at the front, and its check behind it, are both written there together
 --   agrees-own        a content with its own check behind it agrees
 --   agrees-none       with no check it agrees
 --   agrees-compared   to compare the last octets with the check of those before is to see whether they agree
@@ -18,6 +19,7 @@ use native.Mathlib.Omega.{arith}
 use lib.ListN.{length, getD, take, drop, length-append, length-drop}
 use lib.Seq.{drop-length, take-all, take-at, drop-at}
 use Rattle.octets.specs.Same.{same, same-self}
+use Rattle.octets.specs.Written.{written, written-front, written-next}
 use Rattle.adaptation.specs.Bits.{octetsOf}
 use Rattle.adaptation.specs.Check.{Kind, none, checkOf, agrees}
 use Rattle.adaptation.proofs.Octets.{octetsOf-length, octetsOf-lt}
@@ -37,6 +39,11 @@ module _ (κ : Kind) (u : List ℕ) where
 
     pub check-fits : l ≤ length r
     check-fits = rw e (omega (arith, length-append (checkOf κ u) z, check-length))
+
+  pub sealed-front : (d : List ℕ) → length u ≤ length d
+      → written (written d 0 u) (length u) (checkOf κ (take (length u) (written d 0 u))) ≡ written d 0 (u ++ checkOf κ u)
+  sealed-front d h =
+      ap (λ (x : List ℕ). written (written d 0 u) (length u) (checkOf κ x)) (written-front d u h) ∙ written-next d u (checkOf κ u) h
 
   pub agrees-own : agrees κ (u ++ checkOf κ u) ≡ true
   unfolding agrees

@@ -3,6 +3,9 @@ pub mod Remainders
 pub mod Residue
 pub mod Rule
 pub mod Behind
+pub mod Coding
+pub mod Judging
+pub mod Settings
 pub mod Sendable
 pub mod Arrivals
 pub mod Wholes

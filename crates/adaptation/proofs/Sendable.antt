@@ -9,16 +9,15 @@
 --
 -- Assumes nothing.
 use mathlib.Core.Path.{_≡_, ap, _∙_}
-use mathlib.Core.Bool.{not, _&&_, and-false}
-use mathlib.Core.List.{[], _∷_}
+use mathlib.Core.Bool.{false, _&&_, and-false}
 use Prim.Native.Nat.{ℕ, _+_, _*_, _≤_, _<_}
 use native.Mathlib.Omega.{arith}
 use borrow.Author.Tests.{le-leb, lt-leb}
 use lib.Dec.{leb}
-use Rattle.adaptation.specs.Refusal.{Told, refused, told, _when_, checked}
+use Rattle.adaptation.specs.Refusal.{Told, refused, told, checked}
 use Rattle.adaptation.specs.Check.{none, eight, sixteen}
 use Rattle.adaptation.specs.Width.{kindOf, widthOf, isKnown, kindAsked}
-use Rattle.adaptation.specs.AL1M.{mostRepairs, longestWord, sentLength}
+use Rattle.adaptation.specs.AL1M.{isSetting, isSendable, mostRepairs, longestWord, tests, sentLength}
 use Rattle.adaptation.specs.declared.checks.Width.{Width}
 use Rattle.adaptation.specs.declared.checks.Width.the-variants.{Zero, Eight, Sixteen}
 use Rattle.adaptation.specs.declared.checks.Asked.{Asked}
@@ -35,16 +34,16 @@ module _ (t n e : ℕ) where
   abbrev by : Asked → Told ℕ
   by a =
       checked refused
-      (1 when not (isKnown a && leb e mostRepairs) ∷ 2 when not (leb 1 t && leb (t + kindAsked a .octets + 2 * e) longestWord) ∷ [])
+      (tests (isKnown a && leb e mostRepairs) (leb 1 t && leb (t + kindAsked a .octets + 2 * e) longestWord) false)
       (told (t + kindAsked a .octets + 2 * e))
 
   pub length-unknown : widthOf n ≡ Unknown → sentLength t n e ≡ refused 1
-  unfolding sentLength
+  unfolding sentLength isSetting isSendable
   length-unknown k = ap by k
 
   module _ (w : Width) (k : widthOf n ≡ Known w) where
     asked : sentLength t n e ≡ by (Known w)
-    unfolding sentLength
+    unfolding sentLength isSetting isSendable
     asked = ap by k
 
     pub length-repairs : mostRepairs < e → sentLength t n e ≡ refused 1

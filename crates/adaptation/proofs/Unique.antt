@@ -3,8 +3,8 @@
 --   once             two things of which something says the same are equal, where the saying can be undone
 --   badge-once       of badges
 --   passed-once      AL1's answers
---   length-once      the answers to the length question
---   sent-once        AL2's answers to sending, and the outputs
+--   length-once      the answers that are lengths
+--   ended-once       .. and what is left beside them
 --   read-once        .. to reading
 --   received-once    .. and to receiving
 --   check8-once      the checks of 8 bits
@@ -15,21 +15,17 @@ use mathlib.Core.Bool.{Bool, cond}
 use mathlib.Core.List.{List, [], _∷_, head-eq-of-cons-eq}
 use Prim.Native.Nat.{ℕ}
 use lib.Dec.{eqb}
-use Rattle.adaptation.specs.Refusal.{Told, refused, told}
+use Rattle.adaptation.specs.Refusal.{Told, refused, told, Ended, says, ends}
 use Rattle.adaptation.specs.Check.{checkOf, eight}
 use Rattle.adaptation.specs.Handed.{badgeNumber, Handed}
 use Rattle.adaptation.specs.AL1 as al1
-use Rattle.adaptation.specs.AL1M as al1m
-use Rattle.adaptation.specs.AL2.{Parts, Receipt, handedUp, discarded, unitOf, sent, apart, received, sentSays, apartSays, receivedSays}
+use Rattle.adaptation.specs.AL2.{Parts, Receipt, handedUp, discarded, unitOf, apart, received, apartSays, receivedSays}
 use Rattle.adaptation.specs.declared.Badge.{Badge}
 use Rattle.adaptation.specs.declared.Badge.the-variants.{Clean, Corrected, OutOfReach, CheckFailed, Unchecked}
 use Rattle.adaptation.specs.declared.al1.Passed.{Passed}
 use Rattle.adaptation.specs.declared.al1.Passed.the-variants as pass
-use Rattle.adaptation.specs.declared.al1m.Length.{Length}
-use Rattle.adaptation.specs.declared.al1m.Length.the-variants as length
-use Rattle.adaptation.specs.declared.al2.Number.{Number}
-use Rattle.adaptation.specs.declared.al2.Sent.{Sent}
-use Rattle.adaptation.specs.declared.al2.Sent.the-variants as send
+use Rattle.adaptation.specs.declared.Length.{Length}
+use Rattle.adaptation.specs.declared.Length.the-variants.{Octets, Refused}
 use Rattle.adaptation.specs.declared.al2.Apart.{Apart}
 use Rattle.adaptation.specs.declared.al2.Apart.the-variants as read
 use Rattle.adaptation.specs.declared.al2.Received.{Received}
@@ -68,37 +64,35 @@ passed-once u a b = once (λ (r : Passed). al1.says r u) passedBack back a b (al
     back (pass.Unit b) = ap pass.Unit (badge-back b)
     back (pass.Refused k) = refl
 
--- ---- the length question
+-- ---- lengths
 
 lengthBack : Told ℕ → Length
-lengthBack (told n) = length.Octets n
-lengthBack (refused k) = length.Refused k
+lengthBack (told n) = Octets n
+lengthBack (refused k) = Refused k
 
-length-back : (r : Length) → lengthBack (al1m.says r) ≡ r
+length-back : (r : Length) → lengthBack (says r) ≡ r
 unfolding lengthBack
-length-back (length.Octets n) = refl
-length-back (length.Refused k) = refl
+length-back (Octets n) = refl
+length-back (Refused k) = refl
 
-pub length-once : (t n e : ℕ) (a b : Length) → al1m.says a ≡ al1m.sentLength t n e → al1m.says b ≡ al1m.sentLength t n e → a ≡ b
-length-once t n e a b = once al1m.says lengthBack length-back a b (al1m.sentLength t n e)
+pub length-once : (a b : Length) (x : Told ℕ) → says a ≡ x → says b ≡ x → a ≡ b
+length-once = once says lengthBack length-back
+
+pub ended-once : {X : Type 0} (a b : Length) (x y : X) (z : Ended ℕ X) → ends a x ≡ z → ends b y ≡ z → (a ≡ b) × (x ≡ y)
+ended-once {X = X} a b x y z p q = (
+  length-once a b (z .answer) (answer a x ∙ ap (λ (e : Ended ℕ X). e .answer) p) (answer b y ∙ ap (λ (e : Ended ℕ X). e .answer) q),
+  (sym (left a x) ∙ ap (λ (e : Ended ℕ X). e .left) (p ∙ sym q) ∙ left b y),
+)
+  where
+    answer : (r : Length) (u : X) → says r ≡ ends r u .answer
+    answer (Octets n) u = refl
+    answer (Refused k) u = refl
+
+    left : (r : Length) (u : X) → ends r u .left ≡ u
+    left (Octets n) u = refl
+    left (Refused k) u = refl
 
 -- ---- AL2
-
-sentBack : Told ℕ → Sent
-sentBack (told n) = send.Octets n
-sentBack (refused k) = send.Refused k
-
-pub sent-once : (n : Number) (u out : List ℕ) (a b : Sent) (x y : List ℕ)
-    → sentSays a x ≡ sent n u out → sentSays b y ≡ sent n u out → (a ≡ b) × (x ≡ y)
-unfolding sentBack
-sent-once n u out a b x y p q = (ap (λ (z : Sent × List ℕ). z .0) same, ap (λ (z : Sent × List ℕ). z .1) same)
-  where
-    back : (z : Sent × List ℕ) → _≡_ {A = Sent × List ℕ} (sentBack (sentSays (z .0) (z .1) .answer), sentSays (z .0) (z .1) .left) z
-    back (send.Octets m, o) = refl
-    back (send.Refused k, o) = refl
-
-    same : _≡_ {A = Sent × List ℕ} (a, x) (b, y)
-    same = once (λ (z : Sent × List ℕ). sentSays (z .0) (z .1)) (λ e. (sentBack (e .answer), e .left)) back (a, x) (b, y) (sent n u out) p q
 
 apartBack : Told Parts → Apart
 apartBack (told p) = read.Parts (p .number) (p .agreeing)

@@ -22,7 +22,7 @@ use borrow.Author.Tests.{le-leb, lt-leb, le-ltb, lt-ltb}
 use lib.Dec.{leb}
 use lib.ListN.{length, take, length-append}
 use lib.Seq.{take-at}
-use Rattle.octets.specs.Written.{written, written-front, written-next}
+use Rattle.octets.specs.Written.{written, written-next}
 use Rattle.adaptation.specs.Refusal.{Told, refused, told, leaving, refusing}
 use Rattle.adaptation.specs.Check.{checkOf, agrees, eight}
 use Rattle.adaptation.specs.Handed.{longest, handed}
@@ -32,7 +32,7 @@ use Rattle.adaptation.specs.declared.al2.Number.the-variants.{Numbered, 
 use Rattle.adaptation.specs.declared.al2.Arrival.{Arrival}
 use Rattle.adaptation.specs.declared.Badge.the-variants.{Clean}
 use Rattle.adaptation.proofs.Arrivals.{arrival-next}
-use Rattle.adaptation.proofs.Behind.{check-length, agrees-own}
+use Rattle.adaptation.proofs.Behind.{check-length, sealed-front, agrees-own}
 
 pub field-most : (n : Number) → length (field n) ≤ 1
 field-most (Numbered n) = omega arith
@@ -80,9 +80,7 @@ module _ (n : Number) (u : List ℕ) (m : ℕ) (e : m ≡ length (field n)) wher
             let k : m + length u ≡ length v = rw e (sym (length-append (field n) u)) in
             let both : b ≡ written out 0 v = hb ∙ ap₂ (λ (x : List ℕ) (i : ℕ). written x i u) ha e ∙ written-next out (field n) u (omega arith) in
             let all : c ≡ written out 0 (whole n u) =
-            hc ∙ ap₂ (λ (i : ℕ) (x : List ℕ). written x i (checkOf eight (take i x))) k both
-            ∙ ap (λ (x : List ℕ). written (written out 0 v) (length v) (checkOf eight x)) (written-front out v (omega arith))
-            ∙ written-next out v (checkOf eight v) (omega arith) in
+            hc ∙ ap₂ (λ (i : ℕ) (x : List ℕ). written x i (checkOf eight (take i x))) k both ∙ sealed-front eight v out (omega arith) in
             sent-whole ∙ ap (leaving (m + length u + 1)) (sym all)
 
 -- ---- reading

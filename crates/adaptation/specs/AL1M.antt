@@ -5,18 +5,16 @@
 --   isSetting n e      a check of n bits and e repairs may be asked for
 --   sentOctets t n e   a unit of t octets, its check of l octets and the parity: t + l + 2e
 --   isSendable t n e   such a unit may be sent
+--   tests s r x        what refuses, in this order: settings that are not s, a length that is not r, a room that is x, too small
 --   sentLength t n e   the answer to the length question
---   says r             what a value of `Length` says
 --
 -- Assumes nothing.
-use mathlib.Core.Bool.{Bool, not, _&&_}
-use mathlib.Core.List.{[], _∷_}
+use mathlib.Core.Bool.{Bool, false, not, _&&_}
+use mathlib.Core.List.{List, [], _∷_}
 use Prim.Native.Nat.{ℕ, _+_, _*_}
 use lib.Dec.{leb}
-use Rattle.adaptation.specs.Refusal.{Told, refused, told, _when_, checked}
+use Rattle.adaptation.specs.Refusal.{Told, refused, told, Test, _when_, checked}
 use Rattle.adaptation.specs.Width.{isWidth, kindAt}
-use Rattle.adaptation.specs.declared.al1m.Length.{Length}
-use Rattle.adaptation.specs.declared.al1m.Length.the-variants.{Octets, Refused}
 
 abbrev pub mostRepairs : ℕ
 mostRepairs = 127
@@ -24,18 +22,17 @@ mostRepairs = 127
 abbrev pub longestWord : ℕ
 longestWord = 255
 
-abbrev pub isSetting : ℕ → ℕ → Bool
+unfoldable pub isSetting : ℕ → ℕ → Bool
 isSetting n e = isWidth n && leb e mostRepairs
 
 abbrev pub sentOctets : ℕ → ℕ → ℕ → ℕ
 sentOctets t n e = t + kindAt n .octets + 2 * e
 
-abbrev pub isSendable : ℕ → ℕ → ℕ → Bool
+unfoldable pub isSendable : ℕ → ℕ → ℕ → Bool
 isSendable t n e = leb 1 t && leb (sentOctets t n e) longestWord
 
-unfoldable pub sentLength : ℕ → ℕ → ℕ → Told ℕ
-sentLength t n e = checked refused (1 when not (isSetting n e) ∷ 2 when not (isSendable t n e) ∷ []) (told (sentOctets t n e))
+abbrev pub tests : Bool → Bool → Bool → List Test
+tests s r x = 1 when not s ∷ 2 when not r ∷ 3 when x ∷ []
 
-abbrev pub says : Length → Told ℕ
-says (Octets n) = told n
-says (Refused k) = refused k
+unfoldable pub sentLength : ℕ → ℕ → ℕ → Told ℕ
+sentLength t n e = checked refused (tests (isSetting n e) (isSendable t n e) false) (told (sentOctets t n e))

@@ -21,7 +21,7 @@
 --   settled         .. by its parts: the check first, then the number if there is one
 --   judged          .. by what reading told
 --   received s w e  how receiving w ends, where e is expected
---   sentSays, apartSays, receivedSays   what each answer of the functions says
+--   apartSays, receivedSays   what each answer of the functions says
 --
 -- Assumes nothing.
 use mathlib.Core.Bool.{Bool, true, false, cond, not, _&&_}
@@ -36,8 +36,6 @@ use Rattle.adaptation.specs.Handed.{longest, Handed, handed}
 use Rattle.adaptation.specs.declared.Badge.the-variants.{Clean, CheckFailed}
 use Rattle.adaptation.specs.declared.al2.Number.{Number}
 use Rattle.adaptation.specs.declared.al2.Number.the-variants.{Numbered, Plain}
-use Rattle.adaptation.specs.declared.al2.Sent.{Sent}
-use Rattle.adaptation.specs.declared.al2.Sent.the-variants as send
 use Rattle.adaptation.specs.declared.al2.Apart.{Apart}
 use Rattle.adaptation.specs.declared.al2.Apart.the-variants as read
 use Rattle.adaptation.specs.declared.al2.Arrival.{Arrival}
@@ -119,10 +117,6 @@ unfoldable pub received : Bool → List ℕ → ℕ → Told Receipt
 received s w e = judged (apart s w) e
 
 -- ---- what each answer says
-
-abbrev pub sentSays : Sent → List ℕ → Ended ℕ (List ℕ)
-sentSays (send.Octets n) out = leaving n out
-sentSays (send.Refused k) out = refusing out k
 
 abbrev pub apartSays : Apart → List ℕ → Told Parts
 apartSays (read.Parts n t) u = told (record { number = n; agreeing = t; unit = u })

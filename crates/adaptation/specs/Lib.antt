@@ -8,4 +8,6 @@ pub mod Handed
 pub mod AL1
 pub mod AL2
 pub mod AL1M
+pub mod Sending
+pub mod Receiving
 pub mod Small

@@ -6,11 +6,18 @@
 --   refusing x k    it is refused with number k: it tells the number only, and leaves everything as it came
 --   k when b        a `Test`: refusal k is given where b holds
 --   checked f l e   f of the first of the refusals l whose test holds, or else e
+--   refusal l       the first of the refusals l whose test holds, if one does
+--   RefusedIs l k before after   k is that one, and what was lent is as it came
+--   says r          what a value of `Length` says
+--   ends r x        .. and that x is left
 --
 -- Assumes nothing.
+use mathlib.Core.Path.{_≡_}
 use mathlib.Core.Bool.{Bool, cond}
 use mathlib.Core.List.{List, [], _∷_}
 use Prim.Native.Nat.{ℕ}
+use Rattle.adaptation.specs.declared.Length.{Length}
+use Rattle.adaptation.specs.declared.Length.the-variants.{Octets, Refused}
 
 infix 68 _when_
 pub data Told (A : Type 0) : Type 0 where
@@ -33,3 +40,18 @@ pub data Test : Type 0 where
 abbrev pub checked : {R : Type 0} → (ℕ → R) → List Test → R → R
 checked f [] e = e
 checked f ((k when b) ∷ l) e = cond b (f k) (checked f l e)
+
+abbrev pub refusal : List Test → Told (Unit {0})
+refusal l = checked refused l (told tt)
+
+pub record RefusedIs {X : Type 0} (l : List Test) (k : ℕ) (before after : X) : Type 0 where
+  pub first : refusal l ≡ refused k
+  pub same : after ≡ before
+
+abbrev pub says : Length → Told ℕ
+says (Octets n) = told n
+says (Refused k) = refused k
+
+abbrev pub ends : {X : Type 0} → Length → X → Ended ℕ X
+ends (Octets n) x = leaving n x
+ends (Refused k) x = refusing x k

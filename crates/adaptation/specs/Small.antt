@@ -12,7 +12,8 @@ use Rattle.algebra.specs.Division.{sum, lowered, divided, remainder}
 use Rattle.adaptation.specs.Refusal.{refused, told}
 use Rattle.adaptation.specs.Bits.{isOdd, bitsOf, bits, number, octetsOf}
 use Rattle.adaptation.specs.Check.{generator, plain, preset, checkBits, checkOf, eight, sixteen}
-use Rattle.adaptation.specs.AL1M.{sentLength}
+use Rattle.adaptation.specs.Width.{widthOf}
+use Rattle.adaptation.specs.AL1M.{isSetting, isSendable, sentLength}
 
 pub small :
     (checkOf eight (0x10 ∷ 0x80 ∷ []) ≡ 0xF5 ∷ [])
@@ -20,5 +21,5 @@ pub small :
     × (sentLength 47 16 2 ≡ told 53)
     × (sentLength 47 16 101 ≡ told 251)
     × (sentLength 47 16 104 ≡ refused 2)
-unfolding isOdd bitsOf bits number octetsOf sum lowered divided remainder generator plain preset checkBits checkOf eight sixteen sentLength
+unfolding isOdd bitsOf bits number octetsOf sum lowered divided remainder generator plain preset checkBits checkOf eight sixteen widthOf isSetting isSendable sentLength
 small = (refl, refl, refl, refl, refl)

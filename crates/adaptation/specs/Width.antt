@@ -20,7 +20,7 @@ kindOf Zero = none
 kindOf Eight = eight
 kindOf Sixteen = sixteen
 
-abbrev pub widthOf : ℕ → Asked
+unfoldable pub widthOf : ℕ → Asked
 widthOf n = cond (eqb n 0) (Known Zero) (cond (eqb n 8) (Known Eight) (cond (eqb n 16) (Known Sixteen) Unknown))
 
 abbrev pub isKnown : Asked → Bool

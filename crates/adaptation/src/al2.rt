@@ -1,6 +1,7 @@
 // AL2 (000, 7.3), but for the numbers that a channel keeps: its units are put together, read apart and judged.
 use crate::Badge;
 use crate::LONGEST;
+use crate::Length;
 use crate::checks::Width;
 use crate::seals;
 ghost use mathlib.Core.Path.{_≡_};
@@ -8,8 +9,8 @@ ghost use mathlib.Core.List.{List};
 ghost use Prim.Native.Nat.{ℕ, _≤_};
 ghost use lib.ListN.{length};
 ghost use Rattle.octets.specs.Written.{written};
-ghost use Rattle.adaptation.specs.Refusal.{told};
-ghost use Rattle.adaptation.specs.AL2.{field, fieldLength, sent, apart, unitOf, arrival, settled, received, sentSays, apartSays, receivedSays};
+ghost use Rattle.adaptation.specs.Refusal.{told, ends};
+ghost use Rattle.adaptation.specs.AL2.{field, fieldLength, sent, apart, unitOf, arrival, settled, received, apartSays, receivedSays};
 
 // How far past the number expected a number counts as one after missing units, and not as misdelivered (house).
 const MOST_MISSING: u16 = 127;
@@ -18,12 +19,6 @@ const MOST_MISSING: u16 = 127;
 pub enum Number {
     Numbered(u8),
     Plain,
-}
-
-// What putting a unit together answers: the octets written, or document 01's refusal number.
-pub enum Sent {
-    Octets(usize),
-    Refused(u8),
 }
 
 // What reading a unit apart answers: its number and whether its check agrees, or document 01's refusal number.
@@ -71,25 +66,25 @@ fn number_octets(number: Number) -> usize
 }
 
 // Puts number, unit and check together at the front of out: refusals 2, 3.
-pub fn send(number: Number, unit: &[u8], out: &mut [u8]) -> Sent
-    ensures { λ r. ⌜ sentSays r (now (out .exit)) ≡ sent number (now (unit .entry)) (now (out .entry)) ⌝ }
+pub fn send(number: Number, unit: &[u8], out: &mut [u8]) -> Length
+    ensures { λ r. ⌜ ends r (now (out .exit)) ≡ sent number (now (unit .entry)) (now (out .entry)) ⌝ }
 {
     let t = unit.len();
     if t == 0 {
-        return Sent::Refused(2);
+        return Length::Refused(2);
     }
     let from = number_octets(number);
     if LONGEST - 1 - from < t {
-        return Sent::Refused(2);
+        return Length::Refused(2);
     }
     let n = from + t;
     if out.len() <= n {
-        return Sent::Refused(3);
+        return Length::Refused(3);
     }
     put_number(number, out);
     octets::write(out, from, unit);
     seals::seal(out, n, Width::Eight);
-    Sent::Octets(n + 1)
+    Length::Octets(n + 1)
 }
 
 // How many octets the number takes, where units have one or not.

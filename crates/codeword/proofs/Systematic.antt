@@ -4,9 +4,10 @@
 --   codeWord-parity      and in a code word that begins with the message the rest is its parity
 --   parity-unique        which is the only one
 --   encoded-unique       any two answers that encoding's promise allows are equal, what is left in the lent octets included
---   encodes-all                                   what fits
+--   encodes-true, encodes-all                     what fits
 --   encodes-empty, encodes-long, encodes-short    what does not
 --   encoded-not, encoded-done                     the two cases of the promise
+--   encoded-is                                    .. and what it says where the message fits
 --
 -- Assumes nothing.
 use mathlib.Core.Path.{_≡_, refl, sym, ap, _∙_, subst}
@@ -104,13 +105,17 @@ encoded-unique e u before n m after left = go (encodes (length u) e (length befo
 pub encoded-not : (e : ℕ) (u before : List ℕ) → encodes (length u) e (length before) ≡ false → Encoded e u before 0 before
 encoded-not e u before h = subst (λ (b : Bool). either b (Done e u before 0 before) (Left 0 before before)) (sym h) (record { count = refl; same = refl })
 
+pub encodes-true : (k e room : ℕ) → 0 < k → k + 2 * e ≤ 255 → k + 2 * e ≤ room → encodes k e room ≡ true
+encodes-true k e room some all fits = rw (lt-ltb 0 k some, le-leb (k + 2 * e) 255 all, le-leb (k + 2 * e) room fits)
+
+pub encoded-is : (e : ℕ) (u before after : List ℕ) (n : ℕ) → encodes (length u) e (length before) ≡ true → Encoded e u before n after → Done e u before n after
+encoded-is e u before after n h p = subst (λ (b : Bool). either b (Done e u before n after) (Left n before after)) h p
+
 pub encoded-done : (e n : ℕ) (u before p after : List ℕ) → 0 < length u → length u + 2 * e ≤ 255 → length u + 2 * e ≤ length before
     → Parity e u p → n ≡ length u + 2 * e → after ≡ written before 0 (u ++ p) → Encoded e u before n after
 encoded-done e n u before p after some all room r c w =
-    subst (λ (b : Bool). either b (Done e u before n after) (Left n before after)) (sym fits) (record { parity = p; right = r; count = c; written-is = w })
-  where
-    fits : encodes (length u) e (length before) ≡ true
-    fits = rw (lt-ltb 0 (length u) some, le-leb (length u + 2 * e) 255 all, le-leb (length u + 2 * e) (length before) room)
+    subst (λ (b : Bool). either b (Done e u before n after) (Left n before after)) (sym (encodes-true (length u) e (length before) some all room))
+    (record { parity = p; right = r; count = c; written-is = w })
 
 pub encodes-all : (k e room : ℕ) → encodes k e room ≡ true → (0 < k) × (k + 2 * e ≤ 255) × (k + 2 * e ≤ room)
 encodes-all k e room h =

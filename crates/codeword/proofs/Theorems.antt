@@ -1,8 +1,8 @@
 -- The claims of specs/Claims.antt.
 --
 -- Assumes nothing.
-use mathlib.Core.Path.{_≡_, refl, sym, ap, ap₂, _∙_, subst}
-use mathlib.Core.Bool.{Bool, true}
+use mathlib.Core.Path.{_≡_, refl, sym, ap, ap₂, _∙_}
+use mathlib.Core.Bool.{true}
 use mathlib.Core.List.{List, _++_}
 use Prim.Native.Nat.{ℕ, _+_, _*_}
 use native.Mathlib.Omega.{arith}
@@ -10,12 +10,12 @@ use lib.ListN.{length, take, drop, length-append, length-drop, take-append-drop}
 use lib.Seq.{take-take}
 use Rattle.octets.specs.Written.{written, written-part, written-behind}
 use Rattle.codeword.specs.CodeWord.{distance}
-use Rattle.codeword.specs.Encoding.{encodes, Done, Left, either, Encoded}
+use Rattle.codeword.specs.Encoding.{encodes, Done, Encoded}
 use Rattle.codeword.specs.Claims.{EncodedIsCodeWord, EncodedIsOnly, CodeWordsApart, ZeroSyndromes, FoundExactly, FoundIsIt, NeverSecond, LostUntouched, EncodedUnique, RepairedUnique}
 use Rattle.codeword.specs.declared.Reach.the-variants.{Found, OutOfReach}
 use Rattle.codeword.proofs.Criterion.{codeWord-zero, zero-codeWord}
 use Rattle.codeword.proofs.Distance.{codeWords-apart, within-unique}
-use Rattle.codeword.proofs.Systematic.{parity-codeWord, codeWord-parity, parity-unique, encoded-unique, encodes-all}
+use Rattle.codeword.proofs.Systematic.{parity-codeWord, codeWord-parity, parity-unique, encoded-unique, encoded-is, encodes-all}
 use Rattle.codeword.proofs.Repairing.{reads-all}
 
 -- ---- what was written at the front
@@ -28,12 +28,9 @@ rest before s n e h = let z : n ≡ 0 + length s = omega arith in rw z (written-
 
 -- ---- encoding
 
-done : (e : ℕ) (u before after : List ℕ) (n : ℕ) → encodes (length u) e (length before) ≡ true → Encoded e u before n after → Done e u before n after
-done e u before after n h p = subst (λ (b : Bool). either b (Done e u before n after) (Left n before after)) h p
-
 module _ (e : ℕ) (u before after : List ℕ) (n : ℕ) (fits : encodes (length u) e (length before) ≡ true) (p : Encoded e u before n after) where
   d : Done e u before n after
-  d = done e u before after n fits p
+  d = encoded-is e u before after n fits p
 
   n-is : n ≡ length (u ++ d .parity)
   n-is = d .count ∙ ap (λ (k : ℕ). length u + k) (sym (d .right .long)) ∙ sym (length-append u (d .parity))

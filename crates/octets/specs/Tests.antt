@@ -1,5 +1,6 @@
--- Three tests at once.
+-- Two or three tests at once.
 --
+--   both-true                            both passed, so each did
 --   three-true                           all of them passed, so each did
 --   first-false, second-false, third-false   one of them failed, so not all passed
 --
@@ -8,6 +9,11 @@ use mathlib.Core.Path.{_≡_, refl}
 use mathlib.Core.Bool.{Bool, true, false, _&&_}
 use Prim.Native.Nat.{ℕ}
 use native.Mathlib.Omega.{arith}
+
+pub both-true : (a b : Bool) → a && b ≡ true → (a ≡ true) × (b ≡ true)
+both-true true true h = (refl, refl)
+both-true true false h = let z : _≡_ {A = ℕ} 0 1 = cc in absurd (omega arith)
+both-true false b h = let z : _≡_ {A = ℕ} 0 1 = cc in absurd (omega arith)
 
 pub three-true : (a b c : Bool) → a && b && c ≡ true → (a ≡ true) × (b ≡ true) × (c ≡ true)
 three-true true true true h = (refl, refl, refl)

@@ -1,7 +1,7 @@
 // What every layer does with octets and no document names. No host calls these functions: each caller has tested what they require.
 ghost use mathlib.Core.Path.{_≡_};
 ghost use Prim.Native.Nat.{_+_, _≤_};
-ghost use lib.ListN.{length};
+ghost use lib.ListN.{length, take};
 ghost use Rattle.octets.specs.Same as sameness;
 ghost use Rattle.octets.specs.Written.{written};
 
@@ -15,6 +15,16 @@ pub fn write(dst: &mut [u8], at: usize, src: &[u8])
         dst[at + j] = src[j];
         j += 1;
     }
+}
+
+// The first n octets of s, or all where there are fewer.
+pub fn front(s: &[u8], n: usize) -> &[u8]
+    ensures { λ r. ⌜ now r ≡ take n (now (s .entry)) ⌝ }
+{
+    if s.len() < n {
+        return s;
+    }
+    &s[..n]
 }
 
 // Whether a and b are the same octets.

@@ -1,0 +1,101 @@
+-- The badge, by what the repair found and what its check says. Assumes nothing.
+use borrow.Author.Needs.{needs}
+use mathlib.Core.Path.{refl, sym, ap, _∙_}
+use Prim.Native.Nat.{_-_, _*_, _≤_}
+use native.Mathlib.Omega.{arith}
+use lib.ListN.{length}
+use denote.Ref.{now}
+use lib.Seq.{length-take-le}
+use Rattle.adaptation.proofs.Judging.{fits-front}
+use Rattle.adaptation.specs.Width.{kindOf}
+use Rattle.codeword.specs.declared.Reach.the-variants.{Found, OutOfReach}
+use Rattle.adaptation.proofs.al1m.judge.Statement.{statement}
+use Rattle.adaptation.proofs.al1m.judge.Tie as tie
+
+octets-of-requires : tie.Need-octets-of-requires
+octets-of-requires c κs = search needs
+
+mul-k : tie.Need-mul-k
+mul-k c = search needs
+
+sub-k : tie.Need-sub-k
+sub-k c = search needs
+
+sub-length : tie.Need-sub-length
+sub-length c = search needs
+
+repair-requires : tie.Need-repair-requires
+repair-requires c κs = search needs
+
+enum-known-changed : tie.Need-enum-known-changed
+enum-known-changed c = search needs
+
+enum-told : tie.Need-enum-told
+enum-told c = search needs
+
+same-length : tie.Need-same-length
+same-length c = search needs
+
+returns : tie.Need-returns
+returns c =
+    record {
+      reach = OutOfReach;
+      repaired = rw (c .enum-told .given .1) at (c .before .before .before .before .repair .ensures);
+      badge-is = refl;
+      changed-is = refl;
+      length-is = rw (c .before .before .before .before .before .before .octets-of .ensures);
+    }
+
+slice-reshare-prefix-is-sealed : tie.Need-slice-reshare-prefix-is-sealed
+slice-reshare-prefix-is-sealed c = search needs
+
+slice-aggregate-is-sealed : tie.Need-slice-aggregate-is-sealed
+slice-aggregate-is-sealed c = sym (length-take-le _ _ (omega (arith, c .before .before .before .before .before .before .repair .kept .1 .1 .0, c .before .before .before .before .before .before .before .before .before .before .before .pre)))
+
+is-sealed-requires : tie.Need-is-sealed-requires
+is-sealed-requires c κs =
+    let pre = c .before .before .before .before .before .before .before .before .before .before .before .pre in
+    let k : kindOf (c .before .before .before .before .before .before .before .before .before .before .before .args .w) .octets ≤ length (now (c .before .before .before .before .before .before .before .before .before .before .before .args .received)) - 2 * c .before .before .before .before .before .before .before .before .before .before .before .args .e = omega (arith, pre) in
+    fits-front _ _ (c .before .before .before .before .before .before .repair .last .1 .1 .0) (omega (arith, c .before .before .before .before .before .before .repair .kept .1 .1 .0, pre)) k
+
+is-bare-requires : tie.Need-is-bare-requires
+is-bare-requires c κs = search needs
+
+badge-of-requires : tie.Need-badge-of-requires
+badge-of-requires c κs = search needs
+
+same-length-2 : tie.Need-same-length-2
+same-length-2 c = search needs
+
+returns-2 : tie.Need-returns-2
+returns-2 c =
+    let o = c .before .before .before .before .before .before .before .before .before .before .before .octets-of in
+    let κ = kindOf (c .before .before .before .before .before .before .before .before .before .before .before .before .before .before .args .w) in
+    record {
+      reach = Found (c .before .before .before .before .before .changed .given .0 .0);
+      repaired = rw (c .before .before .before .before .before .changed .given .1) at (c .before .before .before .before .before .before .before .before .before .repair .ensures);
+      badge-is = c .badge-of .ensures ∙ (rw (c .before .is-bare .ensures κ (o .ensures), c .before .before .is-sealed .ensures));
+      changed-is = refl;
+      length-is = rw (o .ensures);
+    }
+
+pub judge-spec : {M : Type 1} → statement M
+judge-spec =
+    tie.close
+    (tie.spec
+    octets-of-requires
+    mul-k
+    sub-k
+    sub-length
+    repair-requires
+    enum-known-changed
+    enum-told
+    same-length
+    returns
+    slice-reshare-prefix-is-sealed
+    slice-aggregate-is-sealed
+    is-sealed-requires
+    is-bare-requires
+    badge-of-requires
+    same-length-2
+    returns-2)
