@@ -6,7 +6,7 @@
 --   check-fits        .. and it is there
 --   sealed-front      a content written at the front, and its check behind it, are both written there together
 --   agrees-own        a content with its own check behind it agrees
---   agrees-none       with no check it agrees
+--   agrees-none       with a check of no octets it agrees
 --   agrees-compared   to compare the last octets with the check of those before is to see whether they agree
 --
 -- Assumes nothing.
@@ -21,7 +21,7 @@ use lib.Seq.{drop-length, take-all, take-at, drop-at}
 use Rattle.octets.specs.Same.{same, same-self}
 use Rattle.octets.specs.Written.{written, written-front, written-next}
 use Rattle.adaptation.specs.Bits.{octetsOf}
-use Rattle.adaptation.specs.Check.{Kind, none, checkOf, agrees}
+use Rattle.adaptation.specs.Check.{Kind, checkOf, agrees}
 use Rattle.adaptation.proofs.Octets.{octetsOf-length, octetsOf-lt}
 
 module _ (κ : Kind) (u : List ℕ) where
@@ -51,9 +51,9 @@ module _ (κ : Kind) (u : List ℕ) where
       let n : length (u ++ checkOf κ u) - κ .octets ≡ length u = omega (arith, length-append u (checkOf κ u), check-length) in
       rw (n, take-at u (checkOf κ u) (length u) refl, drop-at u (checkOf κ u) (length u) refl) (same-self (checkOf κ u))
 
-pub agrees-none : (u : List ℕ) → agrees none u ≡ true
-unfolding octetsOf checkOf agrees none
-agrees-none u = rw (sub-zero, drop-length)
+pub agrees-none : (κ : Kind) (u : List ℕ) → κ .octets ≡ 0 → agrees κ u ≡ true
+unfolding octetsOf checkOf agrees
+agrees-none κ u z = rw (z, sub-zero, drop-length)
 
 pub agrees-compared : (κ : Kind) (u r z : List ℕ) (l : ℕ) → l ≡ κ .octets → r ≡ checkOf κ (take (length u - l) u) ++ z
     → same (take (length u - (length u - l)) (drop (length u - l) u)) (take l r) ≡ agrees κ u

@@ -11,3 +11,4 @@ pub mod Arrivals
 pub mod Wholes
 pub mod Unique
 pub mod Refusals
+pub mod Theorems

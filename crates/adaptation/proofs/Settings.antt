@@ -13,11 +13,9 @@
 use mathlib.Core.Path.{_≡_, ap, _∙_}
 use mathlib.Core.Bool.{Bool, true, false, _&&_, and-false}
 use Prim.Native.Nat.{ℕ, _+_, _*_, _≤_, _<_}
-use native.Mathlib.Omega.{arith}
 use borrow.Author.Tests.{le-leb, lt-leb, leb-true}
 use lib.Dec.{leb}
 use Rattle.octets.specs.Tests.{both-true}
-use Rattle.adaptation.specs.Check.{Kind}
 use Rattle.adaptation.specs.Width.{kindOf, widthOf, isKnown, isWidth, kindAsked, kindAt}
 use Rattle.adaptation.specs.AL1M.{mostRepairs, longestWord, isSetting}
 use Rattle.adaptation.specs.Receiving.{isWord}

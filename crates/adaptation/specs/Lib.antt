@@ -10,4 +10,5 @@ pub mod AL2
 pub mod AL1M
 pub mod Sending
 pub mod Receiving
+pub mod Claims
 pub mod Small

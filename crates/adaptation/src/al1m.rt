@@ -129,7 +129,8 @@ fn judge(received: &[u8], w: Width, e: usize, repair: &mut [u8]) -> Judgement
             length,
         };
     };
-    let agrees = seals::is_sealed(&repair[..k], w);
+    let word = &repair[..];
+    let agrees = seals::is_sealed(octets::front(word, k), w);
     let badge = badge_of(is_bare(l, e), changed, agrees);
     Judgement {
         badge,

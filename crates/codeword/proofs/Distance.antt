@@ -2,7 +2,7 @@
 --
 --   difference v w       the series of what v and w differ by, at each place
 --   distance-weight      the distance is its weight
---   distance-symmetric, distance-zero
+--   distance-symmetric, distance-triangle, distance-self, distance-zero
 --   difference-value     its power sums are the sums of the words' values
 --   codeWords-apart      two code words of one length that differ in at most 2e octets are equal
 --   within-unique        so at most one code word lies within e octets of a word
@@ -98,6 +98,17 @@ pub distance-self : (w : List ℕ) → distance w w ≡ 0
 unfolding distance
 distance-self [] = refl
 distance-self (a ∷ w) = rw (eq-eqb a a refl, distance-self w)
+
+pub distance-zero : (v w : List ℕ) → length v ≡ length w → distance v w ≡ 0 → v ≡ w
+unfolding distance
+distance-zero [] [] e h = refl
+distance-zero [] (b ∷ w) e h = absurd (omega arith)
+distance-zero (a ∷ v) [] e h = absurd (omega arith)
+distance-zero (a ∷ v) (b ∷ w) e h = ap₂ (λ (x : ℕ) (l : List ℕ). x ∷ l) (same (ℕ-discrete a b)) (distance-zero v w (omega arith) (omega (arith, h)))
+  where
+    same : Dec (a ≡ b) → a ≡ b
+    same (yes p) = p
+    same (no p) = absurd (omega (arith, h, let z : differs a b ≡ 1 = rw (ne-eqb a b p) in z))
 
 -- ---- code words
 

@@ -3,6 +3,8 @@
 --   parity-codeWord      message and parity are a code word
 --   codeWord-parity      and in a code word that begins with the message the rest is its parity
 --   parity-unique        which is the only one
+--   codeWord-begins      a code word that begins with the message is the message and its parity
+--   codeWord-only        .. so there is one
 --   encoded-unique       any two answers that encoding's promise allows are equal, what is left in the lent octets included
 --   encodes-true, encodes-all                     what fits
 --   encodes-empty, encodes-long, encodes-short    what does not
@@ -17,7 +19,7 @@ use Prim.Native.Nat.{ℕ, zero, suc, _+_, _*_, _≤_, _<_}
 use native.Mathlib.Omega.{arith}
 use borrow.Author.Tests.{le-ltb, lt-ltb, lt-leb, le-leb, ltb-true, leb-true}
 use lib.Dec.{leb, ltb}
-use lib.ListN.{length, take}
+use lib.ListN.{length, take, drop, length-drop, take-append-drop}
 use lib.Seq.{length-take-le}
 use Rattle.octets.specs.Tests.{three-true, first-false, second-false, third-false}
 use Rattle.octets.specs.Written.{written}
@@ -77,6 +79,19 @@ parity-unique e u p q hp hq =
     word-same p q (hp .octets) (hq .octets)
     (polynomial-same elements (word p) (word q) (word-length p ∙ hp .long ∙ sym (hq .long) ∙ sym (word-length q))
     (remainder-unique elements (2 * e) (generator e) _ _ _ (below-rooted elements (2 * e) _) (rooted-top elements (2 * e) _) (hp .remainder) (hq .remainder)))
+
+pub codeWord-begins : (e : ℕ) (u c : List ℕ) → length c ≡ length u + 2 * e → CodeWord e c → take (length u) c ≡ u
+    → (c ≡ u ++ drop (length u) c) × Parity e u (drop (length u) c)
+codeWord-begins e u c l code begins =
+    let split : c ≡ u ++ drop (length u) c = sym (take-append-drop (length u) c) ∙ ap (λ (x : List ℕ). x ++ drop (length u) c) begins in
+    (split, codeWord-parity e u (drop (length u) c) (length-drop (length u) c ∙ (omega (arith, l))) (rw split at code))
+
+pub codeWord-only : (e : ℕ) (u c d : List ℕ) → length c ≡ length u + 2 * e → length d ≡ length u + 2 * e → CodeWord e c → CodeWord e d
+    → take (length u) c ≡ u → take (length u) d ≡ u → c ≡ d
+codeWord-only e u c d lc ld cc dc bc bd =
+    let p = codeWord-begins e u c lc cc bc in
+    let q = codeWord-begins e u d ld dc bd in
+    p .0 ∙ ap (λ (x : List ℕ). u ++ x) (parity-unique e u _ _ (p .1) (q .1)) ∙ sym (q .0)
 
 -- ---- what the function answers
 

@@ -4,9 +4,9 @@
 use mathlib.Core.Path.{_≡_, refl, sym, ap, ap₂, _∙_}
 use mathlib.Core.Bool.{true}
 use mathlib.Core.List.{List, _++_}
-use Prim.Native.Nat.{ℕ, _+_, _*_}
+use Prim.Native.Nat.{ℕ, _+_}
 use native.Mathlib.Omega.{arith}
-use lib.ListN.{length, take, drop, length-append, length-drop, take-append-drop}
+use lib.ListN.{length, take, drop, length-append}
 use lib.Seq.{take-take}
 use Rattle.octets.specs.Written.{written, written-part, written-behind}
 use Rattle.codeword.specs.CodeWord.{distance}
@@ -15,7 +15,7 @@ use Rattle.codeword.specs.Claims.{EncodedIsCodeWord, EncodedIsOnly, Code
 use Rattle.codeword.specs.declared.Reach.the-variants.{Found, OutOfReach}
 use Rattle.codeword.proofs.Criterion.{codeWord-zero, zero-codeWord}
 use Rattle.codeword.proofs.Distance.{codeWords-apart, within-unique}
-use Rattle.codeword.proofs.Systematic.{parity-codeWord, codeWord-parity, parity-unique, encoded-unique, encoded-is, encodes-all}
+use Rattle.codeword.proofs.Systematic.{parity-codeWord, codeWord-begins, parity-unique, encoded-unique, encoded-is, encodes-all}
 use Rattle.codeword.proofs.Repairing.{reads-all}
 
 -- ---- what was written at the front
@@ -54,10 +54,8 @@ encodedIsCodeWord e u before after n o fits p =
 pub encodedIsOnly : EncodedIsOnly
 encodedIsOnly e u before after n fits p c l code begins =
     let r = d e u before after n fits p in
-    let split : c ≡ u ++ drop (length u) c = sym (take-append-drop (length u) c) ∙ ap (λ (x : List ℕ). x ++ drop (length u) c) begins in
-    let long : length (drop (length u) c) ≡ 2 * e = length-drop (length u) c ∙ omega (arith, r .count) in
-    split ∙ ap (λ (x : List ℕ). u ++ x) (parity-unique e u _ _ (codeWord-parity e u (drop (length u) c) long (rw split at code)) (r .right))
-    ∙ sym (whole e u before after n fits p)
+    let s = codeWord-begins e u c (l ∙ r .count) code begins in
+    s .0 ∙ ap (λ (x : List ℕ). u ++ x) (parity-unique e u _ _ (s .1) (r .right)) ∙ sym (whole e u before after n fits p)
 
 pub encodedUnique : EncodedUnique
 encodedUnique = encoded-unique

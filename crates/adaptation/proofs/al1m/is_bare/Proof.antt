@@ -1,6 +1,4 @@
 -- By e. Assumes nothing.
-use borrow.Author.Needs.{needs}
-use mathlib.Core.Path.{refl}
 use Rattle.adaptation.proofs.Judging.{bare-none, bare-code}
 use Rattle.adaptation.proofs.al1m.is_bare.Statement.{statement}
 use Rattle.adaptation.proofs.al1m.is_bare.Tie as tie

@@ -1,11 +1,10 @@
 -- The badge, by what the repair found and what its check says. Assumes nothing.
 use borrow.Author.Needs.{needs}
-use mathlib.Core.Path.{refl, sym, ap, _∙_}
+use mathlib.Core.Path.{refl, _∙_}
 use Prim.Native.Nat.{_-_, _*_, _≤_}
 use native.Mathlib.Omega.{arith}
 use lib.ListN.{length}
 use denote.Ref.{now}
-use lib.Seq.{length-take-le}
 use Rattle.adaptation.proofs.Judging.{fits-front}
 use Rattle.adaptation.specs.Width.{kindOf}
 use Rattle.codeword.specs.declared.Reach.the-variants.{Found, OutOfReach}
@@ -46,17 +45,14 @@ returns c =
       length-is = rw (c .before .before .before .before .before .before .octets-of .ensures);
     }
 
-slice-reshare-prefix-is-sealed : tie.Need-slice-reshare-prefix-is-sealed
-slice-reshare-prefix-is-sealed c = search needs
-
-slice-aggregate-is-sealed : tie.Need-slice-aggregate-is-sealed
-slice-aggregate-is-sealed c = sym (length-take-le _ _ (omega (arith, c .before .before .before .before .before .before .repair .kept .1 .1 .0, c .before .before .before .before .before .before .before .before .before .before .before .pre)))
+front-requires : tie.Need-front-requires
+front-requires c κs = search needs
 
 is-sealed-requires : tie.Need-is-sealed-requires
 is-sealed-requires c κs =
-    let pre = c .before .before .before .before .before .before .before .before .before .before .before .pre in
-    let k : kindOf (c .before .before .before .before .before .before .before .before .before .before .before .args .w) .octets ≤ length (now (c .before .before .before .before .before .before .before .before .before .before .before .args .received)) - 2 * c .before .before .before .before .before .before .before .before .before .before .before .args .e = omega (arith, pre) in
-    fits-front _ _ (c .before .before .before .before .before .before .repair .last .1 .1 .0) (omega (arith, c .before .before .before .before .before .before .repair .kept .1 .1 .0, pre)) k
+    let pre = c .before .before .before .before .before .before .before .before .before .before .before .before .pre in
+    let k : kindOf (c .before .before .before .before .before .before .before .before .before .before .before .before .args .w) .octets ≤ length (now (c .before .before .before .before .before .before .before .before .before .before .before .before .args .received)) - 2 * c .before .before .before .before .before .before .before .before .before .before .before .before .args .e = omega (arith, pre) in
+    rw (c .front .ensures) (fits-front _ _ (c .before .before .before .before .before .before .before .repair .last .1 .1 .0) (omega (arith, c .before .before .before .before .before .before .before .repair .kept .1 .1 .0, pre)) k)
 
 is-bare-requires : tie.Need-is-bare-requires
 is-bare-requires c κs = search needs
@@ -69,12 +65,12 @@ same-length-2 c = search needs
 
 returns-2 : tie.Need-returns-2
 returns-2 c =
-    let o = c .before .before .before .before .before .before .before .before .before .before .before .octets-of in
-    let κ = kindOf (c .before .before .before .before .before .before .before .before .before .before .before .before .before .before .args .w) in
+    let o = c .before .before .before .before .before .before .before .before .before .before .before .before .octets-of in
+    let κ = kindOf (c .before .before .before .before .before .before .before .before .before .before .before .before .before .before .before .args .w) in
     record {
-      reach = Found (c .before .before .before .before .before .changed .given .0 .0);
-      repaired = rw (c .before .before .before .before .before .changed .given .1) at (c .before .before .before .before .before .before .before .before .before .repair .ensures);
-      badge-is = c .badge-of .ensures ∙ (rw (c .before .is-bare .ensures κ (o .ensures), c .before .before .is-sealed .ensures));
+      reach = Found (c .before .before .before .before .before .before .changed .given .0 .0);
+      repaired = rw (c .before .before .before .before .before .before .changed .given .1) at (c .before .before .before .before .before .before .before .before .before .before .repair .ensures);
+      badge-is = c .badge-of .ensures ∙ (rw (c .before .is-bare .ensures κ (o .ensures), c .before .before .is-sealed .ensures, c .before .before .before .front .ensures));
       changed-is = refl;
       length-is = rw (o .ensures);
     }
@@ -92,8 +88,7 @@ judge-spec =
     enum-told
     same-length
     returns
-    slice-reshare-prefix-is-sealed
-    slice-aggregate-is-sealed
+    front-requires
     is-sealed-requires
     is-bare-requires
     badge-of-requires

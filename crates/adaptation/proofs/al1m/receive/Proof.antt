@@ -14,7 +14,7 @@ use Rattle.adaptation.proofs.Refusals.{refused-setting, refused-length,
 use Rattle.adaptation.specs.declared.checks.Asked.the-variants.{Known}
 use Rattle.adaptation.specs.Receiving.{isWord, HandedIs}
 use Rattle.adaptation.specs.AL1M.{isSetting}
-use Rattle.adaptation.specs.Width.{kindOf, widthOf, kindAt}
+use Rattle.adaptation.specs.Width.{widthOf, kindAt}
 use Rattle.adaptation.specs.Check.{Kind}
 use Rattle.adaptation.proofs.al1m.receive.Statement.{statement}
 use Rattle.adaptation.proofs.al1m.receive.Tie as tie

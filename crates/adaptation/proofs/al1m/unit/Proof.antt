@@ -1,16 +1,13 @@
 -- By the badge. Assumes nothing.
 use borrow.Author.Needs.{needs}
 use mathlib.Core.Path.{_≡_, refl, sym, ap, _∙_}
-use mathlib.Core.Logic.{⊎-elim}
 use mathlib.Core.Bool.{Bool, false, cond}
-use mathlib.Core.List.{List, [], _∷_}
-use Prim.Native.Nat.{ℕ}
-use native.Mathlib.Omega.{arith}
+use mathlib.Core.List.{[], _∷_}
 use denote.Ref.{now}
 use lib.ListN.{take}
 use types.Run.{OneOf, miss}
 use denote.Enum.Declared.{tagOf}
-use Rattle.adaptation.specs.Receiving.{isCorrected, unitOf}
+use Rattle.adaptation.specs.Receiving.{isCorrected}
 use Rattle.adaptation.specs.declared.Badge.{Badge}
 use Rattle.adaptation.proofs.Badge as badge
 use Rattle.adaptation.specs.declared.Badge.the-variants.{Clean, Corrected, OutOfReach, CheckFailed, Unchecked}

@@ -1,0 +1,90 @@
+-- What is claimed of AL1M, over every unit, word and setting; proofs/Theorems.antt proves each claim.
+--
+--   isGreen b             the badge lets a unit be trusted: clean, corrected, or unchecked where there is neither check nor code
+--   SentIsHandedUp        a sent unit of which at most e octets changed, length and settings unchanged, is handed up as sent, with the
+--                         true number of changed octets, and never with badge 2 or 3
+--   GreenIsCodeWord       a green badge is given to nothing but the one code word within e octets whose check agrees: its unit is handed
+--                         up, and its distance told
+--   OutOfReachExactly     badge 2 is given exactly where no code word lies within e octets; nothing is changed then
+--   CheckFailedExactly    badge 3 is given exactly where one does and its check disagrees
+--   UncheckedExactly      badge 4 is given exactly where there is neither check nor code
+--   NoCheckAgrees         with no check it agrees
+--   EncodedUnique         any two answers that sending's promise allows are equal, lent octets included
+--   ReceivedUnique        .. and any two that receiving's does
+--   RefusalLeaves         a refusal leaves every lent octet as it came
+--
+-- Assumes nothing.
+use mathlib.Core.Path.{_≡_}
+use mathlib.Core.Logic.{_↔_}
+use mathlib.Core.Bool.{Bool, true, false}
+use mathlib.Core.List.{List}
+use Prim.Native.Nat.{ℕ, _-_, _*_, _≤_}
+use lib.ListN.{length, take}
+use Rattle.codeword.specs.CodeWord.{Octets, distance, Within}
+use Rattle.adaptation.specs.Check.{none, agrees}
+use Rattle.adaptation.specs.Width.{kindAt}
+use Rattle.adaptation.specs.Sending.{Encoded}
+use Rattle.adaptation.specs.Receiving.{isBare, unitOf, Receives}
+use Rattle.adaptation.specs.declared.Length.{Length}
+use Rattle.adaptation.specs.declared.Length.the-variants as length
+use Rattle.adaptation.specs.declared.Badge.{Badge}
+use Rattle.adaptation.specs.declared.Badge.the-variants.{Clean, Corrected, OutOfReach, CheckFailed, Unchecked}
+use Rattle.adaptation.specs.declared.al1m.Judgement.{Judgement}
+use Rattle.adaptation.specs.declared.al1m.Received.{Received}
+use Rattle.adaptation.specs.declared.al1m.Received.the-variants.{Unit, Refused}
+
+abbrev pub isGreen : Badge → Bool
+isGreen Clean = true
+isGreen Corrected = true
+isGreen OutOfReach = false
+isGreen CheckFailed = false
+isGreen Unchecked = true
+
+abbrev pub SentIsHandedUp : Type 0
+SentIsHandedUp =
+    (n e m : ℕ) (u room sent w before after : List ℕ) (r : Received) → Encoded n e u room (length.Octets m) sent
+    → length w ≡ m → distance w (take m sent) ≤ e → m ≤ length before → Receives n e w before r after
+    → (b : Badge) × (r ≡ Unit (record { badge = b; changed = distance w (take m sent); length = length u })) × (unitOf b w after (length u) ≡ u) × (isGreen b ≡ true)
+
+-- what a green badge is given to
+pub record Green (n e : ℕ) (w after c : List ℕ) (j : Judgement) : Type 0 where
+  pub within : Within e w c
+  pub agreeing : agrees (kindAt n) (take (length w - 2 * e) c) ≡ true
+  pub changed : j .changed ≡ distance w c
+  pub unit : unitOf (j .badge) w after (j .length) ≡ take (j .length) c
+
+abbrev pub GreenIsCodeWord : Type 0
+GreenIsCodeWord =
+    (n e : ℕ) (w before after : List ℕ) (j : Judgement) → Receives n e w before (Unit j) after → isGreen (j .badge) ≡ true
+    → (c : List ℕ) × Green n e w after c j
+
+abbrev pub OutOfReachExactly : Type 0
+OutOfReachExactly =
+    (n e : ℕ) (w before after : List ℕ) (j : Judgement) → Receives n e w before (Unit j) after
+    → (j .badge ≡ OutOfReach ↔ ((c : List ℕ) → Within e w c → ⊥)) × (j .badge ≡ OutOfReach → (j .changed ≡ 0) × (after ≡ before))
+
+abbrev pub CheckFailedExactly : Type 0
+CheckFailedExactly =
+    (n e : ℕ) (w before after : List ℕ) (j : Judgement) → Receives n e w before (Unit j) after
+    → j .badge ≡ CheckFailed ↔ ((c : List ℕ) × Within e w c × (agrees (kindAt n) (take (length w - 2 * e) c) ≡ false))
+
+abbrev pub UncheckedExactly : Type 0
+UncheckedExactly =
+    (n e : ℕ) (w before after : List ℕ) (j : Judgement) → Octets w → Receives n e w before (Unit j) after
+    → j .badge ≡ Unchecked ↔ (isBare (kindAt n) e ≡ true)
+
+abbrev pub NoCheckAgrees : Type 0
+NoCheckAgrees = (w : List ℕ) → agrees none w ≡ true
+
+abbrev pub EncodedUnique : Type 0
+EncodedUnique =
+    (n e : ℕ) (u before after left : List ℕ) (r q : Length) → Encoded n e u before r after → Encoded n e u before q left → (r ≡ q) × (after ≡ left)
+
+abbrev pub ReceivedUnique : Type 0
+ReceivedUnique =
+    (n e : ℕ) (w before after left : List ℕ) (r q : Received) → Receives n e w before r after → Receives n e w before q left → (r ≡ q) × (after ≡ left)
+
+abbrev pub RefusalLeaves : Type 0
+RefusalLeaves =
+    ((n e k : ℕ) (u before after : List ℕ) → Encoded n e u before (length.Refused k) after → after ≡ before)
+    × ((n e k : ℕ) (w before after : List ℕ) → Receives n e w before (Refused k) after → after ≡ before)
