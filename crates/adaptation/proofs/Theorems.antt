@@ -1,4 +1,7 @@
--- The claims of specs/Claims.antt.
+-- The claims of specs/Claims.antt; and how large the numbers are that AL1M answers.
+--
+--   sent-small     a sent unit has at most 255 octets
+--   handed-small   a unit that is handed up has fewer, and at most 127 of the word's octets were changed
 --
 -- Assumes nothing.
 use mathlib.Core.Path.{_≡_, refl, sym, ap, ap₂, _∙_, subst}
@@ -22,12 +25,12 @@ use Rattle.codeword.proofs.Repairing.{reads-true}
 use Rattle.codeword.proofs.Theorems.{neverSecond, zeroSyndromes, repairedUnique}
 use Rattle.adaptation.specs.Refusal.{Told, refused, told, refusal}
 use Rattle.adaptation.specs.Check.{none, agrees}
-use Rattle.adaptation.specs.Width.{kindAt}
+use Rattle.adaptation.specs.Width.{isWidth, kindAt}
 use Rattle.adaptation.specs.AL1M.{longestWord, isSetting, isSendable, sentOctets}
 use Rattle.adaptation.specs.Sending as sending
 use Rattle.adaptation.specs.Sending.{message, Coded, Encoded}
 use Rattle.adaptation.specs.Receiving.{isWord, refusals, isBare, badgeOf, changedOf, unitOf, HandedIs, Receives}
-use Rattle.adaptation.specs.Claims.{isGreen, SentIsHandedUp, GreenIsCodeWord, OutOfReachExactly, CheckFailedExactly, UncheckedExactly, NoCheckAgrees, EncodedUnique, ReceivedUnique, RefusalLeaves}
+use Rattle.adaptation.specs.Claims.{isFaulty, SentIsHandedUp, FaultlessIsCodeWord, OutOfReachExactly, CheckFailedExactly, UncheckedExactly, NoCheckAgrees, EncodedUnique, ReceivedUnique, RefusalLeaves}
 use Rattle.adaptation.specs.declared.Length.the-variants as length
 use Rattle.adaptation.specs.declared.Badge.{Badge}
 use Rattle.adaptation.specs.declared.Badge.the-variants.{Clean, Corrected, OutOfReach, CheckFailed, Unchecked}
@@ -73,10 +76,10 @@ module _ (e : ℕ) (w before after c : List ℕ) (short : length w ≤ 255) (roo
 
 -- ---- the badge, undone
 
-green : (b : Bool) (r : Reach) (a : Bool) → isGreen (badgeOf b r a) ≡ true → (k : ℕ) × (r ≡ reach.Found k) × (a ≡ true)
-green b reach.OutOfReach a h = absurd (let z : _≡_ {A = ℕ} 0 1 = cc in omega arith)
-green b (reach.Found k) false h = absurd (let z : _≡_ {A = ℕ} 0 1 = cc in omega arith)
-green b (reach.Found k) true h = (k, refl, refl)
+faultless : (b : Bool) (r : Reach) (a : Bool) → isFaulty (badgeOf b r a) ≡ false → (k : ℕ) × (r ≡ reach.Found k) × (a ≡ true)
+faultless b reach.OutOfReach a h = absurd (let z : _≡_ {A = ℕ} 0 1 = cc in omega arith)
+faultless b (reach.Found k) false h = absurd (let z : _≡_ {A = ℕ} 0 1 = cc in omega arith)
+faultless b (reach.Found k) true h = (k, refl, refl)
 
 -- what each badge tells
 abbrev Tells : Bool → Reach → Bool → Badge → Type 0
@@ -93,10 +96,10 @@ tells true (reach.Found zero) true = refl
 tells false (reach.Found zero) true = tt
 tells b (reach.Found (suc k)) true = tt
 
-green-found : (b : Bool) (k : ℕ) → isGreen (badgeOf b (reach.Found k) true) ≡ true
-green-found true zero = refl
-green-found false zero = refl
-green-found b (suc k) = refl
+faultless-found : (b : Bool) (k : ℕ) → isFaulty (badgeOf b (reach.Found k) true) ≡ false
+faultless-found true zero = refl
+faultless-found false zero = refl
+faultless-found b (suc k) = refl
 
 -- the part that the badge chooses
 chosen : (b : Bool) (k t : ℕ) (w after c : List ℕ) → (k ≡ 0 → w ≡ c) → take t after ≡ take t c → unitOf (badgeOf b (reach.Found k) true) w after t ≡ take t c
@@ -150,10 +153,10 @@ module _ (n e : ℕ) (w before after : List ℕ) (j : Judgement) (allowed : refu
         ap (λ (b : Badge). unitOf b w after (j .length)) (badge-found ∙ ap (badgeOf (isBare (kindAt n) e) (reach.Found (distance w c))) a)
         ∙ chosen (isBare (kindAt n) e) (distance w c) (j .length) w after c (λ z. distance-zero w c (sym (near .long)) z) (front (j .length) (omega (arith, h .length-is)))
 
-pub greenIsCodeWord : GreenIsCodeWord
-greenIsCodeWord n e w before after j r g =
+pub faultlessIsCodeWord : FaultlessIsCodeWord
+faultlessIsCodeWord n e w before after j r g =
     let h = r .1 in
-    let a = green (isBare (kindAt n) e) (h .reach) (agrees (kindAt n) (take (length w - 2 * e) after)) (ap isGreen (sym (h .badge-is)) ∙ g) in
+    let a = faultless (isBare (kindAt n) e) (h .reach) (agrees (kindAt n) (take (length w - 2 * e) after)) (ap isFaulty (sym (h .badge-is)) ∙ g) in
     let f = as-found n e w before after j (r .0) h (a .0) (a .1) in
     let c = f .found in
     let good : agrees (kindAt n) (take (length w - 2 * e) c) ≡ true = ap (agrees (kindAt n)) (sym (front n e w before after j (r .0) h c (f .within) (length w - 2 * e) (omega arith))) ∙ a .2 in (
@@ -267,21 +270,35 @@ module _ (n e m : ℕ) (u room sent : List ℕ) (s : Encoded n e u room (length.
         (word-true (length w) n e (omega (arith, sizes)) (omega (arith, sizes, long))) (le-ltb (length before) (length w) (omega arith))
 
     handed : (r : Received) → Receives n e w before r after
-        → (b : Badge) × (r ≡ receive.Unit (judgement b (distance w (take m sent)) (length u))) × (unitOf b w after (length u) ≡ u) × (isGreen b ≡ true)
+        → (b : Badge) × (r ≡ receive.Unit (judgement b (distance w (take m sent)) (length u))) × (unitOf b w after (length u) ≡ u) × (isFaulty b ≡ false)
     handed (receive.Refused k) p = absurd (apart (refusal (refusals (length w) n e (length before))) k tt allowed (p .first))
     handed (receive.Unit j) (a, h) =
         let c = s .1 .sent in
         let t : j .length ≡ length u = h .length-is ∙ omega (arith, l, long) in
         let d : j .changed ≡ distance w (take m sent) = changed-found n e w before after j a h c within ∙ ap (distance w) (sym sent-front) in
-        let green : isGreen (j .badge) ≡ true =
-        ap isGreen (badge-found n e w before after j a h c within ∙ ap (badgeOf (isBare (kindAt n) e) (reach.Found (distance w c))) agrees-sent) ∙ green-found (isBare (kindAt n) e) (distance w c) in
+        let good : isFaulty (j .badge) ≡ false =
+        ap isFaulty (badge-found n e w before after j a h c within ∙ ap (badgeOf (isBare (kindAt n) e) (reach.Found (distance w c))) agrees-sent) ∙ faultless-found (isBare (kindAt n) e) (distance w c) in
         let u-is : unitOf (j .badge) w after (length u) ≡ u =
         ap (unitOf (j .badge) w after) (sym t) ∙ unit-found n e w before after j a h c within agrees-sent ∙ ap (λ (i : ℕ). take i c) t ∙ unit-sent in
-        (j .badge, ap receive.Unit (judgement-same j (j .badge) (distance w (take m sent)) (length u) refl d t), u-is, green)
+        (j .badge, ap receive.Unit (judgement-same j (j .badge) (distance w (take m sent)) (length u) refl d t), u-is, good)
 
 pub sentIsHandedUp : SentIsHandedUp
 unfolding judgement
 sentIsHandedUp n e m u room sent w before after r s l near fits p = handed n e m u room sent s w before after l near fits r p
+
+-- ---- how large the numbers are
+
+pub sent-small : (n e m : ℕ) (u room sent : List ℕ) → Encoded n e u room (length.Octets m) sent → m ≤ 255
+sent-small n e m u room sent s = sizes n e m u room sent s .1
+
+pub handed-small : (n e : ℕ) (w before after : List ℕ) (j : Judgement) → Receives n e w before (receive.Unit j) after → (j .changed ≤ 127) × (j .length ≤ 255)
+unfolding isSetting
+handed-small n e w before after j (allowed, h) =
+    (omega (arith, h .changed-is, changed (h .reach) (h .repaired), leb-true e 127 (both-true (isWidth n) (leb e 127) (passed n e w before allowed .0) .1)), omega (arith, h .length-is, word-is n e w before allowed .0))
+  where
+    changed : (x : Reach) → Repaired e w before x after → changedOf x ≤ e
+    changed (reach.Found k) f = omega (arith, f .count, f .within .near)
+    changed reach.OutOfReach f = omega arith
 
 -- ---- answers are unique
 

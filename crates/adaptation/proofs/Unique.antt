@@ -2,6 +2,7 @@
 --
 --   once             two things of which something says the same are equal, where the saying can be undone
 --   badge-once       of badges
+--   badge-most       their numbers go to 4
 --   passed-once      AL1's answers
 --   length-once      the answers that are lengths
 --   ended-once       .. and what is left beside them
@@ -13,7 +14,8 @@
 use mathlib.Core.Path.{_≡_, refl, sym, ap, _∙_}
 use mathlib.Core.Bool.{Bool, cond}
 use mathlib.Core.List.{List, [], _∷_, head-eq-of-cons-eq}
-use Prim.Native.Nat.{ℕ}
+use Prim.Native.Nat.{ℕ, _≤_}
+use native.Mathlib.Omega.{arith}
 use lib.Dec.{eqb}
 use Rattle.adaptation.specs.Refusal.{Told, refused, told, Ended, says, ends}
 use Rattle.adaptation.specs.Check.{checkOf, eight}
@@ -46,6 +48,13 @@ badge-back Corrected = refl
 badge-back OutOfReach = refl
 badge-back CheckFailed = refl
 badge-back Unchecked = refl
+
+pub badge-most : (b : Badge) → badgeNumber b ≤ 4
+badge-most Clean = omega arith
+badge-most Corrected = omega arith
+badge-most OutOfReach = omega arith
+badge-most CheckFailed = omega arith
+badge-most Unchecked = omega arith
 
 pub badge-once : (a b : Badge) (n : ℕ) → badgeNumber a ≡ n → badgeNumber b ≡ n → a ≡ b
 badge-once = once badgeNumber badgeAt badge-back

@@ -1,9 +1,9 @@
 -- What is claimed of AL1M, over every unit, word and setting; proofs/Theorems.antt proves each claim.
 --
---   isGreen b             the badge lets a unit be trusted: clean, corrected, or unchecked where there is neither check nor code
+--   isFaulty b            badge 2 or 3
 --   SentIsHandedUp        a sent unit of which at most e octets changed, length and settings unchanged, is handed up as sent, with the
 --                         true number of changed octets, and never with badge 2 or 3
---   GreenIsCodeWord       a green badge is given to nothing but the one code word within e octets whose check agrees: its unit is handed
+--   FaultlessIsCodeWord   another badge is given to nothing but the one code word within e octets whose check agrees: its unit is handed
 --                         up, and its distance told
 --   OutOfReachExactly     badge 2 is given exactly where no code word lies within e octets; nothing is changed then
 --   CheckFailedExactly    badge 3 is given exactly where one does and its check disagrees
@@ -33,30 +33,30 @@ use Rattle.adaptation.specs.declared.al1m.Judgement.{Judgement}
 use Rattle.adaptation.specs.declared.al1m.Received.{Received}
 use Rattle.adaptation.specs.declared.al1m.Received.the-variants.{Unit, Refused}
 
-abbrev pub isGreen : Badge → Bool
-isGreen Clean = true
-isGreen Corrected = true
-isGreen OutOfReach = false
-isGreen CheckFailed = false
-isGreen Unchecked = true
+abbrev pub isFaulty : Badge → Bool
+isFaulty Clean = false
+isFaulty Corrected = false
+isFaulty OutOfReach = true
+isFaulty CheckFailed = true
+isFaulty Unchecked = false
 
 abbrev pub SentIsHandedUp : Type 0
 SentIsHandedUp =
     (n e m : ℕ) (u room sent w before after : List ℕ) (r : Received) → Encoded n e u room (length.Octets m) sent
     → length w ≡ m → distance w (take m sent) ≤ e → m ≤ length before → Receives n e w before r after
-    → (b : Badge) × (r ≡ Unit (record { badge = b; changed = distance w (take m sent); length = length u })) × (unitOf b w after (length u) ≡ u) × (isGreen b ≡ true)
+    → (b : Badge) × (r ≡ Unit (record { badge = b; changed = distance w (take m sent); length = length u })) × (unitOf b w after (length u) ≡ u) × (isFaulty b ≡ false)
 
--- what a green badge is given to
-pub record Green (n e : ℕ) (w after c : List ℕ) (j : Judgement) : Type 0 where
+-- what such a badge is given to
+pub record Faultless (n e : ℕ) (w after c : List ℕ) (j : Judgement) : Type 0 where
   pub within : Within e w c
   pub agreeing : agrees (kindAt n) (take (length w - 2 * e) c) ≡ true
   pub changed : j .changed ≡ distance w c
   pub unit : unitOf (j .badge) w after (j .length) ≡ take (j .length) c
 
-abbrev pub GreenIsCodeWord : Type 0
-GreenIsCodeWord =
-    (n e : ℕ) (w before after : List ℕ) (j : Judgement) → Receives n e w before (Unit j) after → isGreen (j .badge) ≡ true
-    → (c : List ℕ) × Green n e w after c j
+abbrev pub FaultlessIsCodeWord : Type 0
+FaultlessIsCodeWord =
+    (n e : ℕ) (w before after : List ℕ) (j : Judgement) → Receives n e w before (Unit j) after → isFaulty (j .badge) ≡ false
+    → (c : List ℕ) × Faultless n e w after c j
 
 abbrev pub OutOfReachExactly : Type 0
 OutOfReachExactly =

@@ -1,0 +1,42 @@
+-- What the C host is answered: one number for each case of the library's answers.
+--
+--   answer t                       a length, or minus a refusal's number
+--   packed j                       badge + 256 changed + 65,536 unit length
+--   receiveAnswer r                .. or minus a refusal's number
+--   EncodeIs n e u before r after  what kyte_encode answers and leaves, by AL1M's sending
+--   ReceiveIs n e w before r after .. and kyte_receive, by AL1M's receiving
+--
+-- Assumes nothing.
+use mathlib.Core.Path.{_≡_}
+use mathlib.Core.List.{List}
+use Prim.Native.Nat.{ℕ, _+_, _*_}
+use lib.IntN.{ℤ, pos, negℤ}
+use Rattle.adaptation.specs.Refusal.{Told, refused, told, says}
+use Rattle.adaptation.specs.Handed.{badgeNumber}
+use Rattle.adaptation.specs.Sending.{Encoded}
+use Rattle.adaptation.specs.Receiving.{Receives}
+use Rattle.adaptation.specs.declared.Length.{Length}
+use Rattle.adaptation.specs.declared.al1m.Judgement.{Judgement}
+use Rattle.adaptation.specs.declared.al1m.Received.{Received}
+use Rattle.adaptation.specs.declared.al1m.Received.the-variants.{Unit, Refused}
+
+abbrev pub answer : Told ℕ → ℤ
+answer (told n) = pos n
+answer (refused k) = negℤ (pos k)
+
+abbrev pub packed : Judgement → ℕ
+packed j = badgeNumber (j .badge) + 256 * j .changed + 65536 * j .length
+
+abbrev pub receiveAnswer : Received → ℤ
+receiveAnswer (Unit j) = pos (packed j)
+receiveAnswer (Refused k) = negℤ (pos k)
+
+pub record EncodeIs (n e : ℕ) (u before : List ℕ) (r : ℤ) (after : List ℕ) : Type 0 where
+  pub outcome : Length
+  pub encoded : Encoded n e u before outcome after
+  pub number : r ≡ answer (says outcome)
+
+pub record ReceiveIs (n e : ℕ) (w before : List ℕ) (r : ℤ) (after : List ℕ) : Type 0 where
+  pub outcome : Received
+  pub received : Receives n e w before outcome after
+  pub number : r ≡ receiveAnswer outcome

@@ -1,0 +1,76 @@
+// The C entries: numbers and octet buffers, nothing else. include/kyteblossom.h declares them.
+use adaptation::Badge;
+use adaptation::Length;
+use adaptation::al1m;
+use adaptation::al1m::Judgement;
+use adaptation::al1m::Received;
+ghost use mathlib.Core.Path.{_≡_};
+ghost use Prim.Native.Nat.{_<_};
+ghost use lib.IntN.{pos, negℤ};
+ghost use Rattle.adaptation.specs.AL1M.{sentLength};
+ghost use Rattle.adaptation.specs.Handed.{badgeNumber};
+ghost use Rattle.kyteblossom.specs.Answer.{answer, packed, EncodeIs, ReceiveIs};
+
+// A refusal as the host reads it: minus its number.
+fn refusal(k: u8) -> i32
+    ensures { λ r. ⌜ r ≡ negℤ (pos k) ⌝ }
+{
+    0 - k as i32
+}
+
+// Document 01's number for a badge.
+fn number(badge: Badge) -> u32
+    ensures { λ r. ⌜ r ≡ badgeNumber badge ⌝ }
+{
+    match badge {
+        Badge::Clean => 0,
+        Badge::Corrected => 1,
+        Badge::OutOfReach => 2,
+        Badge::CheckFailed => 3,
+        Badge::Unchecked => 4,
+    }
+}
+
+// A unit that is handed up, as one number.
+fn pack(j: Judgement) -> i32
+    requires { ⌜ (j .changed < 256) × (j .length < 256) ⌝ }
+    ensures { λ r. ⌜ r ≡ pos (packed j) ⌝ }
+{
+    let badge = j.badge;
+    let changed = j.changed as u32;
+    let length = j.length as u32;
+    (number(badge) + 256 * changed + 65536 * length) as i32
+}
+
+// How many octets a unit is sent in, or minus the refusal's number.
+#[no_mangle]
+pub extern "C" fn kyte_length(unit: usize, width: u32, e: u32) -> i32
+    ensures { λ r. ⌜ r ≡ answer (sentLength unit width e) ⌝ }
+{
+    match al1m::sent_length(unit, width, e) {
+        Length::Octets(n) => n as i32,
+        Length::Refused(k) => refusal(k),
+    }
+}
+
+// Sends a unit: how many octets of `sent` were written, or minus the refusal's number.
+#[no_mangle]
+pub extern "C" fn kyte_encode(unit: &[u8], width: u32, e: u32, sent: &mut [u8]) -> i32
+    ensures { λ r. ⌜ EncodeIs width e (now (unit .entry)) (now (sent .entry)) r (now (sent .exit)) ⌝ }
+{
+    match al1m::encode(unit, width, e, sent) {
+        Length::Octets(n) => n as i32,
+        Length::Refused(k) => refusal(k),
+    }
+}
+
+// Receives a word: badge + 256 changed + 65,536 unit length, or minus the refusal's number.
+#[no_mangle]
+pub extern "C" fn kyte_receive(received: &[u8], width: u32, e: u32, repair: &mut [u8]) -> i32
+    ensures { λ r. ⌜ ReceiveIs width e (now (received .entry)) (now (repair .entry)) r (now (repair .exit)) ⌝ }
+{
+    match al1m::receive(received, width, e, repair) {
+        Received::Unit(j) => pack(j),
+        Received::Refused(k) => refusal(k),
+    }
+}

@@ -1,0 +1,85 @@
+/*
+ * Kyteblossom: the protected units of ITU-T H.223, Annex D (AL1M, mode FEC_ONLY), for a host in C or C++.
+ *
+ * Every function answers every number and every buffer: widths, limits and lengths out of range are refused by a number, and a
+ * refusal leaves every lent octet as it came. What a function writes it writes from the start of the buffer; octets past that never
+ * change. That each answer is the one documented here is proved (docs/PROMISES.md).
+ *
+ * The one duty of the host: a pointer and its length name that many octets that are there to be read (and, where the pointer is not
+ * const, written) for the whole call, and the two buffers of one call don't overlap. A length may be 0; the pointer is then not
+ * read, but must not be null.
+ *
+ * The functions keep no state between calls and allocate nothing. Calls with buffers of their own may run at the same time.
+ */
+#ifndef KYTEBLOSSOM_H
+#define KYTEBLOSSOM_H
+
+#include <stddef.h>
+#include <stdint.h>
+
+#ifdef __cplusplus
+extern "C" {
+#endif
+
+/* The longest sent unit, and so a size that is enough for `sent` and `repair`. */
+#define KYTE_LONGEST 255
+
+/* Why a call is refused: the answer is minus one of these. */
+#define KYTE_REFUSED_SETTING 1 /* width is not 0, 8 or 16, or e is over 127 */
+#define KYTE_REFUSED_LENGTH 2  /* a unit or a word is too short or too long */
+#define KYTE_REFUSED_ROOM 3    /* `sent` or `repair` is too small */
+
+/* What is known of a unit that is handed up. */
+#define KYTE_CLEAN 0        /* the received word is a code word, and its check agrees */
+#define KYTE_CORRECTED 1    /* it was repaired, and the check of the repaired unit agrees */
+#define KYTE_OUT_OF_REACH 2 /* no code word lies within e octets: the unit is as it was received */
+#define KYTE_CHECK_FAILED 3 /* a code word was found, and its check disagrees: the unit is as it was received */
+#define KYTE_UNCHECKED 4    /* there is neither a check nor a code (width 0, e 0): nothing is known of the unit */
+
+/*
+ * How many octets a unit of `unit` octets is sent in, with a check of `width` bits (0, 8 or 16) and a code that repairs up to `e`
+ * octets (0 to 127): unit + width / 8 + 2 e, which must be at most 255, with a unit of at least 1.
+ * Below 0: refused (1, then 2).
+ */
+int32_t kyte_length(size_t unit, uint32_t width, uint32_t e);
+
+/*
+ * Sends a unit: the unit, its check and the code's parity are written to the front of `sent`.
+ * Answers how many octets were written. Below 0: refused (1, then 2, then 3).
+ */
+int32_t kyte_encode(const uint8_t *unit, size_t unit_len, uint32_t width, uint32_t e, uint8_t *sent, size_t sent_len);
+
+/*
+ * Receives a sent unit of `received_len` octets. `repair` must have room for as many. If a code word differs from the received word in
+ * at most `e` octets, it is written to the front of `repair`, and it is the only one; if none does, `repair` is unchanged.
+ * Answers the badge + 256 changed octets + 65,536 octets of the unit: kyte_badge, kyte_changed and kyte_unit_length take it apart,
+ * kyte_unit says where the unit lies. Below 0: refused (1, then 2, then 3).
+ */
+int32_t kyte_receive(const uint8_t *received, size_t received_len, uint32_t width, uint32_t e, uint8_t *repair, size_t repair_len);
+
+/* The refusal's number, or 0 where an answer is no refusal. */
+static inline int kyte_refused(int32_t answer) { return answer < 0 ? -answer : 0; }
+
+/* The parts of kyte_receive's answer; -1, 0 and 0 of a refusal. */
+static inline int kyte_badge(int32_t answer) { return answer < 0 ? -1 : answer & 255; }
+
+static inline size_t kyte_changed(int32_t answer) { return answer < 0 ? 0 : (size_t)(answer >> 8 & 255); }
+
+static inline size_t kyte_unit_length(int32_t answer) { return answer < 0 ? 0 : (size_t)(answer >> 16); }
+
+/* Whether the unit may be trusted: clean or corrected. An unchecked unit may not. */
+static inline int kyte_trusted(int32_t answer) { return kyte_badge(answer) == KYTE_CLEAN || kyte_badge(answer) == KYTE_CORRECTED; }
+
+/* Where the unit lies: at the front of `repair` when corrected, and of `received` otherwise; null after a refusal. */
+static inline const uint8_t *kyte_unit(int32_t answer, const uint8_t *received, const uint8_t *repair)
+{
+    if (answer < 0)
+        return 0;
+    return kyte_badge(answer) == KYTE_CORRECTED ? repair : received;
+}
+
+#ifdef __cplusplus
+}
+#endif
+
+#endif
