@@ -2,8 +2,8 @@
 #
 #   say WORDS...            one line on standard error, after the script's name
 #   find_kit                sets `kit` (the toolchain's folder), `machine` (this processor) and `own` (what the toolchain has for it)
-#   prove ROOT WORDS...     runs 'rt WORDS...' in the folder ROOT and passes rt's own lines on to standard error as they come; if rt
-#                           fails, all that it said follows, and the status is not 0
+#   prove ROOT WORDS...     runs 'rt WORDS...' in the folder ROOT and says on standard error what was proved, as it comes; if rt fails,
+#                           all that it said follows, and the status is not 0
 
 # The shell that reads this file uses what it sets.
 # shellcheck shell=sh disable=SC2034
@@ -30,7 +30,10 @@ prove() {
         cd "$1" && shift && rt "$@" 2>&1 && : >"$log.proved"
     } | while IFS= read -r line; do
         printf '%s\n' "$line" >>"$log"
-        case $line in 'rt: '*proved*) say "${line#rt: }" ;; esac
+        case $line in
+        *'(unchanged since it was last proved)' | 'rt: ok,'*) ;;
+        'rt: '*proved*) say "${line#rt: }" ;;
+        esac
     done
     failed=1
     if [ -f "$log.proved" ]; then failed=0; else cat "$log" >&2; fi

@@ -1,0 +1,84 @@
+/*
+ * A host in C: it sends units, a bad link damages them by a fixed pattern, and it receives them again and shows each badge.
+ * './kyte host' builds and runs it; examples/host.expected is what it prints.
+ */
+#include "kyteblossom.h"
+
+#include <stdio.h>
+#include <string.h>
+
+/* A unit, how it is protected, and how many of its sent octets the link damages. */
+struct trip {
+    const char *unit;
+    uint32_t width, e;
+    size_t wrong;
+};
+
+static const struct trip trips[] = {
+    { "crane 4: hook clear", 8, 2, 0 },     /* nothing happens on the way */
+    { "crane 4: hook clear", 8, 2, 1 },     /* within reach */
+    { "crane 4: hook clear", 8, 2, 2 },     /* still within reach */
+    { "crane 4: hook clear", 8, 2, 3 },     /* past it */
+    { "crane 4: man below", 16, 16, 16 },   /* a stronger code repairs more */
+    { "crane 4: man below", 16, 0, 0 },     /* a check and no code: damage is seen ... */
+    { "crane 4: man below", 16, 0, 1 },     /* ... and not repaired */
+    { "crane 4: man below", 0, 0, 1 },      /* neither: nothing is known of the unit */
+    { "!", 0, 127, 127 },                   /* one octet in 255, half of them wrong */
+    { "crane 4: hook clear", 12, 2, 0 },    /* there is no check of 12 bits */
+    { "crane 4: hook clear", 8, 120, 0 },   /* 19 + 1 + 240 octets are too many */
+};
+
+static const char *const badges[] = { "clean", "corrected", "out of reach", "check failed", "unchecked" };
+
+static const char *const refusals[] = { "", "width or e is none of the code's", "the unit is too short or too long", "the buffer is too small" };
+
+/* The link: `wrong` octets, spread over the word, each changed in some bits. */
+static void damage(uint8_t *word, size_t n, size_t wrong)
+{
+    for (size_t i = 0; i < wrong; i++)
+        word[i * n / wrong] ^= (uint8_t)(0x55 + i % 128);
+}
+
+/* Prints why a call was refused. Nothing that was lent to it has changed. */
+static void show_refusal(int32_t answer)
+{
+    int number = kyte_refused(answer);
+    printf("refused %d: %s\n", number, refusals[number]);
+}
+
+/* Sends, damages and receives one unit. Whether a unit that may be trusted is not the one that was sent. */
+static int is_deceived_by(const struct trip *t)
+{
+    size_t length = strlen(t->unit);
+    uint8_t sent[KYTE_LONGEST], repair[KYTE_LONGEST];
+
+    printf("%-21s %5u %4u %6zu  ", t->unit, (unsigned)t->width, (unsigned)t->e, t->wrong);
+
+    int32_t n = kyte_encode((const uint8_t *)t->unit, length, t->width, t->e, sent, sizeof sent);
+    if (n < 0) {
+        show_refusal(n);
+        return 0;
+    }
+    damage(sent, (size_t)n, t->wrong);
+
+    int32_t answer = kyte_receive(sent, (size_t)n, t->width, t->e, repair, sizeof repair);
+    if (answer < 0) {
+        show_refusal(answer);
+        return 0;
+    }
+    const uint8_t *unit = kyte_unit(answer, sent, repair);
+    int is_same = kyte_unit_length(answer) == length && memcmp(unit, t->unit, length) == 0;
+    printf("%-13s %7zu  %s\n", badges[kyte_badge(answer)], kyte_changed(answer), is_same ? "as it was sent" : "damaged");
+    return kyte_trusted(answer) && !is_same;
+}
+
+int main(void)
+{
+    int deceived = 0;
+
+    printf("%-21s %5s %4s %6s  %-13s %7s  %s\n", "unit", "check", "e", "wrong", "badge", "changed", "what is handed up");
+    for (size_t i = 0; i < sizeof trips / sizeof *trips; i++)
+        deceived += is_deceived_by(&trips[i]);
+    printf("Trusted units that differ from what was sent: %d\n", deceived);
+    return deceived != 0;
+}
