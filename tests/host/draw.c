@@ -6,9 +6,11 @@
 
 static uint64_t state;
 
+void draw_from(uint64_t seed) { state = seed; }
+
 void draw_seed(int argc, char **argv)
 {
-    state = argc > 1 ? strtoull(argv[1], 0, 10) : (uint64_t)time(0);
+    draw_from(argc > 1 ? strtoull(argv[1], 0, 10) : (uint64_t)time(0));
     printf("seed %llu\n", (unsigned long long)state);
     fflush(stdout);
 }

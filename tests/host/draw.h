@@ -7,7 +7,10 @@
 #include <stddef.h>
 #include <stdint.h>
 
-/* Takes the seed from the first argument, or else from the clock, and prints it. */
+/* Begins anew from a seed. */
+void draw_from(uint64_t seed);
+
+/* Begins from the seed in the first argument, or else from the clock, and prints it. */
 void draw_seed(int argc, char **argv);
 
 uint64_t draw_bits(void);

@@ -1,0 +1,62 @@
+/*
+ * Measuring: the median time of one call, out of many timed rounds of calls.
+ */
+#ifndef MEASURE_H
+#define MEASURE_H
+
+#include <stdlib.h>
+#include <time.h>
+
+#define MEASURE_ROUNDS 101
+
+/* Microseconds of this process on the processor: what other processes do meanwhile is not counted. */
+static inline double measure_now(void)
+{
+    struct timespec t;
+    clock_gettime(CLOCK_PROCESS_CPUTIME_ID, &t);
+    return (double)t.tv_sec * 1e6 + (double)t.tv_nsec / 1e3;
+}
+
+static inline int measure_order(const void *a, const void *b)
+{
+    double x = *(const double *)a, y = *(const double *)b;
+    return (x > y) - (x < y);
+}
+
+/* A call to be timed, the i-th of all. */
+typedef void measured(void *state, unsigned i);
+
+/* Microseconds of one call, in the r-th round of so many calls. */
+static inline double measure_round(measured *call, void *state, unsigned r, unsigned calls)
+{
+    double began = measure_now();
+    for (unsigned i = 0; i < calls; i++)
+        call(state, r * calls + i);
+    return (measure_now() - began) / calls;
+}
+
+/* So many calls that a round takes 200 microseconds at least, beside which reading the clock is nothing. */
+static inline unsigned measure_calls(measured *call, void *state)
+{
+    unsigned calls = 1;
+    while (calls * measure_round(call, state, 0, calls) < 200)
+        calls *= 2;
+    return calls;
+}
+
+/* The median microseconds of one call of each of two, in rounds by turns so that both meet the same machine. */
+static inline void measure_both(measured *first, measured *second, void *state, double median[2])
+{
+    double time[2][MEASURE_ROUNDS];
+    unsigned calls[2] = { measure_calls(first, state), measure_calls(second, state) };
+    for (unsigned r = 0; r < MEASURE_ROUNDS; r++) {
+        time[0][r] = measure_round(first, state, r, calls[0]);
+        time[1][r] = measure_round(second, state, r, calls[1]);
+    }
+    for (int k = 0; k < 2; k++) {
+        qsort(time[k], MEASURE_ROUNDS, sizeof(double), measure_order);
+        median[k] = time[k][MEASURE_ROUNDS / 2];
+    }
+}
+
+#endif
