@@ -1,0 +1,24 @@
+-- What laying slots down does: their channels into one list, how many octets each has into another, from a place on.
+--
+--   Room from channels lengths      there is a place for each octet that is left
+--   Lays from new to ..             the slots new are laid down: how many there are now, which octets of the payload are left,
+--                                   and what the two lists, before and after, hold
+--
+-- Assumes nothing.
+use mathlib.Core.Path.{_≡_}
+use mathlib.Core.List.{List, map}
+use Prim.Native.Nat.{ℕ, _+_, _-_, _≤_}
+use lib.ListN.{length}
+use Rattle.octets.specs.Written.{written}
+use Rattle.table.specs.declared.walk.Laid.{Laid}
+use Rattle.table.specs.Slots.{Slot, octetsOf}
+
+pub record Room (from : Laid) (channels lengths : List ℕ) : Type 0 where
+  pub forChannels : from .count + from .left ≤ length channels
+  pub forLengths : from .count + from .left ≤ length lengths
+
+pub record Lays (from : Laid) (new : List Slot) (to : Laid) (channels₀ lengths₀ channels₁ lengths₁ : List ℕ) : Type 0 where
+  pub count : to .count ≡ from .count + length new
+  pub left : to .left ≡ from .left - octetsOf new
+  pub channels : channels₁ ≡ written channels₀ (from .count) (map (λ (x : Slot). x .channel) new)
+  pub lengths : lengths₁ ≡ written lengths₀ (from .count) (map (λ (x : Slot). x .octets) new)
