@@ -1,0 +1,58 @@
+-- Demand 3, from what is claimed of the code word and of AL1M.
+--
+--   demand3     demand 3
+--
+-- Assumes nothing.
+use mathlib.Core.Path.{_≡_, _∙_}
+use mathlib.Core.List.{List}
+use Prim.Native.Nat.{ℕ, _+_, _*_, _-_, _≤_}
+use borrow.Author.Tests.{leb-true}
+use lib.Dec.{leb, ltb}
+use lib.ListN.{length, take, drop}
+use Rattle.octets.specs.Tests.{both-true}
+use Rattle.codeword.specs.CodeWord.{distance, Within}
+use Rattle.codeword.specs.Repair.{Repaired}
+use Rattle.codeword.specs.declared.Reach.{Reach}
+use Rattle.codeword.specs.declared.Reach.the-variants as reach
+use Rattle.codeword.proofs.Theorems.{foundIsIt, neverSecond}
+use Rattle.adaptation.specs.Check.{agrees}
+use Rattle.adaptation.specs.Width.{kindAt}
+use Rattle.adaptation.specs.Refusal.{told, refusal}
+use Rattle.adaptation.specs.AL1M.{isSetting}
+use Rattle.adaptation.specs.Receiving.{isWord, refusals, isBare, badgeOf, changedOf, Receives}
+use Rattle.adaptation.specs.declared.Badge.the-variants.{OutOfReach}
+use Rattle.adaptation.specs.declared.al1m.Judgement.{Judgement}
+use Rattle.adaptation.specs.declared.al1m.Received.the-variants as al1m
+use Rattle.adaptation.proofs.Refusals.{refused-none}
+use Rattle.adaptation.proofs.Theorems.{sentIsHandedUp, faultlessIsCodeWord, outOfReachExactly}
+use Rattle.demands.specs.Repairs.{Repairs, Demand3}
+
+short : (n e : ℕ) (w before : List ℕ) → refusal (refusals (length w) n e (length before)) ≡ told tt → length w ≤ 255
+unfolding isWord
+short n e w before a =
+    let b = refused-none (isSetting n e) (isWord (length w) n e) (ltb (length before) (length w)) a .1 in
+    leb-true (length w) 255 (both-true (leb (length w) 255) (leb (1 + kindAt n .octets + 2 * e) (length w)) b .0)
+
+module _ (n e : ℕ) (w before after : List ℕ) (j : Judgement) (a : Receives n e w before (al1m.Unit j) after) where
+  found : (x : Reach) → Repaired e w before x after → j .badge ≡ badgeOf (isBare (kindAt n) e) x (agrees (kindAt n) (take (length w - 2 * e) after))
+      → (j .badge ≡ OutOfReach → ⊥) → (c : List ℕ) × Within e w c
+  found (reach.Found k) p b h = (p .found, p .within)
+  found reach.OutOfReach p b h = absurd (h b)
+
+  repaired : (x : Reach) → Repaired e w before x after → j .badge ≡ badgeOf (isBare (kindAt n) e) x (agrees (kindAt n) (take (length w - 2 * e) after))
+      → j .changed ≡ changedOf x
+      → (c : List ℕ) → Within e w c → (take (length w) after ≡ c) × (drop (length w) after ≡ drop (length w) before) × (j .changed ≡ distance w c)
+  repaired (reach.Found k) p b q c i = let f = foundIsIt e w before after k p c i in (f .0, f .2, q ∙ f .1)
+  repaired reach.OutOfReach p b q c i = absurd (outOfReachExactly n e w before after j a .0 .0 b c i)
+
+  repairs : Repairs n e w before after j
+  repairs = record {
+    found = (found (a .1 .reach) (a .1 .repaired) (a .1 .badge-is), λ c b. outOfReachExactly n e w before after j a .0 .0 b (c .0) (c .1));
+    repaired = repaired (a .1 .reach) (a .1 .repaired) (a .1 .badge-is) (a .1 .changed-is);
+    once = λ c d p q. neverSecond e w c d (short n e w before (a .0)) p q;
+    faultless = faultlessIsCodeWord n e w before after j a;
+    lost = λ h. let o = outOfReachExactly n e w before after j a in let b = o .0 .1 h in (b, o .1 b .0, o .1 b .1);
+  }
+
+pub demand3 : Demand3
+demand3 = record { repairs = repairs; asSent = sentIsHandedUp }

@@ -1,0 +1,4 @@
+pub mod Small
+pub mod Answers
+pub mod Repairs
+pub mod Wrong

@@ -1,0 +1,71 @@
+-- The small set of document 01, as one table. All octets are in hex.
+--
+--   Vector       one line of it
+--   Holds v      what it says, of the definitions
+--   Small        the table: A1 to A10, in this order; proofs/Vectors.antt proves it
+--
+-- Assumes nothing.
+use mathlib.Core.Path.{_≡_}
+use mathlib.Core.List.{List, [], _∷_}
+use Prim.Native.Nat.{ℕ, _≤_}
+use lib.ListN.{length}
+use Rattle.algebra.specs.Polynomial.{polynomial}
+use Rattle.codeword.specs.Element.{elements}
+use Rattle.codeword.specs.CodeWord as code
+use Rattle.adaptation.specs.Refusal.{Told, refused, told}
+use Rattle.adaptation.specs.Check.{checkOf}
+use Rattle.adaptation.specs.Width.{kindAt}
+use Rattle.adaptation.specs.AL1M.{sentLength}
+use Rattle.adaptation.specs.Sending.{Coded}
+use Rattle.adaptation.specs.Receiving.{Receives, unitOf}
+use Rattle.adaptation.specs.declared.Badge.{Badge}
+use Rattle.adaptation.specs.declared.Badge.the-variants.{Clean, Corrected, OutOfReach, CheckFailed}
+use Rattle.adaptation.specs.declared.al1m.Received.{Received}
+use Rattle.adaptation.specs.declared.al1m.Received.the-variants as al1m
+use Rattle.table.specs.Form.{isEntry}
+use Rattle.table.specs.Slots.{pieces, channelsOf}
+use mathlib.Core.Bool.{true}
+
+pub data Vector : Type 0 where
+  -- the check of so many bits of these octets
+  check : ℕ → List ℕ → List ℕ → Vector
+  -- g for e
+  generator : ℕ → List ℕ → Vector
+  -- a unit, with a check of so many bits and e, is sent as these octets
+  sent : ℕ → ℕ → List ℕ → List ℕ → Vector
+  -- a received word, with the same settings: badge, changed, unit
+  received : ℕ → ℕ → List ℕ → Badge → ℕ → List ℕ → Vector
+  -- the length question: unit, check, e
+  lengths : ℕ → ℕ → ℕ → Told ℕ → Vector
+  -- an entry, and the channels of so many octets under it
+  channels : List ℕ → ℕ → List ℕ → Vector
+
+-- whatever is lent for the repair, if it is enough
+abbrev pub ReceivedAs : ℕ → ℕ → List ℕ → Badge → ℕ → List ℕ → Type 0
+ReceivedAs n e w b k u =
+    (before after : List ℕ) (r : Received) → length w ≤ length before → Receives n e w before r after
+    → (r ≡ al1m.Unit (record { badge = b; changed = k; length = length u })) × (unitOf b w after (length u) ≡ u)
+
+abbrev pub Holds : Vector → Type 0
+Holds (check n u c) = checkOf (kindAt n) u ≡ c
+Holds (generator e g) = code.generator e ≡ polynomial elements (code.word g)
+Holds (sent n e u c) = Coded (kindAt n) e u c
+Holds (received n e w b k u) = ReceivedAs n e w b k u
+Holds (lengths t n e r) = sentLength t n e ≡ r
+Holds (channels s n l) = (isEntry s ≡ true) × (channelsOf (pieces s n) ≡ l)
+
+-- A10's entry is [channel 1 twice, [channel 2 once, channel 3 twice] until closing], by its numbers
+abbrev pub Small : Type 0
+Small =
+    Holds (check 8 (0x10 ∷ 0x80 ∷ []) (0xF5 ∷ []))
+    × Holds (generator 2 (0x01 ∷ 0x1E ∷ 0xD8 ∷ 0xE7 ∷ 0x74 ∷ []))
+    × Holds (sent 8 2 (0x10 ∷ 0x80 ∷ []) (0x10 ∷ 0x80 ∷ 0xF5 ∷ 0x4E ∷ 0xCD ∷ 0x57 ∷ 0xA5 ∷ []))
+    × Holds (received 8 2 (0x00 ∷ 0x00 ∷ 0xF5 ∷ 0x4E ∷ 0xCD ∷ 0x57 ∷ 0xA5 ∷ []) Corrected 2 (0x10 ∷ 0x80 ∷ []))
+    × Holds (received 0 1 (0x01 ∷ 0x06 ∷ 0x08 ∷ []) Clean 0 (0x01 ∷ []))
+    × Holds (received 0 1 (0x01 ∷ 0x06 ∷ 0x00 ∷ []) Corrected 1 (0x01 ∷ []))
+    × Holds (received 0 1 (0x01 ∷ 0x0C ∷ 0x18 ∷ []) OutOfReach 0 (0x01 ∷ []))
+    × Holds (received 8 0 (0x10 ∷ 0x80 ∷ 0xAF ∷ []) CheckFailed 0 (0x10 ∷ 0x80 ∷ []))
+    × Holds (lengths 47 16 2 (told 53))
+    × Holds (lengths 47 16 101 (told 251))
+    × Holds (lengths 47 16 104 (refused 2))
+    × Holds (channels (2 ∷ 2 ∷ 0 ∷ 1 ∷ 0 ∷ 2 ∷ 1 ∷ 0 ∷ 2 ∷ 2 ∷ 0 ∷ 3 ∷ []) 8 (1 ∷ 1 ∷ 2 ∷ 3 ∷ 3 ∷ 2 ∷ 3 ∷ 3 ∷ []))

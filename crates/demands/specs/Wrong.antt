@@ -1,0 +1,65 @@
+-- Wrong receivers, set against AL1M's promise (document 01, "How firmly the answers stand"): none of them keeps it. What is over
+-- sequences of calls, a demultiplexer that serves the first payload and afterwards moves no octet and one that refuses everything,
+-- stands in the multiplexer's claims.
+--
+--   Receiver        anything that answers a received word, and leaves octets where it was lent some for the repair
+--   Keeps R         every answer of R is one that receiving's promise allows
+--   RefusesAll      it refuses everything
+--   FindsNothing    it finds nothing ever
+--   SameUnit        it hands up the same unit always
+--   SaysClean       it copies the word and says clean
+--   Miscounts       its changed count is not the number of differing octets, for some word and the code word within reach of it
+--   Wrong           none of these keeps the promise; proofs/Refuted.antt proves it
+--
+-- Assumes nothing.
+use mathlib.Core.Path.{_≡_}
+use mathlib.Core.List.{List}
+use Prim.Native.Nat.{ℕ}
+use Rattle.octets.specs.Written.{written}
+use Rattle.codeword.specs.CodeWord.{distance, Within}
+use Rattle.adaptation.specs.Receiving.{Receives, unitOf}
+use Rattle.adaptation.specs.declared.Badge.the-variants.{Clean, OutOfReach}
+use Rattle.adaptation.specs.declared.al1m.Judgement.{Judgement}
+use Rattle.adaptation.specs.declared.al1m.Received.{Received}
+use Rattle.adaptation.specs.declared.al1m.Received.the-variants.{Unit, Refused}
+
+pub record Receiver : Type 0 where
+  pub answer : (width e : ℕ) → (word lent : List ℕ) → Received
+  pub leaves : (width e : ℕ) → (word lent : List ℕ) → List ℕ
+
+abbrev pub Keeps : Receiver → Type 0
+Keeps R = (n e : ℕ) (w before : List ℕ) → Receives n e w before (R .answer n e w before) (R .leaves n e w before)
+
+-- P holds of every unit that R hands up
+abbrev pub Always : Receiver → ((e : ℕ) → (word lent after : List ℕ) → Judgement → Type 0) → Type 0
+Always R P = (n e : ℕ) (w before : List ℕ) (j : Judgement) → R .answer n e w before ≡ Unit j → P e w before (R .leaves n e w before) j
+
+abbrev pub RefusesAll : Receiver → Type 0
+RefusesAll R = (n e : ℕ) (w before : List ℕ) → (k : ℕ) × (R .answer n e w before ≡ Refused k)
+
+abbrev pub FindsNothing : Receiver → Type 0
+FindsNothing R = Always R (λ e w before after j. j .badge ≡ OutOfReach)
+
+abbrev pub SameUnit : Receiver → Type 0
+SameUnit R = (u : List ℕ) × Always R (λ e w before after j. unitOf (j .badge) w after (j .length) ≡ u)
+
+abbrev pub SaysClean : Receiver → Type 0
+SaysClean R = Always R (λ e w before after j. (j .badge ≡ Clean) × (after ≡ written before 0 w))
+
+pub record Miscounts (R : Receiver) : Type 0 where
+  pub width : ℕ
+  pub e : ℕ
+  pub word : List ℕ
+  pub lent : List ℕ
+  pub found : List ℕ
+  pub told : Judgement
+  pub answers : R .answer width e word lent ≡ Unit told
+  pub within : Within e word found
+  pub differs : told .changed ≡ distance word found → ⊥
+
+pub record Wrong : Type 0 where
+  pub refusesAll : (R : Receiver) → Keeps R → RefusesAll R → ⊥
+  pub findsNothing : (R : Receiver) → Keeps R → FindsNothing R → ⊥
+  pub sameUnit : (R : Receiver) → Keeps R → SameUnit R → ⊥
+  pub saysClean : (R : Receiver) → Keeps R → SaysClean R → ⊥
+  pub miscounts : (R : Receiver) → Keeps R → Miscounts R → ⊥

@@ -1,0 +1,75 @@
+-- Two demultiplexers that do not meet demand 2. Two units of one octet are posted and sent on channel 0, each in a payload of its own.
+--
+--   blank n          n zeros
+--   once, twice      a unit posted and sent, and again
+--   idle-fails       the idle one delivers the first unit and not the second: the first, because the demultiplexer does
+--   refuser-fails    the one that refuses everything refuses the first payload
+--
+-- Assumes nothing.
+use mathlib.Core.Path.{_≡_, refl, sym, ap, _∙_}
+use mathlib.Core.List.{List, [], _∷_, append-nil}
+use Prim.Native.Nat.{ℕ, _≤_}
+use native.Mathlib.Omega.{arith}
+use lib.ListN.{length, replicate, length-replicate}
+use Rattle.table.specs.Slots.{slots, listSlots, inTurn, elementSlots, cut, pieces}
+use Rattle.table.specs.Table.{entryOf, isDefined}
+use Rattle.multiplex.specs.Search.{first}
+use Rattle.multiplex.specs.Channels.{start, placeOf, posted}
+use Rattle.multiplex.specs.Pieces.{total}
+use Rattle.multiplex.specs.Demultiplexer.{demultiplexed}
+use Rattle.multiplex.specs.Multiplexer.{walked, packed, multiplexed}
+use Rattle.multiplex.specs.Runs.{unitsOn, unitsIn, withoutLast, World, begin, Event, posting, paying, step, run, whollySent, Delivers, Demand2, Demultiplexer, idle, refuser}
+use Rattle.multiplex.proofs.Running.{demand-met}
+
+blank : ℕ → List ℕ
+blank n = replicate n 0
+
+blank-length : (n : ℕ) → length (blank n) ≡ n
+unfolding blank
+blank-length n = length-replicate n 0
+
+enough : (n : ℕ) → n ≤ length (blank n)
+enough n = omega (arith, blank-length n)
+
+abbrev sent : List Event → List Event
+sent l = posting 0 (1 ∷ []) ∷ paying 0 1 (0 ∷ []) (blank 1279) (blank 765) (enough 1279) (enough 765) ∷ l
+
+abbrev once : List Event
+once = sent []
+
+abbrev twice : List Event
+twice = sent (sent [])
+
+abbrev fresh : World
+fresh = begin (blank 16384) (blank 16384)
+
+one-sent : whollySent (run (λ j. demultiplexed) fresh once) 0 ≡ (1 ∷ []) ∷ []
+unfolding run step start placeOf first posted multiplexed packed walked pieces cut slots listSlots inTurn elementSlots entryOf isDefined total unitsOn withoutLast
+one-sent = refl
+
+two-sent : whollySent (run idle fresh twice) 0 ≡ (1 ∷ []) ∷ (1 ∷ []) ∷ []
+unfolding run step start placeOf first posted multiplexed packed walked pieces cut slots listSlots inTurn elementSlots entryOf isDefined total unitsOn withoutLast
+two-sent = refl
+
+no-more : run idle fresh twice .delivered ≡ run (λ j. demultiplexed) fresh once .delivered
+unfolding run step start placeOf first posted multiplexed packed walked pieces cut slots listSlots inTurn elementSlots entryOf isDefined total unitsIn
+no-more = append-nil _
+
+one-refused : (k : ℕ) → run (refuser k) fresh once .refusals ≡ 1
+unfolding run step start placeOf first posted multiplexed packed walked pieces cut slots listSlots inTurn elementSlots entryOf isDefined total
+one-refused k = refl
+
+tried : (D : Demultiplexer) → Demand2 D → (es : List Event) → Delivers (run D fresh es)
+tried D d es = d (blank 16384) (blank 16384) (blank-length 16384) (blank-length 16384) es
+
+pub idle-fails : Demand2 idle → ⊥
+idle-fails d =
+    let e : _≡_ {A = List (List ℕ)} ((1 ∷ []) ∷ []) ((1 ∷ []) ∷ (1 ∷ []) ∷ [])
+    = sym (tried (λ j. demultiplexed) demand-met once .complete 0 ∙ one-sent) ∙ ap (unitsOn 0) (sym no-more) ∙ tried idle d twice .complete 0 ∙ two-sent in
+    let z : _≡_ {A = ℕ} 1 2 = ap (λ (l : List (List ℕ)). length l) e in
+    omega arith
+
+pub refuser-fails : (k : ℕ) → Demand2 (refuser k) → ⊥
+refuser-fails k d =
+    let z : _≡_ {A = ℕ} 1 0 = sym (one-refused k) ∙ tried (refuser k) d once .unrefused in
+    omega arith

@@ -1,0 +1,77 @@
+-- What a place holds, in an orderly state: octets that join it, and the places beside it.
+--
+--   heldAt            the octets that channel d holds at place p
+--   orderly-put       a place put in order leaves all in order
+--   filled-room       the array keeps its length
+--   held-grown        octets that join what place p holds
+--   held-else         .. leave what other places hold
+--   orderly-joined    .. and all in order
+--   orderly-emptied   so does a place that is emptied
+--
+-- Assumes nothing.
+use mathlib.Core.Path.{_≡_, refl, sym, ap, subst, _∙_}
+use mathlib.Core.Logic.{_≢_, _⊎_, inl, inr, ⊎-elim}
+use mathlib.Core.Bool.{true, false}
+use mathlib.Core.List.{List, _++_}
+use Prim.Native.Nat.{ℕ, _+_, _*_, _≤_, _<_}
+use native.Mathlib.Decide.{ℕ-discrete}
+use native.Mathlib.Omega.{arith}
+use lib.ListN.{length, take, drop, length-set}
+use Rattle.octets.specs.Written.{written, written-length}
+use Rattle.adaptation.specs.Handed.{longest}
+use Rattle.multiplex.specs.declared.channels.Channel.{Channel}
+use Rattle.multiplex.specs.declared.channels.Channels.{Channels}
+use Rattle.multiplex.specs.Channels.{channelAt, put, holding}
+use Rattle.multiplex.specs.Claims.{Orderly}
+use Rattle.multiplex.proofs.Seats.{put-there, put-elsewhere}
+use Rattle.multiplex.proofs.Parts.{apart, part-elsewhere, part-grown}
+
+abbrev pub heldAt : Channel → List ℕ → ℕ → List ℕ
+heldAt d h p = take (d .held) (drop (longest * p) h)
+
+module _ {r : Channels} {h : List ℕ} (o : Orderly r h) {p : ℕ} (inside : p < 16) where
+  pub orderly-put : (d : Channel) (h′ : List ℕ) → d .held ≤ longest → (d .segmentable ≡ false → d .held ≡ 0) → length h′ ≡ 16384 → Orderly (put r p d) h′
+  orderly-put d h′ b f e = record {
+    full = length-set (r .at) p d ∙ o .full;
+    room = e;
+    bounded = λ q. at q (λ c. c .held ≤ longest) b (o .bounded q) (ℕ-discrete q p);
+    whole = λ q. at q (λ c. c .segmentable ≡ false → c .held ≡ 0) f (o .whole q) (ℕ-discrete q p);
+  }
+    where
+      at : (q : ℕ) (P : Channel → Type 0) → P d → P (channelAt r q) → Dec (q ≡ p) → P (channelAt (put r p d) q)
+      at q P x y (yes e) = subst P (sym (ap (channelAt (put r p d)) e ∙ put-there r (o .full) p d inside)) x
+      at q P x y (no f) = subst P (sym (put-elsewhere r p q d f)) y
+
+  pub orderly-emptied : Orderly (put r p (holding (channelAt r p) 0)) h
+  orderly-emptied = orderly-put (holding (channelAt r p) 0) h (omega arith) (λ e. refl) (o .room)
+
+  -- ---- octets that join
+
+  module _ (x : List ℕ) (fits : channelAt r p .held + length x ≤ longest) where
+    abbrev there : Channel
+    there = channelAt r p
+
+    abbrev more : Channel
+    more = holding there (there .held + length x)
+
+    abbrev filled : List ℕ
+    filled = written h (longest * p + there .held) x
+
+    space : longest * p + there .held + length x ≤ length h
+    space = omega (arith, o .room)
+
+    pub filled-room : length filled ≡ 16384
+    filled-room = written-length h (longest * p + there .held) x space ∙ o .room
+
+    pub held-grown : heldAt more filled p ≡ heldAt there h p ++ x
+    held-grown = part-grown h (longest * p) (there .held) x space
+
+    pub held-else : (q : ℕ) → q ≢ p → heldAt (channelAt r q) filled q ≡ heldAt (channelAt r q) h q
+    held-else q f =
+        part-elsewhere h (longest * p + there .held) x space (channelAt r q .held) (longest * q)
+        (⊎-elim {C = (longest * q + channelAt r q .held ≤ longest * p + there .held) ⊎ (longest * p + there .held + length x ≤ longest * q)}
+        (λ a. inl (omega (arith, o .bounded q))) (λ a. inr (omega arith)) (apart p q f))
+
+    pub orderly-joined : there .segmentable ≡ true → Orderly (put r p more) filled
+    orderly-joined g =
+        orderly-put more filled fits (λ e. absurd (let z : _≡_ {A = ℕ} 0 1 = cc in omega arith)) filled-room

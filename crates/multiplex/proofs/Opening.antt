@@ -1,0 +1,106 @@
+-- A channel opened at both ends leaves them matched.
+--
+--   map-set          what a map makes of a list with one element set
+--   opened-matched   .. so the seats stay alike; the new channel has nothing under way, and no other's place changes
+--   start-matched    both ends fresh match
+--
+-- Assumes nothing.
+use mathlib.Core.Path.{_≡_, refl, sym, ap, _∙_}
+use mathlib.Core.Logic.{_≢_}
+use mathlib.Core.Bool.{Bool, true, false}
+use mathlib.Core.List.{List, [], _∷_, _++_, map}
+use Prim.Native.Nat.{ℕ, zero, suc, _≤_, _<_}
+use native.Mathlib.Decide.{ℕ-discrete}
+use native.Mathlib.Omega.{arith}
+use borrow.Author.Tests.{ne-eqb, eq-eqb, not-true}
+use lib.ListN.{length, getD, set, length-set, replicate}
+use Rattle.multiplex.specs.declared.channels.Channels.{Channels}
+use Rattle.multiplex.specs.Channels.{vacant, fresh, start, isChannel, isFree, placeOf, freePlace, channelAt, put}
+use Rattle.multiplex.specs.Runs.{UnitOn, unitsOn}
+use Rattle.multiplex.proofs.Seats.{Seat, seat, first-found, first-set, first-put, vacant-behind, put-there, put-elsewhere}
+use Rattle.multiplex.proofs.Matching.{way, Twin, Matched, full-there}
+
+map-set : {A B : Type 0} (f : A → B) (l : List A) (i : ℕ) (a : A) → map f (set l i a) ≡ set (map f l) i (f a)
+map-set f [] i a = refl
+map-set f (x ∷ l) zero a = refl
+map-set f (x ∷ l) (suc i) a = ap (λ (m : List _). f x ∷ m) (map-set f l i a)
+
+twin-fresh : (n : ℕ) (g : Bool) → Twin (fresh n g) (fresh n g)
+twin-fresh n g = record { bounded = omega arith; ended = λ e. refl; whole = λ e. refl }
+
+module _ {s : Channels} {w : List ℕ} {r : Channels} {h : List ℕ} {sent got : List UnitOn} (m : Matched s w r h sent got) (n : ℕ) (g : Bool)
+    (p : ℕ) (place : freePlace s ≡ p) (inside : p < 16) (unknown : 16 ≤ placeOf s n) where
+  is-free : channelAt s p .«open» ≡ false
+  unfolding freePlace
+  is-free =
+      not-true (channelAt s p .«open»)
+      (ap (λ (q : ℕ). isFree (channelAt s q)) (sym place) ∙ first-found isFree vacant (s .at) (rw (m .full, place) inside))
+
+  place-new : placeOf (put s p (fresh n g)) n ≡ p
+  unfolding placeOf
+  place-new =
+      first-put (isChannel n) (s .at) p (fresh n g) (rw (m .full) unknown) (rw (m .full) inside) (eq-eqb n n refl)
+
+  place-old : (k : ℕ) → n ≢ k → placeOf (put s p (fresh n g)) k ≡ placeOf s k
+  unfolding placeOf
+  place-old k f = first-set (isChannel k) (s .at) p (fresh n g) vacant (rw (ne-eqb n k f, is-free))
+
+  not-there : (k : ℕ) → placeOf s k ≢ p
+  unfolding placeOf
+  not-there k e =
+      let z : isChannel k (channelAt s p) ≡ true = ap (λ (q : ℕ). isChannel k (channelAt s q)) (sym e) ∙ first-found (isChannel k) vacant (s .at) (rw (m .full, e) inside) in
+      let f : false ≡ true = rw is-free at z in
+      let o : _≡_ {A = ℕ} 0 1 = cc in omega arith
+
+  twins : (q : ℕ) → Dec (q ≡ p) → Twin (channelAt (put s p (fresh n g)) q) (channelAt (put r p (fresh n g)) q)
+  twins q (yes e) = rw (e, put-there s (m .full) p (fresh n g) inside, put-there r (full-there m) p (fresh n g) inside) (twin-fresh n g)
+  twins q (no f) = rw (put-elsewhere s p q (fresh n g) f, put-elsewhere r p q (fresh n g) f) (m .each q)
+
+  log-new : unitsOn n sent ≡ unitsOn n got ++ []
+  log-new =
+      let e : way (channelAt s (placeOf s n)) w (channelAt r (placeOf s n)) h (placeOf s n) ≡ [] = rw (vacant-behind s (m .full) (placeOf s n) unknown) in
+      m .log n ∙ ap (λ (x : List (List ℕ)). unitsOn n got ++ x) e
+
+  logs : (k : ℕ) → Dec (n ≡ k)
+      → unitsOn k sent
+      ≡ unitsOn k got ++ way (channelAt (put s p (fresh n g)) (placeOf (put s p (fresh n g)) k)) w (channelAt (put r p (fresh n g)) (placeOf (put s p (fresh n g)) k)) h (placeOf (put s p (fresh n g)) k)
+  logs k (yes e) = rw (← e, place-new, put-there s (m .full) p (fresh n g) inside) log-new
+  logs k (no f) = rw (place-old k f, put-elsewhere s p (placeOf s k) (fresh n g) (not-there k), put-elsewhere r p (placeOf s k) (fresh n g) (not-there k)) (m .log k)
+
+  pub opened-matched : Matched (put s p (fresh n g)) w (put r p (fresh n g)) h sent got
+  opened-matched = record {
+    alike = map-set seat (s .at) p (fresh n g) ∙ ap (λ (l : List Seat). set l p (seat (fresh n g))) (m .alike) ∙ sym (map-set seat (r .at) p (fresh n g));
+    full = length-set (s .at) p (fresh n g) ∙ m .full;
+    waitingRoom = m .waitingRoom;
+    heldRoom = m .heldRoom;
+    each = λ q. twins q (ℕ-discrete q p);
+    log = λ k. logs k (ℕ-discrete n k);
+  }
+
+-- ---- at first
+
+none-waits : (n i : ℕ) → getD (replicate n vacant) i vacant ≡ vacant
+none-waits zero i = refl
+none-waits (suc n) zero = refl
+none-waits (suc n) (suc i) = none-waits n i
+
+start-each : (p : ℕ) → Twin (channelAt start p) (channelAt start p)
+unfolding start
+start-each zero = twin-fresh 0 true
+start-each (suc p) = rw (none-waits 15 p) (record { bounded = omega arith; ended = λ e. refl; whole = λ e. refl })
+
+start-way : (w h : List ℕ) (p : ℕ) → way (channelAt start p) w (channelAt start p) h p ≡ []
+unfolding start
+start-way w h zero = refl
+start-way w h (suc p) = rw (none-waits 15 p)
+
+pub start-matched : (w h : List ℕ) → length w ≡ 16384 → length h ≡ 16384 → Matched start w start h [] []
+unfolding start unitsOn
+start-matched w h e f = record {
+  alike = refl;
+  full = refl;
+  waitingRoom = e;
+  heldRoom = f;
+  each = start-each;
+  log = λ n. sym (start-way w h (placeOf start n));
+}

@@ -1,0 +1,72 @@
+-- Channel numbers replaced by their places, one at a time.
+--
+--   first-most, place-most   a search ends no later than the list; so a place is at most 16
+--   in-met, in-missed        `allIn` behind place j, where the number there is open, and where it is not
+--   in-end                   .. and behind the last
+--   and-false, and-true      a test and one that is decided
+--   mapped-at                what is mapped to place j and not behind it, with place j mapped too
+--   in-placed                where all are open, each place is below 16
+--
+-- Assumes nothing.
+use mathlib.Core.Path.{_≡_, refl, sym, ap, _∙_}
+use mathlib.Core.List.{List, [], _∷_, _++_, map}
+use mathlib.Core.Bool.{Bool, true, false, cond, _&&_}
+use Prim.Native.Nat.{ℕ, zero, suc, _+_, _≤_, _<_, zero-le}
+use native.Mathlib.Nat.{not-suc-le-zero, le-of-suc-le-suc}
+use native.Mathlib.Numerals.{add-one}
+use native.Mathlib.Omega.{arith}
+use borrow.Author.Tests.{ltb-true, lt-ltb, le-ltb}
+use lib.ListN.{length, getD, set, take, drop, drop-of-length-le}
+use lib.Seq.{drop-cons, take-suc-set, drop-set-lt, append-snoc}
+use Rattle.octets.specs.Tests.{both-true}
+use Rattle.multiplex.specs.declared.channels.Channels.{Channels}
+use Rattle.multiplex.specs.Search.{first}
+use Rattle.multiplex.specs.Channels.{places, placeOf, isIn, isChannel}
+use Rattle.multiplex.specs.Pieces.{allIn}
+
+pub first-most : {A : Type 0} (f : A → Bool) (l : List A) → first f l ≤ length l
+unfolding first
+first-most f [] = zero-le
+first-most f (a ∷ l) = by (f a) (first-most f l)
+  where
+    by : (b : Bool) → first f l ≤ length l → cond b zero (suc (first f l)) ≤ suc (length l)
+    by true h = zero-le
+    by false h = omega arith
+
+pub place-most : (s : Channels) (n : ℕ) → length (s .at) ≡ 16 → placeOf s n ≤ 16
+unfolding placeOf
+place-most s n e = omega (arith, first-most (isChannel n) (s .at))
+
+pub and-false : (b : Bool) → (b && false) ≡ false
+and-false true = refl
+and-false false = refl
+
+pub and-true : (b : Bool) → (b && true) ≡ b
+and-true true = refl
+and-true false = refl
+
+module _ (s : Channels) (l : List ℕ) (j : ℕ) where
+  in-at : j < length l → allIn s (drop j l) ≡ (isIn s (getD l j 0) && allIn s (drop (j + 1) l))
+  unfolding allIn
+  in-at h = rw (add-one, drop-cons l j 0)
+
+  pub in-met : (p : ℕ) → j < length l → placeOf s (getD l j 0) < 16 → allIn s (drop j l) ≡ allIn s (drop (j + 1) (set l j p))
+  in-met p h k = in-at h ∙ rw (lt-ltb _ _ k, drop-set-lt (j + 1) l j p (omega arith))
+
+  pub in-missed : j < length l → 16 ≤ placeOf s (getD l j 0) → allIn s (drop j l) ≡ false
+  in-missed h k = in-at h ∙ rw (le-ltb _ _ k)
+
+  pub in-end : length l ≤ j → allIn s (drop j l) ≡ true
+  unfolding allIn
+  in-end h = rw (drop-of-length-le l h)
+
+pub mapped-at : (f : ℕ → ℕ) (l : List ℕ) (j : ℕ) → j < length l
+    → take j l ++ map f (drop j l) ≡ take (j + 1) (set l j (f (getD l j 0))) ++ map f (drop (j + 1) (set l j (f (getD l j 0))))
+mapped-at f l j h =
+    rw (add-one, drop-cons l j 0, take-suc-set l j (f (getD l j 0)) h, drop-set-lt (suc j) l j (f (getD l j 0)) (omega arith), append-snoc)
+
+pub in-placed : (s : Channels) (l : List ℕ) → allIn s l ≡ true → (j : ℕ) → j < length l → getD (map (placeOf s) l) j 0 < places
+unfolding allIn
+in-placed s [] e j h = absurd (not-suc-le-zero h)
+in-placed s (n ∷ l) e zero h = ltb-true _ _ (both-true _ _ e .0)
+in-placed s (n ∷ l) e (suc j) h = in-placed s l (both-true (isIn s n) _ e .1) j (le-of-suc-le-suc h)

@@ -1,0 +1,186 @@
+-- Demand 2 is met: over every list of events the ends match, and so what is delivered is what was wholly sent.
+--
+--   Kept               what every event keeps: equal tables, no refusal, and the ends matched
+--   opening-kept       .. each of them
+--   posting-kept
+--   paying-kept
+--   run-kept           .. and so every list of events
+--   delivers           what is kept is the demand
+--   demand-met         the theorem
+--
+-- Assumes nothing.
+use mathlib.Core.Path.{_≡_, refl, sym, ap, ap₂, subst, _∙_}
+use mathlib.Core.Bool.{Bool, true, false, cond, not}
+use mathlib.Core.List.{List, [], _∷_, _++_, append-nil}
+use Prim.Native.Nat.{ℕ, _≤_}
+use native.Mathlib.Omega.{arith}
+use borrow.Author.Tests.{ltb-true, ltb-false, leb-true, leb-false, not-false}
+use lib.Dec.{leb, ltb, eqb}
+use lib.ListN.{length, take}
+use Rattle.octets.specs.Tests.{both-true}
+use Rattle.octets.specs.Written.{written}
+use Rattle.adaptation.specs.Refusal.{Ended, leaving, refusing}
+use Rattle.table.specs.Slots.{pieces}
+use Rattle.table.specs.Table.{entryOf, isDefined, replaced}
+use Rattle.multiplex.specs.declared.channels.Channels.{Channels}
+use Rattle.multiplex.specs.Channels.{placeOf, freePlace, channelAt, put, fresh, isIn, isUnit, opened, posted, Post, waiting}
+use Rattle.multiplex.specs.Pieces.{total}
+use Rattle.multiplex.specs.Demultiplexer.{Lent, demultiplexed}
+use Rattle.multiplex.specs.Multiplexer as sending
+use Rattle.multiplex.specs.Multiplexer.{Payload, walked, packed, multiplexed}
+use Rattle.multiplex.specs.Runs.{UnitOn, unitsOn, withoutLast, World, begin, Event, opening, replacing, posting, paying, afterPost, afterPayload, afterPaying, paid, step, run, isWaiting, Delivers, Demand2}
+use Rattle.multiplex.proofs.Seats.{free-seats, place-seats}
+use Rattle.multiplex.proofs.Matching.{Matched, posted-matched}
+use Rattle.multiplex.proofs.Opening.{opened-matched, start-matched}
+use Rattle.multiplex.proofs.Agreeing.{by-test}
+use Rattle.multiplex.proofs.Accepting.{accepted, carried-over, payload-front}
+
+pub record Kept (x : World) : Type 0 where
+  pub tables : x .sender .table ≡ x .receiver .table
+  pub unrefused : x .refusals ≡ 0
+  pub matched : Matched (x .sender .channels) (x .sender .octets) (x .receiver .channels) (x .receiver .octets) (x .posted) (x .delivered)
+
+-- ---- opening
+
+module _ (s r : Channels) (w h : List ℕ) (sent got : List UnitOn) (m : Matched s w r h sent got) (n : ℕ) (g : Bool) where
+  abbrev Opened : (a b : Ended (Unit {0}) Channels) → Type 0
+  Opened a b = Matched (a .left) w (b .left) h sent got
+
+  pub opening-kept : Opened (opened s n g) (opened r n g)
+  unfolding opened
+  opening-kept =
+      rw (← (place-seats s r (m .alike) n), ← (free-seats s r (m .alike))) (by (ltb (placeOf s n) 16) (leb 16 (freePlace s)) refl refl)
+    where
+      by : (a b : Bool) → ltb (placeOf s n) 16 ≡ a → leb 16 (freePlace s) ≡ b
+          → Opened (cond a (refusing s 13) (cond b (refusing s 12) (leaving tt (put s (freePlace s) (fresh n g)))))
+          (cond a (refusing r 13) (cond b (refusing r 12) (leaving tt (put r (freePlace s) (fresh n g)))))
+      by true b e f = m
+      by false true e f = m
+      by false false e f = opened-matched m n g (freePlace s) refl (leb-false 16 (freePlace s) f) (ltb-false (placeOf s n) 16 e)
+
+-- ---- posting
+
+module _ (x : World) (k : Kept x) (n : ℕ) (u : List ℕ) where
+  abbrev s : Channels
+  s = x .sender .channels
+
+  abbrev unit : UnitOn
+  unit = record { channel = n; octets = u }
+
+  abbrev Posted : Ended (Unit {0}) Post → Type 0
+  Posted r = Kept (afterPost x unit r)
+
+  same-kept : (i : ℕ) → Kept (afterPost x unit (refusing (record { channels = s; octets = x .sender .octets }) i))
+  same-kept i = record {
+    tables = k .tables;
+    unrefused = k .unrefused;
+    matched = subst (λ (l : List UnitOn). Matched s (x .sender .octets) (x .receiver .channels) (x .receiver .octets) l (x .delivered)) (sym (append-nil (x .posted))) (k .matched);
+  }
+
+  pub posting-kept : Kept (afterPost x unit (posted s (x .sender .octets) n u))
+  unfolding posted
+  posting-kept =
+      by-test Posted (not (isUnit u)) (λ e. same-kept 2)
+      (λ e. by-test Posted (not (isIn s n)) (λ f. same-kept 5)
+      (λ f. by-test Posted (leb 1 (channelAt s (placeOf s n) .waiting)) (λ g. same-kept 11) (λ g.
+      let two = both-true (leb 1 (length u)) (leb (length u) 1024) (not-false (isUnit u) e) in
+      let free : channelAt s (placeOf s n) .waiting ≡ 0 = omega (arith, leb-false 1 (channelAt s (placeOf s n) .waiting) g) in
+      record {
+        tables = k .tables;
+        unrefused = k .unrefused;
+        matched = posted-matched (k .matched) n u (leb-true 1 (length u) (two .0)) (leb-true (length u) 1024 (two .1)) (placeOf s n) refl
+            (ltb-true (placeOf s n) 16 (not-false (isIn s n) f)) free;
+      })))
+
+-- ---- paying
+
+module _ (x : World) (k : Kept x) (c room : ℕ) (payload output units : List ℕ) (roomy : 1279 ≤ length output) (listed : 765 ≤ length units) where
+  abbrev Paid : Ended Payload sending.Lent → Type 0
+  Paid r = Kept (afterPaying (λ j. demultiplexed) x c output units (r .answer) (r .left))
+
+  abbrev lent : sending.Lent
+  lent = record { channels = x .sender .channels; payload = payload }
+
+  -- the payload that was made is accepted
+  module _ (defined : isDefined (x .sender .table) c ≡ true) (small : room ≤ 255) (enough : room ≤ length payload)
+      (known : walked (x .sender .channels) (pieces (entryOf (x .sender .table) c) room) .allOpen ≡ true) where
+    abbrev t : List ℕ
+    t = x .sender .table
+
+    abbrev walk : sending.Walk
+    walk = walked (x .sender .channels) (pieces (entryOf t c) room)
+
+    abbrev octets : List ℕ
+    octets = sending.gathered (x .sender .channels) (x .sender .octets) (walk .pieces)
+
+    abbrev here : Lent
+    here = record { channels = x .receiver .channels; held = x .receiver .octets; output = output; units = units }
+
+    called : demultiplexed here (x .receiver .table) c (walk .mark) (take (total (walk .pieces)) (written payload 0 octets)) ≡ demultiplexed here t c (walk .mark) octets
+    called =
+        ap₂ (λ (a b : List ℕ). demultiplexed here a c (walk .mark) b) (sym (k .tables)) (payload-front (k .matched) t c room defined small known payload enough)
+
+    made-kept : Kept (afterPayload x (walk .channels) (demultiplexed here (x .receiver .table) c (walk .mark) (take (total (walk .pieces)) (written payload 0 octets))))
+    made-kept =
+        subst (λ (r : Ended ℕ Lent). Kept (afterPayload x (walk .channels) r))
+        (sym (called ∙ accepted (k .matched) t c room defined small known output units roomy listed))
+        (record {
+          tables = k .tables;
+          unrefused = omega (arith, k .unrefused);
+          matched = carried-over (k .matched) t c room defined small known output units roomy listed;
+        })
+
+  pub paying-kept : Paid (paid x c room payload)
+  unfolding multiplexed packed
+  paying-kept =
+      by-test Paid (ltb 255 room) (λ a. k)
+      (λ a. by-test Paid (not (isDefined (x .sender .table) c)) (λ b. k)
+      (λ b. by-test Paid (ltb (length payload) room) (λ d. k)
+      (λ d. by-test Paid (not (walked (x .sender .channels) (pieces (entryOf (x .sender .table) c) room) .allOpen)) (λ e. k)
+      (λ e. by-test Paid (eqb (total (walked (x .sender .channels) (pieces (entryOf (x .sender .table) c) room) .pieces)) 0) (λ f. k)
+      (λ f. made-kept (not-false _ b) (ltb-false 255 room a) (ltb-false (length payload) room d) (not-false _ e))))))
+
+-- ---- a run
+
+step-kept : (x : World) (e : Event) → Kept x → Kept (step (λ j. demultiplexed) x e)
+unfolding step
+step-kept x (opening n g) k = record {
+  tables = k .tables;
+  unrefused = k .unrefused;
+  matched = opening-kept (x .sender .channels) (x .receiver .channels) (x .sender .octets) (x .receiver .octets) (x .posted) (x .delivered) (k .matched) n g;
+}
+step-kept x (replacing c s) k = record {
+  tables = ap (λ (t : List ℕ). replaced t c s .left) (k .tables);
+  unrefused = k .unrefused;
+  matched = k .matched;
+}
+step-kept x (posting n u) k = posting-kept x k n u
+step-kept x (paying c room payload output units m l) k = paying-kept x k c room payload output units m l
+
+pub run-kept : (es : List Event) (x : World) → Kept x → Kept (run (λ j. demultiplexed) x es)
+unfolding run
+run-kept [] x k = k
+run-kept (e ∷ es) x k = run-kept es (step (λ j. demultiplexed) x e) (step-kept x e k)
+
+-- ---- the demand
+
+last-dropped : (l : List (List ℕ)) (u : List ℕ) → withoutLast (l ++ u ∷ []) ≡ l
+unfolding withoutLast
+last-dropped [] u = refl
+last-dropped (v ∷ []) u = refl
+last-dropped (v ∷ a ∷ l) u = ap (λ (m : List (List ℕ)). v ∷ m) (last-dropped (a ∷ l) u)
+
+wholly : (b : Bool) (sent got : List (List ℕ)) (u : List ℕ) → sent ≡ got ++ cond b (u ∷ []) [] → got ≡ cond b (withoutLast sent) sent
+wholly true sent got u e = sym (ap withoutLast e ∙ last-dropped got u)
+wholly false sent got u e = sym (e ∙ append-nil got)
+
+pub delivers : (x : World) → Kept x → Delivers x
+delivers x k = record {
+  unrefused = k .unrefused;
+  complete = λ n. wholly (isWaiting (x .sender .channels) n) (unitsOn n (x .posted)) (unitsOn n (x .delivered)) _ (k .matched .log n);
+}
+
+pub demand-met : Demand2 (λ j. demultiplexed)
+demand-met w h e f es =
+    delivers (run (λ j. demultiplexed) (begin w h) es)
+    (run-kept es (begin w h) (record { tables = refl; unrefused = refl; matched = start-matched w h e f }))

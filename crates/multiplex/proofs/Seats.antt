@@ -1,0 +1,141 @@
+-- What the two ends have alike: at each place whether a channel is open, its number, and whether it is segmentable. By it alone a
+-- channel's place and the next free place are found.
+--
+--   Seat, seat c, seats s   these three, of one channel, and of all
+--   first-map          the first place at which a test of what g gives holds
+--   first-most         it is at most the length
+--   first-found        the element there passes
+--   first-set          an element that answers the test alike changes nothing
+--   first-put          where none passed, one that passes is found where it was put
+--   place-seats        seats alike: channel n's place is the same
+--   free-seats         .. and the free place
+--   seat-at            .. and the seat at each place
+--   seats-put          a channel put back with its seat keeps the seats
+--   seats-length       .. and as many places
+--   place-number       the channel at channel n's place has number n
+--   place-unique       .. so no other channel has that place
+--   vacant-behind      there is no channel behind the last place
+--   put-there          what was put at a place
+--   put-elsewhere      .. changes no other
+--
+-- Assumes nothing.
+use mathlib.Core.Path.{_≡_, refl, sym, ap, _∙_}
+use mathlib.Core.Logic.{_≢_}
+use mathlib.Core.Bool.{Bool, true, false, cond, not}
+use mathlib.Core.List.{List, [], _∷_, map}
+use Prim.Native.Nat.{ℕ, zero, suc, _≤_, _<_}
+use native.Mathlib.Nat.{not-suc-le-zero, le-of-suc-le-suc}
+use native.Mathlib.Omega.{arith}
+use borrow.Author.Tests.{eqb-true}
+use lib.Dec.{eqb}
+use lib.ListN.{length, getD, set, List·getD-map, List·getD-eq-default}
+use lib.Seq.{map-set-same, getD-set-same, getD-set-other}
+use Rattle.multiplex.specs.declared.channels.Channel.{Channel}
+use Rattle.multiplex.specs.declared.channels.Channels.{Channels}
+use Rattle.multiplex.specs.Search.{first}
+use Rattle.multiplex.specs.Channels.{vacant, isChannel, placeOf, freePlace, channelAt, put}
+
+pub record Seat : Type 0 where
+  pub taken : Bool
+  pub segmentable : Bool
+  pub number : ℕ
+
+abbrev pub seat : Channel → Seat
+seat c = record { taken = c .«open»; segmentable = c .segmentable; number = c .number }
+
+abbrev pub seats : Channels → List Seat
+seats s = map seat (s .at)
+
+-- ---- the first place
+
+pub first-map : {A B : Type 0} (f : B → Bool) (g : A → B) (l : List A) → first (λ a. f (g a)) l ≡ first f (map g l)
+unfolding first
+first-map f g [] = refl
+first-map f g (a ∷ l) = ap (λ (k : ℕ). cond (f (g a)) 0 (suc k)) (first-map f g l)
+
+pub first-most : {A : Type 0} (f : A → Bool) (l : List A) → first f l ≤ length l
+unfolding first
+first-most f [] = omega arith
+first-most f (a ∷ l) = by (f a) (first-most f l)
+  where
+    by : (b : Bool) → first f l ≤ length l → cond b 0 (suc (first f l)) ≤ suc (length l)
+    by true h = omega arith
+    by false h = omega arith
+
+pub first-found : {A : Type 0} (f : A → Bool) (d : A) (l : List A) → first f l < length l → f (getD l (first f l) d) ≡ true
+unfolding first
+first-found f d [] h = absurd (not-suc-le-zero h)
+first-found f d (a ∷ l) h = by (f a) refl h (first-found f d l)
+  where
+    by : (b : Bool) → f a ≡ b → cond b 0 (suc (first f l)) < suc (length l)
+        → (first f l < length l → f (getD l (first f l) d) ≡ true) → f (getD (a ∷ l) (cond b 0 (suc (first f l))) d) ≡ true
+    by true e h ih = e
+    by false e h ih = ih (le-of-suc-le-suc h)
+
+pub first-set : {A : Type 0} (f : A → Bool) (l : List A) (i : ℕ) (a d : A) → f a ≡ f (getD l i d) → first f (set l i a) ≡ first f l
+first-set f l i a d e =
+    first-map (λ b. b) f (set l i a) ∙ ap (first (λ b. b)) (map-set-same f l i a d e) ∙ sym (first-map (λ b. b) f l)
+
+pub first-put : {A : Type 0} (f : A → Bool) (l : List A) (i : ℕ) (a : A) → length l ≤ first f l → i < length l → f a ≡ true → first f (set l i a) ≡ i
+unfolding first
+first-put f [] i a h k e = absurd (not-suc-le-zero k)
+first-put f (x ∷ l) zero a h k e = rw e
+first-put f (x ∷ l) (suc i) a h k e = by (f x) h (first-put f l i a)
+  where
+    by : (b : Bool) → suc (length l) ≤ cond b 0 (suc (first f l)) → (length l ≤ first f l → i < length l → f a ≡ true → first f (set l i a) ≡ i)
+        → cond b 0 (suc (first f (set l i a))) ≡ suc i
+    by true h ih = absurd (not-suc-le-zero h)
+    by false h ih = ap suc (ih (le-of-suc-le-suc h) (le-of-suc-le-suc k) e)
+
+-- ---- seats
+
+abbrev isOn : ℕ → Seat → Bool
+isOn n z = cond (z .taken) (eqb (z .number) n) false
+
+module _ (s r : Channels) (e : seats s ≡ seats r) where
+  pub place-seats : (n : ℕ) → placeOf s n ≡ placeOf r n
+  unfolding placeOf
+  place-seats n = first-map (isOn n) seat (s .at) ∙ ap (first (isOn n)) e ∙ sym (first-map (isOn n) seat (r .at))
+
+  pub free-seats : freePlace s ≡ freePlace r
+  unfolding freePlace
+  free-seats = first-map (λ z. not (z .taken)) seat (s .at) ∙ ap (first (λ z. not (z .taken))) e ∙ sym (first-map (λ z. not (z .taken)) seat (r .at))
+
+  pub seat-at : (p : ℕ) → seat (channelAt s p) ≡ seat (channelAt r p)
+  seat-at p = sym (List·getD-map seat (s .at) p vacant) ∙ ap (λ (l : List Seat). getD l p (seat vacant)) e ∙ List·getD-map seat (r .at) p vacant
+
+  pub seats-length : length (s .at) ≡ length (r .at)
+  seats-length = sym (lengths (s .at)) ∙ ap (λ (l : List Seat). length l) e ∙ lengths (r .at)
+    where
+      lengths : (l : List Channel) → length (map seat l) ≡ length l
+      lengths [] = refl
+      lengths (c ∷ l) = ap suc (lengths l)
+
+pub seats-put : (s : Channels) (p : ℕ) (c : Channel) → seat c ≡ seat (channelAt s p) → seats (put s p c) ≡ seats s
+seats-put s p c e = map-set-same seat (s .at) p c vacant e
+
+-- ---- places
+
+is-number : (b : Bool) (m n : ℕ) → cond b (eqb m n) false ≡ true → m ≡ n
+is-number true m n e = eqb-true m n e
+is-number false m n e = absurd (let z : _≡_ {A = ℕ} 0 1 = cc in omega arith)
+
+module _ (s : Channels) (full : length (s .at) ≡ 16) where
+  pub place-number : (n : ℕ) → placeOf s n < 16 → channelAt s (placeOf s n) .number ≡ n
+  unfolding placeOf
+  place-number n h =
+      is-number (channelAt s (placeOf s n) .«open») (channelAt s (placeOf s n) .number) n
+      (first-found (isChannel n) vacant (s .at) (rw full h))
+
+  pub place-unique : (n k p : ℕ) → p < 16 → placeOf s n ≡ p → placeOf s k ≡ p → n ≡ k
+  place-unique n k p h e f =
+      sym (place-number n (rw e h)) ∙ ap (λ (q : ℕ). channelAt s q .number) (e ∙ sym f) ∙ place-number k (rw f h)
+
+  pub vacant-behind : (p : ℕ) → 16 ≤ p → channelAt s p ≡ vacant
+  vacant-behind p h = List·getD-eq-default (s .at) vacant (rw full h)
+
+  pub put-there : (p : ℕ) (c : Channel) → p < 16 → channelAt (put s p c) p ≡ c
+  put-there p c h = getD-set-same (s .at) p c vacant (rw full h)
+
+pub put-elsewhere : (s : Channels) (p q : ℕ) (c : Channel) → q ≢ p → channelAt (put s p c) q ≡ channelAt s q
+put-elsewhere s p q c h = getD-set-other (s .at) p q c vacant h

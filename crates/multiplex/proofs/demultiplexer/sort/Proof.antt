@@ -1,0 +1,168 @@
+-- The table lays the slots down, each channel's place is found, and the pieces are delivered. Assumes nothing.
+use borrow.Author.Needs.{needs}
+use mathlib.Core.Path.{_≡_, refl, sym, ap, _∙_}
+use mathlib.Core.List.{List, _++_, map}
+use mathlib.Core.Bool.{true}
+use Prim.Native.Nat.{ℕ, _≤_, _<_}
+use native.Mathlib.Omega.{arith}
+use lib.ListN.{length, take, drop, length-append, length-map}
+use lib.Seq.{length-take-le, take-at}
+use denote.Ref.{now}
+use Rattle.table.specs.Slots.{Slot, pieces, octetsOf}
+use Rattle.table.specs.Table.{entryOf}
+use Rattle.multiplex.specs.Channels.{placeOf}
+use Rattle.multiplex.specs.Pieces.{Piece, allIn, allOpen}
+use Rattle.multiplex.specs.Demultiplexer.{Lent, delivered}
+use Rattle.multiplex.proofs.Sorting.{channelsOf, all-open, Slotted, lays-slotted, Found, slotted-found, sorted-long, sorted-closed, sorted-all}
+use Rattle.multiplex.proofs.demultiplexer.sort.Statement.{statement}
+use Rattle.multiplex.proofs.demultiplexer.sort.Tie as tie
+
+-- ---- the slots that the table has laid down
+
+module _ (c : tie.After-pieces) where
+  abbrev from : tie.Start
+  from = c .before .before .before .before .before .before .before
+
+  abbrev xs : List ℕ
+  xs = now (from .args .payload)
+
+  abbrev l : List Slot
+  l = pieces (entryOf (now (from .args .table)) (from .args .code .0)) (length xs)
+
+  abbrev lent : Lent
+  lent = record { channels = from .args .s; held = now (from .args .held); output = now (from .args .output); units = now (from .args .units) }
+
+  abbrev n : ℕ
+  n = c .pieces .result .count
+
+  abbrev cs : List ℕ
+  cs = c .pieces .last .1 .1 .1 .0
+
+  abbrev ls : List ℕ
+  ls = c .pieces .last .1 .1 .1 .1 .0
+
+  slotted : Slotted l (length xs) (c .pieces .result) cs ls
+  slotted = lays-slotted (entryOf (now (from .args .table)) (from .args .code .0)) (length xs) (from .pre .0) (c .pieces .result) _ _ cs ls refl refl (c .pieces .ensures)
+
+  in-cs : n ≤ length cs
+  in-cs = omega (arith, slotted .count, slotted .few, slotted .forChannels)
+
+  in-ls : n ≤ length ls
+  in-ls = omega (arith, slotted .count, slotted .few, slotted .forLengths)
+
+-- ---- the channels that were found
+
+module _ (c : tie.After-find) where
+  abbrev p : tie.After-pieces
+  p = c .before .before .before .before
+
+  found-are : c .find .last .1 .0 ≡ map (placeOf (from p .args .s)) (channelsOf (l p))
+  found-are = c .find .ensures .1 ∙ ap (map (placeOf (from p .args .s))) (slotted p .channels)
+
+  found-length : length (c .find .last .1 .0) ≡ n p
+  found-length =
+      ap length found-are ∙ length-map (channelsOf (l p)) (placeOf (from p .args .s)) ∙ length-map (l p) (λ (x : Slot). x .channel)
+      ∙ sym (slotted p .count)
+
+  abbrev places : List ℕ
+  places = take (n p) (c .find .last .1 .0 ++ drop (n p) (cs p))
+
+  places-are : places ≡ c .find .last .1 .0
+  places-are = take-at (c .find .last .1 .0) (drop (n p) (cs p)) (n p) found-length
+
+  open-is : c .find .result ≡ allOpen (from p .args .s) (l p)
+  open-is = c .find .ensures .0 ∙ ap (allIn (from p .args .s)) (slotted p .channels) ∙ all-open (from p .args .s) (l p)
+
+  enough : length (xs p) ≤ octetsOf (l p)
+  enough = omega (arith, c .before .before .if1 .left, p .pieces .ensures .left)
+
+  found : c .find .result ≡ true → Found (from p .args .s) (l p) (length (xs p)) places (take (n p) (ls p))
+  found e =
+      slotted-found (from p .args .s) (l p) (length (xs p)) (p .pieces .result) (cs p) (ls p) (slotted p) places (places-are ∙ found-are)
+      (all-open (from p .args .s) (l p) ∙ sym open-is ∙ e)
+
+pieces-requires : tie.Need-pieces-requires
+pieces-requires c κs = search needs
+
+refused-requires : tie.Need-refused-requires
+refused-requires c κs = search needs
+
+returns : tie.Need-returns
+returns c =
+    let k = c .before .before .before in
+    let more : octetsOf (l k) < length (xs k) = omega (arith, c .before .if1 .taken, k .pieces .ensures .left) in
+    rw (c .refused .ensures) (sym (sorted-long (lent k) (from k .args .mark) (xs k) (l k) more))
+
+array-borrow-prefix-places : tie.Need-array-borrow-prefix-places
+array-borrow-prefix-places c = in-cs (c .before .before)
+
+slice-aggregate-find : tie.Need-slice-aggregate-find
+slice-aggregate-find c = sym (length-take-le (n (c .before .before .before)) (cs (c .before .before .before)) (in-cs (c .before .before .before)))
+
+find-requires : tie.Need-find-requires
+find-requires c κs = search needs
+
+array-share-prefix-places : tie.Need-array-share-prefix-places
+array-share-prefix-places c = omega (arith, length-append (c .before .before .before .find .last .1 .0) (drop (n (c .before .before .before .before .before .before .before)) (cs (c .before .before .before .before .before .before .before))), found-length (c .before .before .before))
+
+slice-aggregate-deliver : tie.Need-slice-aggregate-deliver
+slice-aggregate-deliver c = sym (ap length (places-are (c .before .before .before .before)) ∙ found-length (c .before .before .before .before))
+
+array-share-prefix-lengths : tie.Need-array-share-prefix-lengths
+array-share-prefix-lengths c = in-ls (c .before .before .before .before .before .before .before .before)
+
+slice-aggregate-deliver-2 : tie.Need-slice-aggregate-deliver-2
+slice-aggregate-deliver-2 c = sym (length-take-le (n (c .before .before .before .before .before .before .before .before .before)) (ls (c .before .before .before .before .before .before .before .before .before)) (in-ls (c .before .before .before .before .before .before .before .before .before)))
+
+deliver-requires : tie.Need-deliver-requires
+deliver-requires c κs =
+    let f = found (c .before .before .before .before .before .before .before) (c .before .before .before .before .before .if2 .taken) in
+    let s = c .before .before .before .before .before .before .before .before .before .before .before .before .before .before .before .before .before .before in
+    (f .within, f .same, f .few, f .most, s .pre .0, s .pre .2)
+
+same-length : tie.Need-same-length
+same-length c = search needs
+
+same-length-2 : tie.Need-same-length-2
+same-length-2 c = search needs
+
+same-length-3 : tie.Need-same-length-3
+same-length-3 c = search needs
+
+returns-2 : tie.Need-returns-2
+returns-2 c =
+    let k = c .before .before .before .before .before .before .before .before .before .before .before .before .before .before in
+    let m = from (p k) .args .mark in
+    c .before .before .before .before .before .before .deliver .ensures ∙ ap (λ (q : List Piece). delivered (lent (p k)) m q (xs (p k))) (found k (c .before .before .before .before .before .before .before .before .before .before .before .before .if2 .taken) .pieces)
+    ∙ sym (sorted-all (lent (p k)) m (xs (p k)) (l (p k)) (enough k) (sym (open-is k) ∙ c .before .before .before .before .before .before .before .before .before .before .before .before .if2 .taken))
+
+refused-requires-2 : tie.Need-refused-requires-2
+refused-requires-2 c κs = search needs
+
+returns-3 : tie.Need-returns-3
+returns-3 c =
+    let k = c .before .before .before in
+    rw (c .refused2 .ensures)
+    (sym (sorted-closed (lent (p k)) (from (p k) .args .mark) (xs (p k)) (l (p k)) (enough k) (sym (open-is k) ∙ c .before .if2 .left)))
+
+pub sort-spec : {M : Type 1} → statement M
+sort-spec =
+    tie.close
+    (tie.spec
+    pieces-requires
+    refused-requires
+    returns
+    array-borrow-prefix-places
+    slice-aggregate-find
+    find-requires
+    array-share-prefix-places
+    slice-aggregate-deliver
+    array-share-prefix-lengths
+    slice-aggregate-deliver-2
+    deliver-requires
+    same-length
+    same-length-2
+    same-length-3
+    returns-2
+    refused-requires-2
+    returns-3)

@@ -1,0 +1,103 @@
+-- After j turns the first j numbers are places, and all depends on those behind. Assumes nothing.
+use borrow.Author.Needs.{needs}
+use borrow.Author.Tests.{lt-ltb, le-ltb}
+use mathlib.Core.Path.{_≡_, refl, sym, ap, _∙_}
+use mathlib.Core.Logic.{⊎-elim}
+use mathlib.Core.List.{map, _++_, append-nil}
+use mathlib.Core.Bool.{Bool, _&&_}
+use Prim.Native.Nat.{ℕ, _+_, _-_, _≤_, _<_}
+use native.Mathlib.Omega.{arith}
+use lib.ListN.{length, getD, take, drop, length-set, length-map, drop-of-length-le}
+use lib.Seq.{take-all}
+use denote.Ref.{now}
+use Rattle.multiplex.specs.Channels.{placeOf}
+use Rattle.multiplex.specs.Pieces.{allIn}
+use Rattle.multiplex.proofs.Placing.{place-most, in-met, in-missed, in-end, mapped-at, and-false, and-true}
+use Rattle.multiplex.proofs.pieces.find.Statement.{statement}
+use Rattle.multiplex.proofs.pieces.find.Tie as tie
+
+abbrev Inv-loop : tie.InvT-loop
+Inv-loop s numbers₀ all₀ j₀ numbers all j =
+    (allIn s numbers₀ ≡ (all && allIn s (drop j numbers)))
+    × (map (placeOf s) numbers₀ ≡ take j numbers ++ map (placeOf s) (drop j numbers))
+    × (j ≤ length numbers) × (length numbers ≡ length numbers₀)
+
+abbrev μ-loop : tie.MeasureT-loop
+μ-loop s numbers₀ all₀ j₀ numbers all j = length numbers - j
+
+len : (c : tie.Start Inv-loop μ-loop) → length (c .args .s .at) ≡ 16
+len c = sym (length-map (c .args .s .at) _) ∙ c .good .0 .1 .1 .0 .1 .0 .1
+
+loop-holds : tie.Need-loop-holds Inv-loop μ-loop
+loop-holds c = (refl, refl, search needs, refl)
+
+mul-n : tie.Need-mul-n Inv-loop μ-loop
+mul-n c = search needs
+
+slice-read-n : tie.Need-slice-read-n Inv-loop μ-loop
+slice-read-n c = search needs
+
+place-of-requires : tie.Need-place-of-requires Inv-loop μ-loop
+place-of-requires c κs = search needs
+
+cast-numbers : tie.Need-cast-numbers Inv-loop μ-loop
+cast-numbers c =
+    let l = c .before .before .before .before .loop in
+    omega (arith, c .before .place-of .ensures, place-most (c .before .before .before .before .before .before .args .s) (getD (l .numbers) (l .j) 0) (len (c .before .before .before .before .before .before)))
+
+mul-numbers : tie.Need-mul-numbers Inv-loop μ-loop
+mul-numbers c = search needs
+
+slice-write-numbers : tie.Need-slice-write-numbers Inv-loop μ-loop
+slice-write-numbers c = search needs
+
+add-j : tie.Need-add-j Inv-loop μ-loop
+add-j c = search needs
+
+loop-less : tie.Need-loop-less Inv-loop μ-loop
+loop-less c = simp length-set (search needs)
+
+loop-again : tie.Need-loop-again Inv-loop μ-loop
+loop-again c =
+    let t = c .before in
+    let l = t .before .before .before .loop in
+    let s = t .before .before .before .before .before .args .s in
+    let h = t .before .before .loop-test .taken in
+    let e = t .place-of .ensures in (
+      ⊎-elim
+          (λ w. l .inv .0 ∙ ap (λ (b : Bool). l .all && b) (in-missed s (l .numbers) (l .j) h (omega (arith, e, w .0 .taken))) ∙ and-false (l .all) ∙ rw (w .1))
+          (λ w. l .inv .0 ∙ rw (in-met s (l .numbers) (l .j) (t .place-of .result) h (omega (arith, e, w .0 .left)), w .1))
+          (c .if1 .came),
+      l .inv .1 ∙ mapped-at (placeOf s) (l .numbers) (l .j) h ∙ rw e,
+      simp length-set (search needs),
+      simp length-set (l .inv .3),
+    )
+
+same-length : tie.Need-same-length Inv-loop μ-loop
+same-length c = c .before .loop .inv .3
+
+returns : tie.Need-returns Inv-loop μ-loop
+returns c =
+    let l = c .before .loop in
+    let s = c .before .before .before .args .s in
+    let e = in-end s (l .numbers) (l .j) (c .loop-test .left) in
+    (sym (l .inv .0 ∙ rw e (and-true (l .all))), sym (l .inv .1 ∙ rw (take-all (l .j) (l .numbers) (c .loop-test .left), drop-of-length-le (l .numbers) (c .loop-test .left)) (append-nil (l .numbers))))
+
+pub find-spec : {M : Type 1} → statement M
+find-spec =
+    tie.close
+    (tie.spec
+    Inv-loop
+    μ-loop
+    loop-holds
+    mul-n
+    slice-read-n
+    place-of-requires
+    cast-numbers
+    mul-numbers
+    slice-write-numbers
+    add-j
+    loop-less
+    loop-again
+    same-length
+    returns)

@@ -1,0 +1,142 @@
+-- The demultiplexer (000, 6.5; document 01, "Demultiplexer").
+--
+--   Delivery           what a payload leads to: the channels, the octets held, the octets of the finished units, and the channel,
+--                      start and length of each of them
+--   finished r n u     the delivery r with one more finished unit u, of channel n
+--   joined r p x       .. with x joined to what place p holds
+--   took r p x         .. with the octets x of one piece taken: they join what a segmentable channel holds; else they are a unit
+--   tookAll r l xs     .. with the octets xs taken, piece by piece
+--   closed r p         .. with what place p holds ended as a unit
+--   grown s p n        the channels after n octets came to place p
+--   fits s l           no held unit passes 1,024 octets on the way
+--   Lent               what a call is lent to write to: the channels, the octets held, the output and the list of units
+--   delivery           what an accepted payload leads to
+--   refusals           what refuses it, in this order
+--   demultiplexed      how the call ends: with the number of finished units, or a refusal
+--   ends               what an answer says, and what it leaves
+--
+-- Assumes nothing.
+use mathlib.Core.Bool.{Bool, true, cond, not, _&&_, _||_}
+use mathlib.Core.List.{List, [], _∷_, _++_}
+use Prim.Native.Nat.{ℕ, _+_, _*_}
+use lib.Dec.{leb, ltb}
+use lib.ListN.{length, take, drop}
+use Rattle.octets.specs.Written.{written}
+use Rattle.adaptation.specs.Refusal.{Ended, leaving, refusing, Test, _when_, checked}
+use Rattle.adaptation.specs.Handed.{longest}
+use Rattle.table.specs.Slots.{Slot, endless, pieces, octetsOf}
+use Rattle.table.specs.Table.{entryOf, isDefined}
+use Rattle.multiplex.specs.declared.channels.Channels.{Channels}
+use Rattle.multiplex.specs.declared.demultiplexer.Finished.{Finished}
+use Rattle.multiplex.specs.declared.demultiplexer.Finished.the-variants.{Units, Refused}
+use Rattle.multiplex.specs.Channels.{channelAt, put, holding, heldOf}
+use Rattle.multiplex.specs.Pieces.{Piece, placed, allOpen, lastPlace}
+
+pub record Delivery : Type 0 where
+  pub channels : Channels
+  pub held : List ℕ
+  pub octets : List ℕ
+  pub units : List ℕ
+  pub count : ℕ
+
+abbrev pub finished : Delivery → ℕ → List ℕ → Delivery
+finished r n u = record {
+  channels = r .channels;
+  held = r .held;
+  octets = r .octets ++ u;
+  units = r .units ++ n ∷ length (r .octets) ∷ length u ∷ [];
+  count = r .count + 1;
+}
+
+abbrev pub grown : Channels → ℕ → ℕ → Channels
+grown s p n = put s p (holding (channelAt s p) (channelAt s p .held + n))
+
+abbrev pub joined : Delivery → ℕ → List ℕ → Delivery
+joined r p x = record {
+  channels = grown (r .channels) p (length x);
+  held = written (r .held) (longest * p + channelAt (r .channels) p .held) x;
+  octets = r .octets;
+  units = r .units;
+  count = r .count;
+}
+
+abbrev pub took : Delivery → ℕ → List ℕ → Delivery
+took r p x = cond (channelAt (r .channels) p .segmentable) (joined r p x) (finished r (channelAt (r .channels) p .number) x)
+
+unfoldable pub tookAll : Delivery → List Piece → List ℕ → Delivery
+tookAll r [] xs = r
+tookAll r (q ∷ l) xs = tookAll (took r (q .place) (take (q .octets) xs)) l (drop (q .octets) xs)
+
+abbrev pub emptied : Delivery → ℕ → Delivery
+emptied r p = record {
+  channels = put (r .channels) p (holding (channelAt (r .channels) p) 0);
+  held = r .held;
+  octets = r .octets;
+  units = r .units;
+  count = r .count;
+}
+
+abbrev pub closed : Delivery → ℕ → Delivery
+closed r p = emptied (finished r (channelAt (r .channels) p .number) (heldOf (r .channels) (r .held) p)) p
+
+-- ---- refusal 8
+
+abbrev pub counted : Channels → ℕ → ℕ → Channels
+counted s p n = cond (channelAt s p .segmentable) (grown s p n) s
+
+abbrev pub hasRoom : Channels → ℕ → ℕ → Bool
+hasRoom s p n = not (channelAt s p .segmentable) || leb (channelAt s p .held + n) longest
+
+unfoldable pub fits : Channels → List Piece → Bool
+fits s [] = true
+fits s (q ∷ l) = hasRoom s (q .place) (q .octets) && fits (counted s (q .place) (q .octets)) l
+
+-- ---- the call
+
+pub record Lent : Type 0 where
+  pub channels : Channels
+  pub held : List ℕ
+  pub output : List ℕ
+  pub units : List ℕ
+
+abbrev pub nothing : Channels → List ℕ → Delivery
+nothing s h = record { channels = s; held = h; octets = []; units = []; count = 0 }
+
+unfoldable pub delivery : Channels → List ℕ → (mark : Bool) → List Piece → List ℕ → Delivery
+delivery s h mark l xs = cond mark (closed (tookAll (nothing s h) l xs) (lastPlace l)) (tookAll (nothing s h) l xs)
+
+abbrev pub tooSmall : Delivery → (output units : List ℕ) → Bool
+tooSmall r output units = ltb (length output) (length (r .octets)) || ltb (length units) (length (r .units))
+
+-- what behind the finished units stands in what was lent stays
+abbrev pub writes : Delivery → (output units : List ℕ) → Lent
+writes r output units = record {
+  channels = r .channels;
+  held = r .held;
+  output = written output 0 (r .octets);
+  units = written units 0 (r .units);
+}
+
+-- .. where the slots of the payload are l, by refusals 7, 8, 3
+unfoldable pub delivered : Lent → (mark : Bool) → List Piece → List ℕ → Ended ℕ Lent
+delivered x mark l xs =
+    checked (refusing x) (7 when (mark && not (channelAt (x .channels) (lastPlace l) .segmentable))
+    ∷ 8 when not (fits (x .channels) l)
+    ∷ 3 when tooSmall (delivery (x .channels) (x .held) mark l xs) (x .output) (x .units)
+    ∷ [])
+    (leaving (delivery (x .channels) (x .held) mark l xs .count) (writes (delivery (x .channels) (x .held) mark l xs) (x .output) (x .units)))
+
+unfoldable pub sorted : Lent → (mark : Bool) → List Slot → List ℕ → Ended ℕ Lent
+sorted x mark l xs =
+    checked (refusing x) (6 when ltb (octetsOf l) (length xs) ∷ 5 when not (allOpen (x .channels) l) ∷ [])
+    (delivered x mark (placed (x .channels) l) xs)
+
+unfoldable pub demultiplexed : Lent → (table : List ℕ) → (code : ℕ) → (mark : Bool) → List ℕ → Ended ℕ Lent
+demultiplexed x t c mark xs =
+    checked (refusing x) (2 when ltb endless (length xs) ∷ 4 when not (isDefined t c) ∷ [])
+    (sorted x mark (pieces (entryOf t c) (length xs)) xs)
+
+-- what an answer says, and what it leaves
+abbrev pub ends : Finished → Lent → Ended ℕ Lent
+ends (Units n) x = leaving n x
+ends (Refused k) x = refusing x k

@@ -1,0 +1,12 @@
+pub mod Search
+pub mod Channels
+pub mod Layers
+pub mod Parts
+pub mod Pieces
+pub mod Demultiplexer
+pub mod Tally
+pub mod Multiplexer
+pub mod Walks
+pub mod Runs
+pub mod Claims
+pub mod Calls

@@ -1,0 +1,365 @@
+// The demultiplexer: every check first, by value; then the writes.
+use crate::channels::Channels;
+use crate::pieces::find;
+use adaptation::LONGEST;
+use table::Code;
+use table::PAYLOAD;
+ghost use mathlib.Core.Path.{_≡_};
+ghost use mathlib.Core.Bool.{true, not, _&&_};
+ghost use Prim.Native.Nat.{_+_, _*_, _-_, _≤_, _<_};
+ghost use lib.ListN.{length, getD};
+ghost use Rattle.octets.specs.Written.{written};
+ghost use Rattle.table.specs.Slots.{pieces};
+ghost use Rattle.table.specs.Table.{entryOf};
+ghost use Rattle.multiplex.specs.Channels.{channelAt};
+ghost use Rattle.multiplex.specs.Pieces.{laid, lastPlace, total};
+ghost use Rattle.multiplex.specs.Demultiplexer as the;
+ghost use Rattle.multiplex.specs.Demultiplexer.{hasRoom, delivered, sorted, demultiplexed};
+ghost use Rattle.multiplex.specs.Tally.{noTally, counts, tallied, closes, entry, puts, putsAll, ends, Within};
+
+// How many units are finished, or document 01's refusal number.
+pub enum Finished {
+    Units(usize),
+    Refused(u8),
+}
+
+// What a payload is answered with, and the channels behind it.
+pub struct Delivered {
+    pub finished: Finished,
+    pub channels: Channels,
+}
+
+// How far a payload has led: the channels, and how many octets and units are finished.
+pub struct Tally {
+    pub channels: Channels,
+    pub octets: usize,
+    pub units: usize,
+}
+
+// Whether every held unit stays within 1,024 octets, and then the tally of all pieces.
+pub struct Counted {
+    pub fits: bool,
+    pub tally: Tally,
+}
+
+fn refused(s: Channels, k: u8) -> Delivered
+    ensures { λ r. ⌜ r ≡ record { finished = Finished.Refused k; channels = s } ⌝ }
+{
+    let finished = Finished::Refused(k);
+    Delivered {
+        finished,
+        channels: s,
+    }
+}
+
+// Whether n more octets may come to place p.
+fn has_room(s: Channels, p: usize, n: u16) -> bool
+    requires { ⌜ p < 16 ⌝ }
+    ensures { λ r. ⌜ r ≡ hasRoom s p n ⌝ }
+{
+    let c = s.at[p];
+    if c.segmentable {
+        c.held as usize + n as usize <= LONGEST
+    } else {
+        true
+    }
+}
+
+// The tally with one more piece: n octets at place p.
+fn count(t: Tally, p: usize, n: u16) -> Tally
+    requires { ⌜ (p < 16) × (hasRoom (t .channels) p n ≡ true) × (t .octets < 4294967296) × (t .units < 4294967296) ⌝ }
+    ensures { λ r. ⌜ r ≡ counts t p n ⌝ }
+{
+    let mut s = t.channels;
+    let mut c = s.at[p];
+    if c.segmentable {
+        c.held = c.held + n;
+        s.at[p] = c;
+        return Tally {
+            channels: s,
+            octets: t.octets,
+            units: t.units,
+        };
+    }
+    Tally {
+        channels: s,
+        octets: t.octets + n as usize,
+        units: t.units + 1,
+    }
+}
+
+// The dry run: every piece, by value.
+fn count_all(s: Channels, places: &[u16], lengths: &[u16]) -> Counted
+    requires { ⌜ Within (now places) × (length (now places) ≡ length (now lengths)) × (length (now places) ≤ 255) ⌝ }
+    ensures { λ r. ⌜ (r .fits ≡ the.fits s (laid (now (places .entry)) (now (lengths .entry))))
+        × (r .fits ≡ true → r .tally ≡ tallied (noTally s) (laid (now (places .entry)) (now (lengths .entry)))) ⌝ }
+{
+    let mut t = Tally {
+        channels: s,
+        octets: 0,
+        units: 0,
+    };
+    let mut j = 0;
+    while j < places.len() {
+        let p = places[j] as usize;
+        let n = lengths[j];
+        let here = t.channels;
+        if has_room(here, p, n) {
+            t = count(t, p, n);
+            j += 1;
+        } else {
+            return Counted {
+                fits: false,
+                tally: t,
+            };
+        }
+    }
+    Counted {
+        fits: true,
+        tally: t,
+    }
+}
+
+// Writes down a finished unit: its channel, start and length.
+fn note(units: &mut [u16], at: usize, channel: u16, start: usize, len: usize)
+    requires { ⌜ (at + 3 ≤ length (now units)) × (start < 65536) × (len < 65536) ⌝ }
+    ensures { λ _. ⌜ now (units .exit) ≡ written (now (units .entry)) at (entry channel start len) ⌝ }
+{
+    units[at] = channel;
+    units[at + 1] = start as u16;
+    units[at + 2] = len as u16;
+}
+
+// Writes the octets x of one piece to where they belong: behind what place p holds, or as a unit.
+fn put(t: Tally, held: &mut [u8], output: &mut [u8], units: &mut [u16], p: usize, x: &[u8]) -> Tally
+    requires { ⌜ (p < 16) × (length (now x) ≤ 255) × (hasRoom (t .channels) p (length (now x)) ≡ true) × (t .octets < 65536) × (t .units < 65536)
+        × (counts t p (length (now x)) .octets ≤ length (now output)) × (3 * counts t p (length (now x)) .units ≤ length (now units))
+        × (length (now held) ≡ 16384) ⌝ }
+    ensures { λ r. ⌜ record { tally = r; held = now (held .exit); output = now (output .exit); units = now (units .exit) }
+        ≡ puts (record { tally = t; held = now (held .entry); output = now (output .entry); units = now (units .entry) }) p (now (x .entry)) ⌝ }
+{
+    let s = t.channels;
+    let c = s.at[p];
+    let n = x.len();
+    if c.segmentable {
+        octets::write(held, LONGEST * p + c.held as usize, x);
+        return count(t, p, n as u16);
+    }
+    let at = t.octets;
+    octets::write(output, at, x);
+    note(units, 3 * t.units, c.number, at, n);
+    count(t, p, n as u16)
+}
+
+// Writes every piece.
+fn pour(
+    s: Channels,
+    held: &mut [u8],
+    places: &[u16],
+    lengths: &[u16],
+    payload: &[u8],
+    output: &mut [u8],
+    units: &mut [u16],
+) -> Tally
+    requires { ⌜ Within (now places) × (length (now places) ≡ length (now lengths)) × (the.fits s (laid (now places) (now lengths)) ≡ true)
+        × (total (laid (now places) (now lengths)) ≤ length (now payload)) × (length (now payload) ≤ 255) × (length (now places) ≤ 255)
+        × (tallied (noTally s) (laid (now places) (now lengths)) .octets ≤ length (now output))
+        × (3 * tallied (noTally s) (laid (now places) (now lengths)) .units ≤ length (now units)) × (length (now held) ≡ 16384) ⌝ }
+    ensures { λ r. ⌜ record { tally = r; held = now (held .exit); output = now (output .exit); units = now (units .exit) }
+        ≡ putsAll (record { tally = noTally s; held = now (held .entry); output = now (output .entry); units = now (units .entry) })
+        (laid (now (places .entry)) (now (lengths .entry))) (now (payload .entry)) ⌝ }
+{
+    let mut t = Tally {
+        channels: s,
+        octets: 0,
+        units: 0,
+    };
+    let mut at = 0;
+    let mut j = 0;
+    while j < places.len() {
+        let p = places[j] as usize;
+        let end = at + lengths[j] as usize;
+        t = put(t, held, output, units, p, &payload[at..end]);
+        at = end;
+        j += 1;
+    }
+    t
+}
+
+// Ends the unit that place p holds, where the mark is set, by value.
+fn close(t: Tally, mark: bool, p: usize) -> Tally
+    requires { ⌜ (mark ≡ true → p < 16) × (t .octets < 65536) × (t .units < 65536) ⌝ }
+    ensures { λ r. ⌜ r ≡ closes t mark p ⌝ }
+{
+    if mark {
+        let mut s = t.channels;
+        let mut c = s.at[p];
+        let n = c.held as usize;
+        c.held = 0;
+        s.at[p] = c;
+        return Tally {
+            channels: s,
+            octets: t.octets + n,
+            units: t.units + 1,
+        };
+    }
+    t
+}
+
+// .. and writes it behind the others.
+fn finish(
+    t: Tally,
+    mark: bool,
+    held: &[u8],
+    output: &mut [u8],
+    units: &mut [u16],
+    p: usize,
+) -> Tally
+    requires { ⌜ (length (now held) ≡ 16384) × (mark ≡ true → (p < 16) × (channelAt (t .channels) p .held ≤ 1024)) × (t .octets < 65536) × (t .units < 65536)
+        × (closes t mark p .octets ≤ length (now output)) × (3 * closes t mark p .units ≤ length (now units)) ⌝ }
+    ensures { λ r. ⌜ record { tally = r; held = now (held .entry); output = now (output .exit); units = now (units .exit) }
+        ≡ ends (record { tally = t; held = now (held .entry); output = now (output .entry); units = now (units .entry) }) mark p ⌝ }
+{
+    if mark {
+        let s = t.channels;
+        let c = s.at[p];
+        let from = LONGEST * p;
+        let end = from + c.held as usize;
+        let at = t.octets;
+        octets::write(output, at, &held[from..end]);
+        note(units, 3 * t.units, c.number, at, c.held as usize);
+        return close(t, mark, p);
+    }
+    t
+}
+
+// The place of the last piece, or 16.
+fn last_place(places: &[u16]) -> usize
+    ensures { λ r. ⌜ r ≡ getD (now (places .entry)) (length (now (places .entry)) - 1) 16 ⌝ }
+{
+    let n = places.len();
+    if n == 0 {
+        return 16;
+    }
+    places[n - 1] as usize
+}
+
+// Refusal 7: the mark is set, and the last octet is absent or not on a segmentable channel.
+fn has_wrong_mark(s: Channels, mark: bool, p: usize) -> bool
+    ensures { λ r. ⌜ r ≡ (mark && not (channelAt s p .segmentable)) ⌝ }
+{
+    if mark {
+        if p < 16 {
+            let c = s.at[p];
+            if c.segmentable {
+                return false;
+            }
+        }
+        return true;
+    }
+    false
+}
+
+// The octets of these pieces given back to their places: refusals 7, 8, 3, and then the writes.
+fn deliver(
+    s: Channels,
+    held: &mut [u8],
+    mark: bool,
+    places: &[u16],
+    lengths: &[u16],
+    payload: &[u8],
+    output: &mut [u8],
+    units: &mut [u16],
+) -> Delivered
+    requires { ⌜ Within (now places) × (length (now places) ≡ length (now lengths)) × (length (now places) ≤ 255)
+        × (total (laid (now places) (now lengths)) ≤ length (now payload)) × (length (now payload) ≤ 255)
+        × (length (now held) ≡ 16384) ⌝ }
+    ensures { λ r. ⌜ the.ends (r .finished) (record { channels = r .channels; held = now (held .exit); output = now (output .exit); units = now (units .exit) })
+        ≡ delivered (record { channels = s; held = now (held .entry); output = now (output .entry); units = now (units .entry) })
+        mark (laid (now (places .entry)) (now (lengths .entry))) (now (payload .entry)) ⌝ }
+{
+    let last = last_place(places);
+    if has_wrong_mark(s, mark, last) {
+        return refused(s, 7);
+    }
+    let counted = count_all(s, places, lengths);
+    if counted.fits {
+        let all = counted.tally;
+        let end = close(all, mark, last);
+        if output.len() < end.octets {
+            return refused(s, 3);
+        }
+        if units.len() < 3 * end.units {
+            return refused(s, 3);
+        }
+        let t = pour(s, held, places, lengths, payload, output, units);
+        let r = finish(t, mark, held, output, units, last);
+        let channels = r.channels;
+        let finished = Finished::Units(r.units);
+        return Delivered { finished, channels };
+    }
+    refused(s, 8)
+}
+
+// The octets of a payload sorted by their slots: refusals 6, 5, and those of `deliver`.
+fn sort(
+    s: Channels,
+    held: &mut [u8],
+    table: &[u16; 1455],
+    code: Code,
+    mark: bool,
+    payload: &[u8],
+    output: &mut [u8],
+    units: &mut [u16],
+) -> Delivered
+    requires { ⌜ (length (now payload) ≤ 255) × (code .0 ≤ 15) × (length (now held) ≡ 16384) ⌝ }
+    ensures { λ r. ⌜ the.ends (r .finished) (record { channels = r .channels; held = now (held .exit); output = now (output .exit); units = now (units .exit) })
+        ≡ sorted (record { channels = s; held = now (held .entry); output = now (output .entry); units = now (units .entry) })
+        mark (pieces (entryOf (now (table .entry)) (code .0)) (length (now (payload .entry)))) (now (payload .entry)) ⌝ }
+{
+    let mut places = [0u16; PAYLOAD];
+    let mut lengths = [0u16; PAYLOAD];
+    let laid = table::pieces(table, code, payload.len(), &mut places, &mut lengths);
+    if 0 < laid.left {
+        return refused(s, 6);
+    }
+    let n = laid.count;
+    if find(s, &mut places[..n]) {
+        return deliver(
+            s,
+            held,
+            mark,
+            &places[..n],
+            &lengths[..n],
+            payload,
+            output,
+            units,
+        );
+    }
+    refused(s, 5)
+}
+
+// Gives a payload's octets back to their channels: refusals 2, 4, 6, 5, 7, 8, 3. The finished units stand one after another at the
+// front of output; of each, its channel, start and length stand in units.
+pub fn demultiplex(
+    s: Channels,
+    held: &mut [u8; 16384],
+    table: &[u16; 1455],
+    code: Code,
+    mark: bool,
+    payload: &[u8],
+    output: &mut [u8],
+    units: &mut [u16],
+) -> Delivered
+    ensures { λ r. ⌜ the.ends (r .finished) (record { channels = r .channels; held = now (held .exit); output = now (output .exit); units = now (units .exit) })
+        ≡ demultiplexed (record { channels = s; held = now (held .entry); output = now (output .entry); units = now (units .entry) })
+        (now (table .entry)) (code .0) mark (now (payload .entry)) ⌝ }
+{
+    if PAYLOAD < payload.len() {
+        return refused(s, 2);
+    }
+    if table::is_defined(table, code) {
+        return sort(s, held, table, code, mark, payload, output, units);
+    }
+    refused(s, 4)
+}
