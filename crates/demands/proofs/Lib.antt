@@ -5,3 +5,5 @@ pub mod Vectors
 pub mod First
 pub mod Reached
 pub mod Refuted
+pub mod Demands
+pub mod Unique

@@ -1,0 +1,107 @@
+// What the benchmark times: payloads of 255 octets, each from the same state. No host calls these entries.
+use multiplex::channels;
+use multiplex::channels::ChannelNumber;
+use multiplex::channels::Channels;
+use multiplex::demultiplexer;
+use multiplex::demultiplexer::Finished;
+use multiplex::multiplexer;
+use multiplex::multiplexer::Sent;
+use table::Code;
+ghost use Prim.Native.Nat.{_≤_};
+
+// Channel 1, whole, and channels 2 and 3, segmentable; entry 1 is row 5 of table 2 (000, 6.6):
+// {LCN1,RC4},{{LCN2,RC1},{LCN3,RC2},RC UCF}.
+fn set_up(table: &mut [u16; 1455]) -> Channels {
+    let row = [2u16, 4, 0, 1, 0, 2, 1, 0, 2, 2, 0, 3];
+    table::replace(table, Code(1), &row);
+    let mut s = channels::new();
+    s = channels::open(s, ChannelNumber(1), false).channels;
+    s = channels::open(s, ChannelNumber(2), true).channels;
+    channels::open(s, ChannelNumber(3), true).channels
+}
+
+// Units wait on every channel: 4 octets on channel 1, 1,024 on the others.
+fn fill(s: Channels, waiting: &mut [u8; 16384]) -> Channels {
+    let unit = [0u8; 1024];
+    let mut next = channels::post(s, waiting, ChannelNumber(0), &unit).channels;
+    next = channels::post(next, waiting, ChannelNumber(1), &unit[..4]).channels;
+    next = channels::post(next, waiting, ChannelNumber(2), &unit).channels;
+    channels::post(next, waiting, ChannelNumber(3), &unit).channels
+}
+
+// 1 for a payload that was accepted.
+fn accepts(finished: Finished) -> u32
+    ensures { λ r. ⌜ r ≤ 1 ⌝ }
+{
+    match finished {
+        Finished::Units(_) => 1,
+        Finished::Refused(_) => 0,
+    }
+}
+
+// 1 for a payload that was made.
+fn makes(sent: Sent) -> u32
+    ensures { λ r. ⌜ r ≤ 1 ⌝ }
+{
+    match sent {
+        Sent::Payload { octets: _, mark: _ } => 1,
+        Sent::Refused(_) => 0,
+    }
+}
+
+// Gives the payload to the demultiplexer so many times, and tells how often it was accepted.
+#[no_mangle]
+pub extern "C" fn bench_demux(
+    rounds: u32,
+    code: u32,
+    held: &mut [u8; 16384],
+    payload: &[u8],
+    output: &mut [u8],
+    units: &mut [u16],
+) -> u32
+    ensures { λ r. ⌜ r ≤ rounds ⌝ }
+{
+    let mut table = [0u16; 1455];
+    let s = set_up(&mut table);
+    let mut accepted = 0;
+    let mut done = 0;
+    while done < rounds {
+        let r = demultiplexer::demultiplex(
+            s,
+            held,
+            &table,
+            Code(code),
+            false,
+            payload,
+            output,
+            units,
+        );
+        let finished = r.finished;
+        accepted += accepts(finished);
+        done += 1;
+    }
+    accepted
+}
+
+// Asks the multiplexer for a payload of 255 octets so many times, and tells how often there was one.
+#[no_mangle]
+pub extern "C" fn bench_mux(
+    rounds: u32,
+    code: u32,
+    waiting: &mut [u8; 16384],
+    payload: &mut [u8],
+) -> u32
+    ensures { λ r. ⌜ r ≤ rounds ⌝ }
+{
+    let mut table = [0u16; 1455];
+    let s = fill(set_up(&mut table), waiting);
+    let mut made = 0;
+    let mut done = 0;
+    while done < rounds {
+        let r = multiplexer::multiplex(s, waiting, &table, Code(code), 255, payload);
+        let sent = r.sent;
+        made += makes(sent);
+        done += 1;
+    }
+    made
+}

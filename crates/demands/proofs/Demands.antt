@@ -1,0 +1,13 @@
+-- The three demands.
+--
+--   demands     each of them is met
+--
+-- Assumes nothing.
+use Rattle.multiplex.proofs.Theorems.{demand-met}
+use Rattle.multiplex.proofs.Bounds.{always-sound}
+use Rattle.demands.specs.Demands.{Demands}
+use Rattle.demands.proofs.First.{demand1}
+use Rattle.demands.proofs.Reached.{demand3}
+
+pub demands : Demands
+demands = record { first = demand1; sound = always-sound; second = demand-met; third = demand3 }

@@ -1,0 +1,17 @@
+-- Any two answers that a promise allows are equal: answer, state and every buffer. docs/PROMISES.md says which of these is for which
+-- operation.
+--
+--   equation-once       of a promise that is an equation, `r ≡ definition arguments`
+--
+-- The others are proved where their promises are, and stand here under one roof.
+-- Assumes nothing.
+use mathlib.Core.Path.{_≡_, sym, _∙_}
+pub use Rattle.codeword.proofs.Theorems.{encodedUnique as codeword-encoded, repairedUnique as codeword-repaired}
+pub use Rattle.adaptation.proofs.Theorems.{encodedUnique as al1m-encoded, receivedUnique as al1m-received}
+pub use Rattle.adaptation.proofs.Unique.{length-once, ended-once, passed-once, read-once, received-once}
+pub use Rattle.kyteblossom.proofs.Unique.{encode-once, receive-once}
+pub use Rattle.table.proofs.Theorems.{replacedUnique}
+pub use Rattle.multiplex.proofs.Unique.{after-once, posted-once, demultiplexed-once, multiplexed-once, sending-once, taking-once}
+
+pub equation-once : {A : Type 0} (definition r q : A) → r ≡ definition → q ≡ definition → r ≡ q
+equation-once x r q e f = e ∙ sym f
