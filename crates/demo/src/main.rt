@@ -1,0 +1,33 @@
+// A whole call: units of five channels are coded, multiplexed, damaged on the way by a fixed pattern, demultiplexed, repaired and
+// badged; then a table of what became of them.
+
+mod far; // far.rt: the far end: units judged and compared with what was sent
+mod near; // near.rt: the near end: units made, coded and posted
+mod plan; // plan.rt: the channels, their layers and the table's entries
+mod show; // show.rt: the table
+mod tally; // tally.rt: what was counted
+mod way; // way.rt: payloads, and the damage to them
+
+use multiplex::channels::Channels;
+use tally::Tally;
+use way::Call;
+
+// How many units each channel sends.
+const ROUNDS: usize = 100;
+
+fn main() {
+    let mut waiting = [0u8; 16384];
+    let mut held = [0u8; 16384];
+    let mut table = [0u16; 1455];
+    plan::fill(&mut table);
+    let mut call = way::start();
+    let mut round = 0;
+    while round < ROUNDS {
+        let before = call.near;
+        let near = near::post_all(before, round, &mut waiting);
+        call = way::with_near(call, near);
+        call = way::carry_all(call, round, &waiting, &mut held, &table);
+        round += 1;
+    }
+    show::summary(call);
+}

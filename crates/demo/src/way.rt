@@ -1,0 +1,252 @@
+// The way from the near end to the far end: payloads, and the damage to them.
+use crate::far;
+use crate::plan;
+use crate::tally;
+use crate::tally::Tally;
+use multiplex::channels;
+use multiplex::channels::ChannelNumber;
+use multiplex::channels::Channels;
+use multiplex::demultiplexer;
+use multiplex::demultiplexer::Finished;
+use multiplex::multiplexer;
+use multiplex::multiplexer::Sent;
+use table::Code;
+
+// The octets of a payload, at most.
+const ROOM: usize = 90;
+
+// A call: the channels at both ends; the noise that the next octet meets; how many payloads and octets were carried, and how many
+// octets damaged; and what became of the units.
+pub struct Call {
+    pub near: Channels,
+    pub far: Channels,
+    pub noise: u32,
+    pub payloads: u32,
+    pub octets: u32,
+    pub damaged: u32,
+    pub tally: Tally,
+}
+
+// The channels at either end.
+fn open_all() -> Channels {
+    let mut s = channels::new();
+    let mut channel = 1;
+    while channel < plan::CHANNELS {
+        let a = channels::open(s, ChannelNumber(channel), plan::is_segmentable(channel));
+        s = a.channels;
+        channel += 1;
+    }
+    s
+}
+
+pub fn start() -> Call {
+    Call {
+        near: open_all(),
+        far: open_all(),
+        noise: 1,
+        payloads: 0,
+        octets: 0,
+        damaged: 0,
+        tally: tally::new(),
+    }
+}
+
+pub fn with_near(call: Call, near: Channels) -> Call {
+    let mut next = call;
+    next.near = near;
+    next
+}
+
+// The noise that follows: the multiplier and the modulus of Park and Miller.
+fn follow(noise: u32) -> u32 {
+    ((noise as u64) * 16807 % 2147483647) as u32
+}
+
+// What the noise does to an octet: one in 24 is hit.
+fn hit(noise: u32, octet: u8) -> u8 {
+    if noise % 24 == 0 {
+        return octet ^ ((noise / 24 % 255) as u8 + 1);
+    }
+    octet
+}
+
+// Damages one octet.
+fn damage_one(call: Call, payload: &mut [u8; 255], i: usize) -> Call {
+    let mut next = call;
+    if 255 <= i {
+        return next;
+    }
+    let old = payload[i];
+    let noise = follow(call.noise);
+    let new = hit(noise, old);
+    payload[i] = new;
+    next.noise = noise;
+    next.octets = tally::plus(call.octets, 1);
+    if new != old {
+        next.damaged = tally::plus(call.damaged, 1);
+    }
+    next
+}
+
+// Damages the n octets of a payload.
+fn damage(call: Call, payload: &mut [u8; 255], n: usize) -> Call {
+    let mut next = call;
+    let mut i = 0;
+    while i < n {
+        next = damage_one(next, payload, i);
+        i += 1;
+    }
+    next
+}
+
+fn wide(n: u16) -> usize {
+    n as usize
+}
+
+// The finished unit j: its channel, start and length stand in `units`.
+fn judge_one(call: Call, round: usize, output: &[u8], units: &[u16], j: usize) -> Call {
+    let mut next = call;
+    if units.len() / 3 <= j {
+        return next;
+    }
+    let channel = units[3 * j];
+    let start = wide(units[3 * j + 1]);
+    let length = wide(units[3 * j + 2]);
+    let before = call.far;
+    let v = far::judge(before, channel, round, output, start, length);
+    let after = v.channels;
+    next.far = after;
+    let counted = call.tally;
+    let all = far::count(counted, channel, v);
+    next.tally = all;
+    next
+}
+
+// Every finished unit.
+fn judge_all(call: Call, round: usize, n: usize, output: &[u8; 1280], units: &[u16; 765]) -> Call {
+    let mut next = call;
+    let mut j = 0;
+    while j < n {
+        next = judge_one(next, round, output, units, j);
+        j += 1;
+    }
+    next
+}
+
+// Demultiplexes a payload at the far end.
+fn deliver(
+    call: Call,
+    round: usize,
+    code: u32,
+    mark: bool,
+    payload: &[u8],
+    held: &mut [u8; 16384],
+    table: &[u16; 1455],
+) -> Call {
+    let mut output = [0u8; 1280];
+    let mut units = [0u16; 765];
+    let mut next = call;
+    let before = call.far;
+    let r = demultiplexer::demultiplex(
+        before,
+        held,
+        table,
+        Code(code),
+        mark,
+        payload,
+        &mut output,
+        &mut units,
+    );
+    let after = r.channels;
+    next.far = after;
+    let finished = r.finished;
+    match finished {
+        Finished::Units(n) => judge_all(next, round, n, &output, &units),
+        Finished::Refused(_) => next,
+    }
+}
+
+// The first n octets of a payload.
+fn first(payload: &[u8; 255], n: usize) -> &[u8] {
+    octets::front(payload, n)
+}
+
+// What came of a payload, and whether there was one.
+pub struct Carried {
+    pub any: bool,
+    pub call: Call,
+}
+
+// Carries one payload under the code's entry.
+fn carry(
+    call: Call,
+    round: usize,
+    code: u32,
+    waiting: &[u8; 16384],
+    held: &mut [u8; 16384],
+    table: &[u16; 1455],
+) -> Carried {
+    let mut payload = [0u8; 255];
+    let mut next = call;
+    let before = call.near;
+    let r = multiplexer::multiplex(before, waiting, table, Code(code), ROOM, &mut payload);
+    let after = r.channels;
+    next.near = after;
+    let sent = r.sent;
+    let Sent::Payload { octets, mark } = sent else {
+        return Carried {
+            any: false,
+            call: next,
+        };
+    };
+    next.payloads = tally::plus(next.payloads, 1);
+    next = damage(next, &mut payload, octets);
+    next = deliver(
+        next,
+        round,
+        code,
+        mark,
+        first(&payload, octets),
+        held,
+        table,
+    );
+    Carried {
+        any: true,
+        call: next,
+    }
+}
+
+// Carries payloads under the code's entry until it has none: at most as many as would carry every octet that can wait.
+fn carry_out(
+    call: Call,
+    round: usize,
+    code: u32,
+    waiting: &[u8; 16384],
+    held: &mut [u8; 16384],
+    table: &[u16; 1455],
+) -> Call {
+    let mut next = call;
+    let mut turns: usize = 16384;
+    while 0 < turns {
+        let c = carry(next, round, code, waiting, held, table);
+        next = c.call;
+        turns = if c.any { turns - 1 } else { 0 };
+    }
+    next
+}
+
+// Carries all that waits: under entry 1, then 2, 3, 4 and 0.
+pub fn carry_all(
+    call: Call,
+    round: usize,
+    waiting: &[u8; 16384],
+    held: &mut [u8; 16384],
+    table: &[u16; 1455],
+) -> Call {
+    let mut next = call;
+    next = carry_out(next, round, 1, waiting, held, table);
+    next = carry_out(next, round, 2, waiting, held, table);
+    next = carry_out(next, round, 3, waiting, held, table);
+    next = carry_out(next, round, 4, waiting, held, table);
+    carry_out(next, round, 0, waiting, held, table)
+}
