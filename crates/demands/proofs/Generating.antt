@@ -6,16 +6,14 @@
 --   polynomial-worked   it is
 --
 -- Assumes nothing.
-use mathlib.Core.Path.{_≡_, refl, sym, ap, ap₂, _∙_}
-use mathlib.Core.Bool.{Bool, true, false, cond}
+use mathlib.Core.Path.{_≡_, sym, ap, ap₂, _∙_}
 use mathlib.Core.List.{List, [], _∷_}
 use Prim.Native.Nat.{ℕ, zero, suc, _<_}
 use native.Mathlib.Omega.{arith}
 use lib.Bits.{bitXor}
-use lib.Dec.{eqb}
 use lib.ListN.{length, getD}
 use Rattle.algebra.specs.Series.{_⊞_, _⊡_, none, unit, sh}
-use Rattle.algebra.specs.Power.{pow, rising}
+use Rattle.algebra.specs.Power.{rising}
 use Rattle.algebra.specs.Polynomial.{monomial, polynomial, root, rooted}
 use Rattle.field.specs.Octet.{sum, product}
 use Rattle.field.specs.Octet.Laws.{sum-xor, product-zero, product-one}

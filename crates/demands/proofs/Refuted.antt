@@ -3,18 +3,16 @@
 --   wrong     none of them does
 --
 -- Assumes nothing.
-use mathlib.Core.Path.{_≡_, refl, sym, ap, subst, _∙_}
+use mathlib.Core.Path.{_≡_, sym, ap, subst, _∙_}
 use mathlib.Core.List.{List, [], _∷_}
-use Prim.Native.Nat.{ℕ, _≤_}
+use Prim.Native.Nat.{ℕ}
 use native.Mathlib.Nat.{le-refl}
 use native.Mathlib.Omega.{arith}
 use lib.ListN.{length}
 use Rattle.adaptation.specs.Receiving.{Receives, unitOf}
 use Rattle.adaptation.specs.declared.Badge.{Badge}
-use Rattle.adaptation.specs.declared.Badge.the-variants.{Clean, Corrected, OutOfReach}
-use Rattle.adaptation.specs.declared.al1m.Judgement.{Judgement}
-use Rattle.adaptation.specs.declared.al1m.Received.{Received}
-use Rattle.adaptation.specs.declared.al1m.Received.the-variants.{Unit, Refused}
+use Rattle.adaptation.specs.declared.Badge.the-variants.{Clean, Corrected}
+use Rattle.adaptation.specs.declared.al1m.Received.the-variants.{Unit}
 use Rattle.demands.specs.Small.{ReceivedAs}
 use Rattle.demands.specs.Wrong.{Receiver, Keeps, RefusesAll, FindsNothing, SameUnit, SaysClean, Miscounts, Wrong}
 use Rattle.demands.proofs.Vectors.{c5, w4, w6, small}

@@ -20,7 +20,6 @@ use lib.Dec.{T, eqb, eqb→eq, lit<}
 use lib.ListN.{length, getD, set}
 use Rattle.octets.specs.Every.{every, every-at}
 use Rattle.algebra.specs.Power.{pow}
-use Rattle.field.specs.Octet as field
 use Rattle.field.specs.Octet.Table.{powers, powers-at}
 use Rattle.codeword.specs.Element.{elements, octet, α}
 use Rattle.codeword.specs.Element.Laws.{octet-same, octet-pow, octet-nil}

@@ -6,26 +6,24 @@
 --   lost-as      .. and one that is not
 --
 -- Assumes nothing.
-use mathlib.Core.Path.{_≡_, refl, sym, ap, ap₂, _∙_, fun-ext}
+use mathlib.Core.Path.{_≡_, refl, sym, ap, _∙_, fun-ext}
 use mathlib.Core.Bool.{Bool, true, false, cond, _&&_}
 use mathlib.Core.List.{List, [], _∷_}
 use Prim.Native.Nat.{ℕ, zero, suc, _*_, _-_, _≤_, _<_}
-use native.Mathlib.Nat.{le-refl}
 use native.Mathlib.Omega.{arith}
-use borrow.Author.Tests.{le-leb, le-ltb, leb-true, ltb-true}
-use lib.Dec.{T, leb, ltb, eqb, lit<, ltb→lt}
-use lib.ListN.{length, getD, take, set}
+use borrow.Author.Tests.{le-leb, le-ltb, leb-true}
+use lib.Dec.{T, leb, ltb, lit<, ltb→lt}
+use lib.ListN.{length, take}
 use lib.Seq.{take-append-le}
 use Rattle.octets.specs.Every.{both-left, both-right}
-use Rattle.octets.specs.Written.{written, written-front}
+use Rattle.octets.specs.Written.{written}
 use Rattle.algebra.specs.Polynomial.{polynomial}
 use Rattle.field.specs.Octet.Table.{powers, logs}
 use Rattle.codeword.specs.Element.{elements}
 use Rattle.codeword.specs.Element.Laws.{octet-same}
 use Rattle.codeword.specs.CodeWord as code
-use Rattle.codeword.specs.CodeWord.{Octets, CodeWord, distance, Within}
-use Rattle.codeword.specs.Repair.{reads, Repaired}
-use Rattle.codeword.specs.declared.Reach.{Reach}
+use Rattle.codeword.specs.CodeWord.{Octets, distance, Within}
+use Rattle.codeword.specs.Repair.{reads}
 use Rattle.codeword.specs.declared.Reach.the-variants as reach
 use Rattle.adaptation.specs.Refusal.{told, refusal}
 use Rattle.algebra.specs.Division.{sum, lowered, divided, remainder}
@@ -34,11 +32,9 @@ use Rattle.adaptation.specs.Check as check
 use Rattle.adaptation.specs.Check.{plain, preset, checkBits, checkOf, agrees, none, eight, sixteen}
 use Rattle.adaptation.specs.Width.{widthOf, kindAt}
 use Rattle.adaptation.specs.AL1M.{isSetting, isSendable, sentLength}
-use Rattle.adaptation.specs.Receiving.{isWord, refusals, isBare, badgeOf, isCorrected, unitLength, unitOf, Receives, HandedIs}
+use Rattle.adaptation.specs.Receiving.{isWord, refusals, isBare, badgeOf, isCorrected, unitLength, Receives}
 use Rattle.adaptation.specs.declared.Badge.{Badge}
 use Rattle.adaptation.specs.declared.Badge.the-variants.{Clean, Corrected, OutOfReach, CheckFailed}
-use Rattle.adaptation.specs.declared.al1m.Judgement.{Judgement}
-use Rattle.adaptation.specs.declared.al1m.Received.{Received}
 use Rattle.adaptation.specs.declared.al1m.Received.the-variants as al1m
 use Rattle.adaptation.proofs.Refusals.{refused-not}
 use Rattle.adaptation.proofs.Theorems.{receivedUnique}

@@ -6,23 +6,21 @@
 --   horner-value    it is the value of the word's polynomial
 --
 -- Assumes nothing.
-use mathlib.Core.Path.{_≡_, refl, sym, ap, ap₂, _∙_}
-use mathlib.Core.Bool.{Bool, true, false, cond}
+use mathlib.Core.Path.{_≡_, sym, ap, ap₂, _∙_}
 use mathlib.Core.List.{List, [], _∷_, _++_, append-assoc}
 use Prim.Native.Nat.{ℕ, zero, suc, _+_, _%_, _<_}
 use native.Mathlib.Omega.{arith}
 use lib.Bits.{bitXor}
-use lib.Dec.{eqb}
 use lib.ListN.{getD}
-use Rattle.field.specs.Octet.{sum, product, power}
+use Rattle.field.specs.Octet.{sum, product}
 use Rattle.field.specs.Octet as field
-use Rattle.field.specs.Octet.Laws.{sum-xor, zero-product, product-zero, power-add, power-wrap, product-comm}
+use Rattle.field.specs.Octet.Laws.{sum-xor, zero-product, product-zero, power-add, power-wrap}
 use Rattle.field.specs.Octet.Table.{powers, logs, powers-at, power-logs}
-use Rattle.codeword.specs.Element.{elements, element, octet}
-use Rattle.codeword.specs.Element.Laws.{octet-lt, octet-element, octet-add, octet-mul, octet-nil}
+use Rattle.codeword.specs.Element.{elements, octet}
+use Rattle.codeword.specs.Element.Laws.{octet-lt, octet-element, octet-add, octet-mul}
 use Rattle.codeword.specs.CodeWord.{Octets}
 use Rattle.codeword.specs.Places.{value}
-use Rattle.codeword.proofs.Word.{value-none, value-snoc}
+use Rattle.codeword.proofs.Word.{value-snoc}
 
 abbrev pub added : ℕ → ℕ → ℕ
 added i j = getD powers ((i + j) % 255) 0

@@ -29,7 +29,7 @@ use Rattle.table.specs.Form.{isEntry}
 use Rattle.table.specs.Slots.{Slot, endless, pieces, octetsOf}
 use Rattle.table.specs.Table.{highestCode, entryOf, isDefined, replaced}
 use Rattle.multiplex.specs.declared.channels.Channels.{Channels}
-use Rattle.multiplex.specs.Channels.{places, placeOf, freePlace, isIn, channelAt, isUnit, Post, opened, closed, reset, posted}
+use Rattle.multiplex.specs.Channels.{places, placeOf, freePlace, isIn, channelAt, isUnit, opened, closed, reset, posted}
 use Rattle.multiplex.specs.Pieces.{Piece, placed, allOpen, lastPlace, total}
 use Rattle.multiplex.specs.Demultiplexer as demux
 use Rattle.multiplex.specs.Multiplexer as mux

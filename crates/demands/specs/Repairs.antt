@@ -17,7 +17,7 @@ use Rattle.adaptation.specs.Sending.{Encoded}
 use Rattle.adaptation.specs.Receiving.{Receives, unitOf}
 use Rattle.adaptation.specs.Claims.{isFaulty, Faultless}
 use Rattle.adaptation.specs.declared.Badge.{Badge}
-use Rattle.adaptation.specs.declared.Badge.the-variants.{Corrected, OutOfReach}
+use Rattle.adaptation.specs.declared.Badge.the-variants.{OutOfReach}
 use Rattle.adaptation.specs.declared.Length.the-variants as length
 use Rattle.adaptation.specs.declared.al1m.Judgement.{Judgement}
 use Rattle.adaptation.specs.declared.al1m.Received.{Received}

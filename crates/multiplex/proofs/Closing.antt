@@ -18,7 +18,7 @@ use mathlib.Core.Path.{_≡_, refl, sym, ap, _∙_}
 use mathlib.Core.List.{List, [], _∷_}
 use mathlib.Core.Bool.{Bool, true, false, cond, not, _&&_}
 use Prim.Native.Nat.{ℕ, zero, suc, _+_, _*_, _-_, _≤_, _<_, zero-le}
-use native.Mathlib.Nat.{le-trans, not-suc-le-zero, le-of-suc-le-suc}
+use native.Mathlib.Nat.{le-trans}
 use native.Mathlib.Numerals.{sub-one}
 use native.Mathlib.Omega.{arith}
 use borrow.Author.Tests.{ltb-true, ltb-false}
@@ -36,8 +36,7 @@ use Rattle.multiplex.specs.Pieces.{Piece, laid, lastPlace, total}
 use Rattle.multiplex.specs.Demultiplexer.{Delivery, joined, finished, took, tookAll, closed, counted, hasRoom, fits, nothing, delivery}
 use Rattle.multiplex.specs.Tally.{noTally, counts, tallied, closing, closes, Draft, noted, putsAll, ends, Within}
 use Rattle.multiplex.proofs.Tallying.{counts-ind, counts-held, counts-channels, counts-most, room-held}
-use Rattle.multiplex.proofs.Pouring.{closes-marked, closes-plain}
-use Rattle.multiplex.proofs.Delivering.{tallyOf, shown, Even, Room, counts-took, tallied-took, tookAll-even, tookAll-least, putsAll-shown, closed-counts, closed-even, closed-least, closed-shown}
+use Rattle.multiplex.proofs.Delivering.{tallyOf, shown, Even, Room, counts-took, tallied-took, tookAll-even, putsAll-shown, closed-counts, closed-even, closed-least, closed-shown}
 
 -- ---- the places
 

@@ -8,15 +8,14 @@
 --   gathers-end   past the last place, no piece is left
 --
 -- Assumes nothing.
-use mathlib.Core.Path.{_≡_, refl, sym, ap, subst, _∙_}
-use mathlib.Core.List.{List, [], _∷_, _++_}
-use Prim.Native.Nat.{ℕ, _+_, _*_, _-_, _≤_, _<_, min}
+use mathlib.Core.Path.{_≡_, sym, ap, subst, _∙_}
+use mathlib.Core.List.{List, _∷_, _++_}
+use Prim.Native.Nat.{ℕ, _+_, _-_, _≤_, _<_}
 use native.Mathlib.Nat.{add-sub-cancel-left}
 use native.Mathlib.Omega.{arith}
 use lib.ListN.{length, take, drop, getD, length-drop}
 use lib.Seq.{length-take-le, take-take, getD-take}
 use Rattle.octets.specs.Written.{written, written-length, written-append, written-nothing}
-use Rattle.adaptation.specs.Handed.{longest}
 use Rattle.multiplex.specs.declared.channels.Channels.{Channels}
 use Rattle.multiplex.specs.Channels.{channelAt, waits, waitingFrom, waitingOf}
 use Rattle.multiplex.specs.Pieces.{Piece, laid, total}

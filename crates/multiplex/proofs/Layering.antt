@@ -9,18 +9,16 @@
 --   part-without      .. and one that does not
 --
 -- Assumes nothing.
-use mathlib.Core.Path.{_≡_, refl, sym, ap, _∙_}
+use mathlib.Core.Path.{_≡_, ap, _∙_}
 use mathlib.Core.Bool.{Bool}
 use mathlib.Core.List.{List, []}
 use Prim.Native.Nat.{ℕ, _+_, _-_, _≤_, _<_}
 use native.Mathlib.Nat.{add-sub-cancel-left}
 use borrow.Author.Tests.{lt-ltb, le-ltb, le-leb, lt-leb}
 use lib.ListN.{length, take, drop}
-use Rattle.adaptation.specs.Refusal.{Told, refused, told, Ended, leaving, refusing, ends}
-use Rattle.adaptation.specs.AL2.{sent, received, receivedSays, unitOf, Receipt}
-use Rattle.adaptation.specs.declared.Length.{Length}
+use Rattle.adaptation.specs.Refusal.{Told, Ended, leaving, refusing, ends}
+use Rattle.adaptation.specs.AL2.{sent, received, Receipt}
 use Rattle.adaptation.specs.declared.Length.the-variants.{Octets, Refused}
-use Rattle.adaptation.specs.declared.al2.Received.{Received}
 use Rattle.adaptation.proofs.Refusals.{sent-leaves}
 use Rattle.multiplex.specs.declared.channels.Channels.{Channels}
 use Rattle.multiplex.specs.Channels.{placeOf, channelAt, put}

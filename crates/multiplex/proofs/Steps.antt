@@ -14,7 +14,7 @@
 use mathlib.Core.Path.{_≡_, refl, sym, ap, _∙_}
 use mathlib.Core.Bool.{Bool, true, false}
 use mathlib.Core.List.{List, [], _∷_, _++_, append-assoc, append-nil}
-use Prim.Native.Nat.{ℕ, suc, _+_, _*_, _≤_, _<_}
+use Prim.Native.Nat.{ℕ, _+_, _*_, _≤_, _<_}
 use native.Mathlib.Numerals.{add-one}
 use native.Mathlib.Omega.{arith}
 use lib.ListN.{length, take, drop, getD, set, length-set}
@@ -25,10 +25,10 @@ use Rattle.multiplex.specs.declared.multiplexer.Turn.{Turn}
 use Rattle.multiplex.specs.declared.multiplexer.Turn.the-variants.{Stop, On, Last}
 use Rattle.multiplex.specs.Channels.{placeOf, channelAt}
 use Rattle.multiplex.specs.Pieces.{Piece, laid, total}
-use Rattle.multiplex.specs.Multiplexer.{left, Walk, stopped, sending, ending, walked}
+use Rattle.multiplex.specs.Multiplexer.{left, Walk, stopped, walked}
 use Rattle.multiplex.specs.Walks.{turned, slotted, WalkIs}
 use Rattle.multiplex.proofs.Slotting.{paired-at, paired-end, laid-next, total-append}
-use Rattle.multiplex.proofs.Walking.{turn-on, turn-last, byTurn, walked-closed, walked-open}
+use Rattle.multiplex.proofs.Walking.{turn-on, byTurn, walked-closed, walked-open}
 
 abbrev pub before : List Piece → Walk → Walk
 before ps r = record { pieces = ps ++ r .pieces; mark = r .mark; allOpen = r .allOpen; channels = r .channels }

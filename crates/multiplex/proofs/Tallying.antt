@@ -16,7 +16,7 @@
 -- Assumes nothing.
 use mathlib.Core.Path.{_≡_, refl, sym, ap, _∙_}
 use mathlib.Core.List.{List, [], _∷_}
-use mathlib.Core.Bool.{Bool, true, false, cond, not, _||_, _&&_}
+use mathlib.Core.Bool.{Bool, true, false, cond, not, _||_}
 use Prim.Native.Nat.{ℕ, zero, suc, _+_, _≤_, _<_}
 use native.Mathlib.Nat.{le-refl, le-trans, not-suc-le-zero, le-of-suc-le-suc}
 use native.Mathlib.Numerals.{add-one}
@@ -31,7 +31,7 @@ use Rattle.multiplex.specs.declared.channels.Channels.{Channels}
 use Rattle.multiplex.specs.declared.demultiplexer.Tally.{Tally}
 use Rattle.multiplex.specs.Channels.{channelAt}
 use Rattle.multiplex.specs.Pieces.{Piece, laid, total}
-use Rattle.multiplex.specs.Demultiplexer.{grown, counted, hasRoom, fits}
+use Rattle.multiplex.specs.Demultiplexer.{counted, hasRoom, fits}
 use Rattle.multiplex.specs.Tally.{heldMore, oneUnit, counts, tallied}
 
 module _ (t : Tally) (p n : ℕ) where

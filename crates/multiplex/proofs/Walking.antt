@@ -11,7 +11,7 @@
 -- Assumes nothing.
 use mathlib.Core.Path.{_≡_, refl, sym, subst}
 use mathlib.Core.Bool.{Bool, true, false, cond}
-use mathlib.Core.List.{List, [], _∷_, _++_}
+use mathlib.Core.List.{List, [], _∷_}
 use Prim.Native.Nat.{ℕ, _+_, _≤_, _<_, min}
 use native.Mathlib.Omega.{arith}
 use borrow.Author.Tests.{lt-ltb, le-ltb, eq-eqb, ne-eqb, ltb-true, ltb-false}
@@ -21,7 +21,7 @@ use Rattle.multiplex.specs.declared.channels.Channels.{Channels}
 use Rattle.multiplex.specs.declared.multiplexer.Turn.{Turn}
 use Rattle.multiplex.specs.declared.multiplexer.Turn.the-variants.{Stop, On, Last}
 use Rattle.multiplex.specs.Channels.{placeOf, isIn, channelAt, waits}
-use Rattle.multiplex.specs.Pieces.{Piece, total}
+use Rattle.multiplex.specs.Pieces.{total}
 use Rattle.multiplex.specs.Multiplexer.{isBlocked, goesOn, moved, left, Walk, stopped, sending, ending, visit, walked}
 use Rattle.multiplex.specs.Walks.{turned, Sendable}
 

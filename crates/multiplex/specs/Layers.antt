@@ -10,10 +10,9 @@ use mathlib.Core.Bool.{Bool, cond, not}
 use mathlib.Core.List.{List, [], _∷_}
 use Prim.Native.Nat.{ℕ, _+_, _%_}
 use Rattle.adaptation.specs.Refusal.{Told, refused, told, Ended, leaving, refusing, _when_, checked}
-use Rattle.adaptation.specs.AL2.{sent, received, receivedSays, unitOf, Receipt, handedUp, discarded}
+use Rattle.adaptation.specs.AL2.{sent, received, receivedSays, Receipt, handedUp, discarded}
 use Rattle.adaptation.specs.declared.al2.Number.{Number}
 use Rattle.adaptation.specs.declared.al2.Number.the-variants.{Numbered, Plain}
-use Rattle.adaptation.specs.declared.Length.{Length}
 use Rattle.adaptation.specs.declared.al2.Received.{Received}
 use Rattle.multiplex.specs.declared.channels.Channel.{Channel}
 use Rattle.multiplex.specs.declared.channels.Channels.{Channels}

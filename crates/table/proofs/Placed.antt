@@ -13,7 +13,7 @@ use native.Mathlib.Omega.{arith}
 use native.Mathlib.Decide.{decLe}
 use lib.ListN.{length, getD, take, drop, length-append, length-take, length-drop, take-append-drop, List·getD-append}
 use lib.Seq.{take-take, getD-take, getD-drop, ext-getD}
-use Rattle.octets.specs.Written.{written, written-part, written-length, written-outside}
+use Rattle.octets.specs.Written.{written-part, written-length, written-outside}
 use Rattle.table.specs.Table.{entryOf, placed}
 use Rattle.table.proofs.Entries.{entry-put}
 use Rattle.table.proofs.Prefix.{Alike}

@@ -1,6 +1,6 @@
 -- `bench_entries::bench_demux` ends, and counts no payload twice. Assumes nothing.
 use borrow.Author.Needs.{needs}
-use Prim.Native.Nat.{ℕ, _≤_, _-_}
+use Prim.Native.Nat.{_≤_, _-_}
 use mathlib.Core.Path.{_≡_}
 use lib.ListN.{length}
 use Rattle.bench_entries.proofs.bench_demux.Statement.{statement}

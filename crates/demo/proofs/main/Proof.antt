@@ -1,6 +1,6 @@
 -- `demo::main` is safe and ends: the rounds that are left shrink. Assumes nothing.
 use borrow.Author.Needs.{needs}
-use Prim.Native.Nat.{ℕ, _≤_, _-_}
+use Prim.Native.Nat.{_≤_, _-_}
 use Rattle.demo.proofs.main.Statement.{statement}
 use Rattle.demo.proofs.main.Tie as tie
 

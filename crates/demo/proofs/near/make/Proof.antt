@@ -1,6 +1,6 @@
 -- `demo::near::make` is safe and ends: the octets that are left shrink. Assumes nothing.
 use borrow.Author.Needs.{needs}
-use Prim.Native.Nat.{ℕ, _≤_, _-_}
+use Prim.Native.Nat.{_≤_, _-_}
 use Rattle.demo.proofs.near.make.Statement.{statement}
 use Rattle.demo.proofs.near.make.Tie as tie
 

@@ -1,6 +1,6 @@
 -- `demo::show::rows` is safe and ends: the channels that are left shrink. Assumes nothing.
 use borrow.Author.Needs.{needs}
-use Prim.Native.Nat.{ℕ, _≤_, _-_}
+use Prim.Native.Nat.{_≤_, _-_}
 use Rattle.demo.proofs.show.rows.Statement.{statement}
 use Rattle.demo.proofs.show.rows.Tie as tie
 

@@ -1,6 +1,6 @@
 -- `demo::way::judge_all` is safe and ends: the units that are left shrink. Assumes nothing.
 use borrow.Author.Needs.{needs}
-use Prim.Native.Nat.{ℕ, _≤_, _-_}
+use Prim.Native.Nat.{_≤_, _-_}
 use Rattle.demo.proofs.way.judge_all.Statement.{statement}
 use Rattle.demo.proofs.way.judge_all.Tie as tie
 

@@ -1,6 +1,6 @@
 -- `gateway::answer::put` is safe and ends: the text that is left shrinks. Assumes nothing.
 use borrow.Author.Needs.{needs}
-use Prim.Native.Nat.{ℕ, _≤_, _-_}
+use Prim.Native.Nat.{_≤_, _-_}
 use lib.ListN.{length}
 use Rattle.gateway.proofs.answer.put.Statement.{statement}
 use Rattle.gateway.proofs.answer.put.Tie as tie

@@ -1,6 +1,6 @@
 -- `gateway::input::feed` is safe and ends: the octets that are left shrink. Assumes nothing.
 use borrow.Author.Needs.{needs}
-use Prim.Native.Nat.{ℕ, _≤_, _-_}
+use Prim.Native.Nat.{_≤_, _-_}
 use lib.ListN.{length}
 use Rattle.gateway.proofs.input.feed.Statement.{statement}
 use Rattle.gateway.proofs.input.feed.Tie as tie

@@ -1,6 +1,6 @@
 -- `gateway::payload::deliver` is safe and ends: the units that are left shrink. Assumes nothing.
 use borrow.Author.Needs.{needs}
-use Prim.Native.Nat.{ℕ, _≤_, _-_}
+use Prim.Native.Nat.{_≤_, _-_}
 use Rattle.gateway.proofs.payload.deliver.Statement.{statement}
 use Rattle.gateway.proofs.payload.deliver.Tie as tie
 

@@ -1,6 +1,6 @@
 -- `gateway::words::digits` is safe and ends: the text that is left shrinks. Assumes nothing.
 use borrow.Author.Needs.{needs}
-use Prim.Native.Nat.{ℕ, _-_}
+use Prim.Native.Nat.{_-_}
 use lib.ListN.{length}
 use Rattle.gateway.proofs.words.digits.Statement.{statement}
 use Rattle.gateway.proofs.words.digits.Tie as tie

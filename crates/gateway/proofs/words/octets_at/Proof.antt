@@ -1,6 +1,6 @@
 -- `gateway::words::octets_at` is safe and ends: the octets that are left shrink. Assumes nothing.
 use borrow.Author.Needs.{needs}
-use Prim.Native.Nat.{ℕ, _≤_, _-_}
+use Prim.Native.Nat.{_≤_, _-_}
 use Rattle.gateway.proofs.words.octets_at.Statement.{statement}
 use Rattle.gateway.proofs.words.octets_at.Tie as tie
 

@@ -1,6 +1,6 @@
 -- `gateway::words::split` is safe and ends: the line that is left shrinks. Assumes nothing.
 use borrow.Author.Needs.{needs}
-use Prim.Native.Nat.{ℕ, _≤_, _-_}
+use Prim.Native.Nat.{_≤_, _-_}
 use lib.ListN.{length}
 use Rattle.gateway.proofs.words.split.Statement.{statement}
 use Rattle.gateway.proofs.words.split.Tie as tie

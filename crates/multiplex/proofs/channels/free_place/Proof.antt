@@ -1,7 +1,7 @@
 -- `multiplex::channels::free_place` meets its contract: a search from the front. Assumes nothing.
 use borrow.Author.Needs.{needs}
 use mathlib.Core.Path.{_≡_, sym, _∙_}
-use Prim.Native.Nat.{ℕ, _-_, _≤_, _<_}
+use Prim.Native.Nat.{_-_, _≤_, _<_}
 use native.Mathlib.Omega.{arith}
 use lib.ListN.{length, length-map}
 use Rattle.multiplex.specs.Channels.{freePlace, isFree, vacant}

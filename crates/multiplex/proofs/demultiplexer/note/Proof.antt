@@ -1,7 +1,7 @@
 -- Three stores in a row are one list written. Assumes nothing.
 use borrow.Author.Needs.{needs}
 use native.Mathlib.Numerals.{add-one, add-two}
-use lib.ListN.{length, length-set}
+use lib.ListN.{length-set}
 use lib.Seq.{sets-eq}
 use denote.Ref.{now}
 use Rattle.multiplex.specs.Tally.{entry}

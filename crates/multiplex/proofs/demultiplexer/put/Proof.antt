@@ -4,7 +4,6 @@ use mathlib.Core.Path.{sym}
 use native.Mathlib.Omega.{arith}
 use lib.ListN.{length}
 use denote.Ref.{now}
-use Rattle.multiplex.specs.Tally.{counts}
 use Rattle.multiplex.proofs.Tallying.{counts-unit, room-held}
 use Rattle.multiplex.proofs.Pouring.{puts-held, puts-unit}
 use Rattle.multiplex.proofs.demultiplexer.put.Statement.{statement}

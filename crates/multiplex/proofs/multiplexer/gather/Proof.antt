@@ -1,11 +1,11 @@
 -- Each piece's octets are written behind those before it. Assumes nothing.
 use borrow.Author.Needs.{needs}
-use mathlib.Core.Path.{_≡_, refl, sym, _∙_}
+use mathlib.Core.Path.{refl}
 use Prim.Native.Nat.{_+_, _-_, _≤_, _<_}
 use native.Mathlib.Omega.{arith}
 use denote.Ref.{now}
 use mathlib.Core.List.{List, _∷_}
-use lib.ListN.{length, take, drop, getD, length-take}
+use lib.ListN.{length, take, drop, length-take}
 use Rattle.multiplex.specs.Channels.{channelAt, waits}
 use Rattle.multiplex.specs.Pieces.{Piece, laid}
 use Rattle.multiplex.proofs.Gathering.{Gathering, pieceAt, gathers-at, first-moves, gathers-next, gathers-end}

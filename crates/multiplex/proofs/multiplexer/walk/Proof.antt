@@ -1,6 +1,6 @@
 -- The walk goes on while pieces are sent; each stands in the lists where its slot stood. Assumes nothing.
 use borrow.Author.Needs.{needs}
-use mathlib.Core.Path.{_≡_, sym, _∙_}
+use mathlib.Core.Path.{sym, _∙_}
 use Prim.Native.Nat.{_-_, _≤_}
 use native.Mathlib.Omega.{arith}
 use Rattle.multiplex.proofs.Walking.{turn-on, turn-last}

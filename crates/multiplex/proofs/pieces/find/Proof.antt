@@ -1,15 +1,13 @@
 -- After j turns the first j numbers are places, and all depends on those behind. Assumes nothing.
 use borrow.Author.Needs.{needs}
-use borrow.Author.Tests.{lt-ltb, le-ltb}
 use mathlib.Core.Path.{_≡_, refl, sym, ap, _∙_}
 use mathlib.Core.Logic.{⊎-elim}
 use mathlib.Core.List.{map, _++_, append-nil}
 use mathlib.Core.Bool.{Bool, _&&_}
-use Prim.Native.Nat.{ℕ, _+_, _-_, _≤_, _<_}
+use Prim.Native.Nat.{_+_, _-_, _≤_}
 use native.Mathlib.Omega.{arith}
 use lib.ListN.{length, getD, take, drop, length-set, length-map, drop-of-length-le}
 use lib.Seq.{take-all}
-use denote.Ref.{now}
 use Rattle.multiplex.specs.Channels.{placeOf}
 use Rattle.multiplex.specs.Pieces.{allIn}
 use Rattle.multiplex.proofs.Placing.{place-most, in-met, in-missed, in-end, mapped-at, and-false, and-true}
