@@ -11,7 +11,7 @@ use mathlib.Core.Bool.{Bool, true, false, cond, not, _&&_}
 use mathlib.Core.List.{List, [], _∷_}
 use Prim.Native.Nat.{ℕ, zero, suc, _+_, _*_, _-_, _≤_, _<_}
 use native.Mathlib.Omega.{arith}
-use borrow.Author.Tests.{ltb-true, ltb-false, leb-true, leb-false}
+use borrow.Author.Tests.{ltb-true, ltb-false, leb-true, leb-false, not-false}
 use lib.Dec.{leb, ltb, eqb}
 use lib.ListN.{length, getD, set, take, replicate}
 use Rattle.octets.specs.Tests.{both-true}
@@ -60,10 +60,6 @@ each-set P d (x ∷ l) (suc p) c h pc (suc i) = each-set P d l p c (λ j. h (suc
 
 pub waits-put : (s : Channels) (p : ℕ) (c : Channel) → Waits s → c .waiting ≤ longest → Waits (put s p c)
 waits-put s p c h k = each-set (λ (d : Channel). d .waiting ≤ longest) vacant (s .at) p c h k
-
-not-false : (b : Bool) → not b ≡ false → b ≡ true
-not-false true q = refl
-not-false false q = absurd (let z : _≡_ {A = ℕ} 0 1 = cc in omega arith)
 
 entry-length : (e : List ℕ) → isEntry e ≡ true → length e ≤ longestEntry
 unfolding isEntry

@@ -13,6 +13,7 @@ pub mod Running
 pub mod Failing
 pub mod Keeping
 pub mod Walking
+pub mod Laying
 pub mod Slotting
 pub mod Steps
 pub mod Gathering

@@ -1,6 +1,6 @@
 -- Channel numbers replaced by their places, one at a time.
 --
---   first-most, place-most   a search ends no later than the list; so a place is at most 16
+--   place-most               a place is at most 16
 --   in-met, in-missed        `allIn` behind place j, where the number there is open, and where it is not
 --   in-end                   .. and behind the last
 --   and-false, and-true      a test and one that is decided
@@ -10,8 +10,8 @@
 -- Assumes nothing.
 use mathlib.Core.Path.{_≡_, refl, _∙_}
 use mathlib.Core.List.{List, [], _∷_, _++_, map}
-use mathlib.Core.Bool.{Bool, true, false, cond, _&&_}
-use Prim.Native.Nat.{ℕ, zero, suc, _+_, _≤_, _<_, zero-le}
+use mathlib.Core.Bool.{Bool, true, false, _&&_}
+use Prim.Native.Nat.{ℕ, zero, suc, _+_, _≤_, _<_}
 use native.Mathlib.Nat.{not-suc-le-zero, le-of-suc-le-suc}
 use native.Mathlib.Numerals.{add-one}
 use native.Mathlib.Omega.{arith}
@@ -20,18 +20,9 @@ use lib.ListN.{length, getD, set, take, drop, drop-of-length-le}
 use lib.Seq.{drop-cons, take-suc-set, drop-set-lt, append-snoc}
 use Rattle.octets.specs.Tests.{both-true}
 use Rattle.multiplex.specs.declared.channels.Channels.{Channels}
-use Rattle.multiplex.specs.Search.{first}
 use Rattle.multiplex.specs.Channels.{places, placeOf, isIn, isChannel}
 use Rattle.multiplex.specs.Pieces.{allIn}
-
-pub first-most : {A : Type 0} (f : A → Bool) (l : List A) → first f l ≤ length l
-unfolding first
-first-most f [] = zero-le
-first-most f (a ∷ l) = by (f a) (first-most f l)
-  where
-    by : (b : Bool) → first f l ≤ length l → cond b zero (suc (first f l)) ≤ suc (length l)
-    by true h = zero-le
-    by false h = omega arith
+use Rattle.multiplex.proofs.Search.{first-most}
 
 pub place-most : (s : Channels) (n : ℕ) → length (s .at) ≡ 16 → placeOf s n ≤ 16
 unfolding placeOf

@@ -4,11 +4,12 @@
 --   found        the element at place i passes
 --   passed       it does not
 --   ended        there is none behind place i
+--   first-most   the search ends no later than the list
 --
 -- Assumes nothing.
 use mathlib.Core.Path.{_≡_, refl, ap, _∙_}
 use mathlib.Core.List.{List, [], _∷_}
-use mathlib.Core.Bool.{Bool, true, false}
+use mathlib.Core.Bool.{Bool, true, false, cond}
 use Prim.Native.Nat.{ℕ, suc, _+_, _≤_, _<_}
 use native.Mathlib.Numerals.{add-one}
 use native.Mathlib.Omega.{arith}
@@ -41,3 +42,12 @@ module _ {A : Type 0} (p : A → Bool) (l : List A) (i : ℕ) (d : A) (past : Pa
 
   pub ended : length l ≤ i → i ≡ first p l
   ended h = omega (arith, ap (first p) (drop-of-length-le l h) ∙ none p)
+
+pub first-most : {A : Type 0} (f : A → Bool) (l : List A) → first f l ≤ length l
+unfolding first
+first-most f [] = omega arith
+first-most f (a ∷ l) = by (f a) (first-most f l)
+  where
+    by : (b : Bool) → first f l ≤ length l → cond b 0 (suc (first f l)) ≤ suc (length l)
+    by true h = omega arith
+    by false h = omega arith

@@ -3,7 +3,6 @@
 --
 --   Seat, seat c, seats s   these three, of one channel, and of all
 --   first-map          the first place at which a test of what g gives holds
---   first-most         it is at most the length
 --   first-found        the element there passes
 --   first-set          an element that answers the test alike changes nothing
 --   first-put          where none passed, one that passes is found where it was put
@@ -52,15 +51,6 @@ pub first-map : {A B : Type 0} (f : B → Bool) (g : A → B) (l : List A) → f
 unfolding first
 first-map f g [] = refl
 first-map f g (a ∷ l) = ap (λ (k : ℕ). cond (f (g a)) 0 (suc k)) (first-map f g l)
-
-pub first-most : {A : Type 0} (f : A → Bool) (l : List A) → first f l ≤ length l
-unfolding first
-first-most f [] = omega arith
-first-most f (a ∷ l) = by (f a) (first-most f l)
-  where
-    by : (b : Bool) → first f l ≤ length l → cond b 0 (suc (first f l)) ≤ suc (length l)
-    by true h = omega arith
-    by false h = omega arith
 
 pub first-found : {A : Type 0} (f : A → Bool) (d : A) (l : List A) → first f l < length l → f (getD l (first f l) d) ≡ true
 unfolding first

@@ -13,7 +13,8 @@ use Rattle.table.specs.Table.{entryOf}
 use Rattle.multiplex.specs.Channels.{placeOf}
 use Rattle.multiplex.specs.Pieces.{Piece, allIn, allOpen}
 use Rattle.multiplex.specs.Demultiplexer.{Lent, delivered}
-use Rattle.multiplex.proofs.Sorting.{channelsOf, all-open, Slotted, lays-slotted, Found, slotted-found, sorted-long, sorted-closed, sorted-all}
+use Rattle.multiplex.proofs.Laying.{numbersOf, Slotted, lays-slotted}
+use Rattle.multiplex.proofs.Sorting.{all-open, Found, slotted-found, sorted-long, sorted-closed, sorted-all}
 use Rattle.multiplex.proofs.demultiplexer.sort.Statement.{statement}
 use Rattle.multiplex.proofs.demultiplexer.sort.Tie as tie
 
@@ -56,12 +57,12 @@ module _ (c : tie.After-find) where
   abbrev p : tie.After-pieces
   p = c .before .before .before .before
 
-  found-are : c .find .last .1 .0 ≡ map (placeOf (from p .args .s)) (channelsOf (l p))
+  found-are : c .find .last .1 .0 ≡ map (placeOf (from p .args .s)) (numbersOf (l p))
   found-are = c .find .ensures .1 ∙ ap (map (placeOf (from p .args .s))) (slotted p .channels)
 
   found-length : length (c .find .last .1 .0) ≡ n p
   found-length =
-      ap length found-are ∙ length-map (channelsOf (l p)) (placeOf (from p .args .s)) ∙ length-map (l p) (λ (x : Slot). x .channel)
+      ap length found-are ∙ length-map (numbersOf (l p)) (placeOf (from p .args .s)) ∙ length-map (l p) (λ (x : Slot). x .channel)
       ∙ sym (slotted p .count)
 
   abbrev places : List ℕ
