@@ -70,7 +70,7 @@ held-took r p x h room e = by (channelAt (r .channels) p .segmentable) refl
     by : (b : Bool) → channelAt (r .channels) p .segmentable ≡ b
         → length (cond b (joined r p x) (finished r (channelAt (r .channels) p .number) x) .held) ≡ 16384
     by true g =
-        written-length (r .held) (longest * p + channelAt (r .channels) p .held) x (omega (arith, room-held (r .channels) p (length x) room g)) ∙ e
+        written-length (r .held) (longest * p + channelAt (r .channels) p .held) x (omega (arith, room-held (channelAt (r .channels) p) (length x) room g)) ∙ e
     by false g = e
 
 pub held-tookAll : (r : Delivery) (l : List Piece) (xs : List ℕ) → fits (r .channels) l ≡ true → Placed l → total l ≤ length xs
@@ -122,7 +122,7 @@ module _ (t : Tally) (p n : ℕ) where
   unfolding fits
   counts-room f h g =
       rw (counts-held t p n g, getD-set-same (t .channels .at) p (holding (channelAt (t .channels) p) (channelAt (t .channels) p .held + n)) vacant h)
-      (room-held (t .channels) p n (both-true (hasRoom (t .channels) p n) _ f .0) g)
+      (room-held (channelAt (t .channels) p) n (both-true (hasRoom (t .channels) p n) _ f .0) g)
 
 fits-behind : (t : Tally) (q : Piece) (l : List Piece) → fits (t .channels) (q ∷ l) ≡ true → fits (counts t (q .place) (q .octets) .channels) l ≡ true
 unfolding fits

@@ -5,22 +5,26 @@
 --   in-end                   .. and behind the last
 --   and-false, and-true      a test and one that is decided
 --   mapped-at                what is mapped to place j and not behind it, with place j mapped too
+--   sought, sought-place     a search by number finds a channel's place
 --   in-placed                where all are open, each place is below 16
 --
 -- Assumes nothing.
-use mathlib.Core.Path.{_≡_, refl, _∙_}
+use mathlib.Core.Path.{_≡_, refl, ap₂, _∙_}
 use mathlib.Core.List.{List, [], _∷_, _++_, map}
-use mathlib.Core.Bool.{Bool, true, false, _&&_}
+use mathlib.Core.Bool.{Bool, true, false, cond, _&&_}
 use Prim.Native.Nat.{ℕ, zero, suc, _+_, _≤_, _<_}
 use native.Mathlib.Nat.{not-suc-le-zero, le-of-suc-le-suc}
 use native.Mathlib.Numerals.{add-one}
 use native.Mathlib.Omega.{arith}
-use borrow.Author.Tests.{ltb-true, lt-ltb, le-ltb}
+use borrow.Author.Tests.{ltb-true, lt-ltb, le-ltb, ne-eqb}
+use lib.Dec.{eqb}
 use lib.ListN.{length, getD, set, take, drop, drop-of-length-le}
 use lib.Seq.{drop-cons, take-suc-set, drop-set-lt, append-snoc}
 use Rattle.octets.specs.Tests.{both-true}
+use Rattle.multiplex.specs.declared.channels.Channel.{Channel}
 use Rattle.multiplex.specs.declared.channels.Channels.{Channels}
-use Rattle.multiplex.specs.Channels.{places, placeOf, isIn, isChannel}
+use Rattle.multiplex.specs.Search.{first}
+use Rattle.multiplex.specs.Channels.{places, placeOf, isIn, isChannel, numberOf}
 use Rattle.multiplex.specs.Pieces.{allIn}
 use Rattle.multiplex.proofs.Search.{first-most}
 
@@ -51,10 +55,23 @@ module _ (s : Channels) (l : List ℕ) (j : ℕ) where
   unfolding allIn
   in-end h = rw (drop-of-length-le l h)
 
-pub mapped-at : (f : ℕ → ℕ) (l : List ℕ) (j : ℕ) → j < length l
-    → take j l ++ map f (drop j l) ≡ take (j + 1) (set l j (f (getD l j 0))) ++ map f (drop (j + 1) (set l j (f (getD l j 0))))
-mapped-at f l j h =
-    rw (add-one, drop-cons l j 0, take-suc-set l j (f (getD l j 0)) h, drop-set-lt (suc j) l j (f (getD l j 0)) (omega arith), append-snoc)
+pub mapped-at : {A : Type 0} (f : A → ℕ) (l : List A) (d : A) (r : List ℕ) (j : ℕ) → j < length l → j < length r
+    → take j r ++ map f (drop j l) ≡ take (j + 1) (set r j (f (getD l j d))) ++ map f (drop (j + 1) l)
+mapped-at f l d r j h k = rw (add-one, drop-cons l j d, take-suc-set r j (f (getD l j d)) k, append-snoc)
+
+-- a search by number, in a list of numbers
+pub sought : (n : ℕ) → n < 65536 → (l : List Channel) → first (λ m. eqb m n) (map numberOf l) ≡ first (isChannel n) l
+unfolding first
+sought n h [] = refl
+sought n h (c ∷ l) = ap₂ (λ (b : Bool) (k : ℕ). cond b 0 (suc k)) (by (c .«open»)) (sought n h l)
+  where
+    by : (b : Bool) → eqb (cond b (c .number) 65536) n ≡ cond b (eqb (c .number) n) false
+    by true = refl
+    by false = ne-eqb 65536 n (λ (z : 65536 ≡ n). omega (arith, h))
+
+pub sought-place : (s : Channels) (n : ℕ) → n < 65536 → first (λ m. eqb m n) (map numberOf (s .at)) ≡ placeOf s n
+unfolding placeOf
+sought-place s n h = sought n h (s .at)
 
 pub in-placed : (s : Channels) (l : List ℕ) → allIn s l ≡ true → (j : ℕ) → j < length l → getD (map (placeOf s) l) j 0 < places
 unfolding allIn

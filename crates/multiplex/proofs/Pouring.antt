@@ -1,6 +1,7 @@
 -- The writes: pieces poured one at a time.
 --
 --   puts-held, puts-unit       one piece written on a segmentable channel, and on another
+--   puts-parts                 .. by the channel that it comes to
 --   puts-tally                 the tally counts it
 --   closes-marked, closes-plain   the tally where the mark is set, and where it is not
 --   closes-least, closes-most  .. has no fewer octets and units, and at most one unit more
@@ -18,11 +19,12 @@ use native.Mathlib.Omega.{arith}
 use lib.ListN.{length, getD, take, drop, length-drop}
 use lib.Seq.{length-take-le, drop-drop}
 use Rattle.octets.specs.Written.{written}
+use Rattle.adaptation.specs.Handed.{longest}
 use Rattle.multiplex.specs.declared.channels.Channel.{Channel}
 use Rattle.multiplex.specs.declared.demultiplexer.Tally.{Tally}
 use Rattle.multiplex.specs.Channels.{channelAt, heldOf}
 use Rattle.multiplex.specs.Pieces.{Piece, laid}
-use Rattle.multiplex.specs.Tally.{counts, closing, closes, Draft, entry, gained, noted, puts, putsAll, ends}
+use Rattle.multiplex.specs.Tally.{counts, closing, closes, Draft, entry, gained, noted, heldWith, outputWith, unitsWith, puts, putsAll, ends}
 use Rattle.multiplex.proofs.Tallying.{laid-at, laid-end}
 
 either : (b : Bool) (u v : Draft) (t : Tally) → u .tally ≡ t → v .tally ≡ t → cond b u v .tally ≡ t
@@ -40,6 +42,27 @@ module _ (w : Draft) (p : ℕ) (x : List ℕ) where
   pub puts-unit : channelAt (w .tally .channels) p .segmentable ≡ false → puts w p x ≡ noted w after (channelAt (w .tally .channels) p .number) x
   unfolding puts
   puts-unit e = rw e
+
+  abbrev on : Channel
+  on = channelAt (w .tally .channels) p
+
+  pub puts-parts : record {
+    tally = after;
+    held = heldWith on p (w .held) x;
+    output = outputWith on (w .tally .octets) (w .output) x;
+    units = unitsWith on (w .tally .octets) (w .tally .units) (w .units) x;
+  } ≡ puts w p x
+  unfolding puts
+  puts-parts = by (on .segmentable)
+    where
+      by : (b : Bool) → record {
+        tally = after;
+        held = cond b (written (w .held) (longest * p + on .held) x) (w .held);
+        output = cond b (w .output) (written (w .output) (w .tally .octets) x);
+        units = cond b (w .units) (written (w .units) (3 * w .tally .units) (entry (on .number) (w .tally .octets) (length x)));
+      } ≡ cond b (gained w after p x) (noted w after (on .number) x)
+      by true = refl
+      by false = refl
 
   pub puts-tally : puts w p x .tally ≡ after
   unfolding puts

@@ -1,7 +1,9 @@
 -- The dry run: pieces counted one at a time.
 --
+--   at-once-most               no more are finished at once than come
 --   counts-ind                 what holds of a tally with more held, and with one more unit, holds of `counts`
 --   counts-held, counts-unit   `counts` on a segmentable channel, and on another
+--   counts-parts               `counts` by what becomes of the channel, and of the numbers
 --   counts-channels            its channels are those of refusal 8's definition
 --   counts-least, counts-most  finished octets and units never fall, and rise by no more than came
 --   room-held                  what has room on a segmentable channel stays within 1,024
@@ -24,15 +26,23 @@ use native.Mathlib.Omega.{arith}
 use borrow.Author.Tests.{leb-true}
 use lib.Dec.{leb}
 use lib.ListN.{length, getD, drop, drop-of-length-le}
-use lib.Seq.{drop-cons}
+use lib.Seq.{drop-cons, set-getD}
 use Rattle.octets.specs.Tests.{both-true}
 use Rattle.adaptation.specs.Handed.{longest}
+use Rattle.multiplex.specs.declared.channels.Channel.{Channel}
 use Rattle.multiplex.specs.declared.channels.Channels.{Channels}
 use Rattle.multiplex.specs.declared.demultiplexer.Tally.{Tally}
-use Rattle.multiplex.specs.Channels.{channelAt}
+use Rattle.multiplex.specs.Channels.{vacant, channelAt, put}
 use Rattle.multiplex.specs.Pieces.{Piece, laid, total}
-use Rattle.multiplex.specs.Demultiplexer.{counted, hasRoom, fits}
-use Rattle.multiplex.specs.Tally.{heldMore, oneUnit, counts, tallied}
+use Rattle.multiplex.specs.Demultiplexer.{counted, roomIn, hasRoom, fits}
+use Rattle.multiplex.specs.Tally.{heldMore, oneUnit, counts, joins, atOnce, tallied}
+
+pub at-once-most : (c : Channel) (k : ℕ) → atOnce c k ≤ k
+at-once-most c k = by (c .segmentable)
+  where
+    by : (b : Bool) → cond b 0 k ≤ k
+    by true = omega arith
+    by false = le-refl k
 
 module _ (t : Tally) (p n : ℕ) where
   pub counts-ind : (P : Tally → Type 0)
@@ -53,6 +63,27 @@ module _ (t : Tally) (p n : ℕ) where
   unfolding counts
   counts-unit e = rw e
 
+  pub counts-parts : record {
+    channels = put (t .channels) p (joins (channelAt (t .channels) p) n);
+    octets = t .octets + atOnce (channelAt (t .channels) p) n;
+    units = t .units + atOnce (channelAt (t .channels) p) 1;
+  } ≡ counts t p n
+  counts-parts =
+      counts-ind (λ r. parted ≡ r)
+      (λ e. alike _ _ _ _ _ _ (rw e) (rw e (omega arith)) (rw e (omega arith)))
+      (λ e. alike _ _ _ _ _ _ (rw (e, set-getD (t .channels .at) p vacant)) (rw e (omega arith)) (rw e))
+    where
+      alike : (s r : Channels) (a b c d : ℕ) → s ≡ r → a ≡ b → c ≡ d
+          → _≡_ {A = Tally} (record { channels = s; octets = a; units = c }) (record { channels = r; octets = b; units = d })
+      alike s r a b c d e f g = rw (e, f, g)
+
+      parted : Tally
+      parted = record {
+        channels = put (t .channels) p (joins (channelAt (t .channels) p) n);
+        octets = t .octets + atOnce (channelAt (t .channels) p) n;
+        units = t .units + atOnce (channelAt (t .channels) p) 1;
+      }
+
   pub counts-channels : counts t p n .channels ≡ counted (t .channels) p n
   counts-channels = counts-ind (λ r. r .channels ≡ counted (t .channels) p n) (λ e. rw e) (λ e. rw e)
 
@@ -62,8 +93,8 @@ module _ (t : Tally) (p n : ℕ) where
   pub counts-most : (counts t p n .octets ≤ t .octets + n) × (counts t p n .units ≤ t .units + 1)
   counts-most = counts-ind (λ r. (r .octets ≤ t .octets + n) × (r .units ≤ t .units + 1)) (λ e. (omega arith, omega arith)) (λ e. (le-refl _, le-refl _))
 
-pub room-held : (s : Channels) (p n : ℕ) → hasRoom s p n ≡ true → channelAt s p .segmentable ≡ true → channelAt s p .held + n ≤ longest
-room-held s p n h g = leb-true _ _ (sym (ap (λ (b : Bool). not b || leb (channelAt s p .held + n) longest) g) ∙ h)
+pub room-held : (c : Channel) (n : ℕ) → roomIn c n ≡ true → c .segmentable ≡ true → c .held + n ≤ longest
+room-held c n h g = leb-true _ _ (sym (ap (λ (b : Bool). not b || leb (c .held + n) longest) g) ∙ h)
 
 module _ (ps ls : List ℕ) (j : ℕ) where
   pub laid-at : j < length ps → j < length ls

@@ -5,6 +5,7 @@
 --   fresh n g         channel n just opened, segmentable or not
 --   start             the channels at first: channel 0 is open and segmentable
 --   placeOf s n       the place of the open channel n, or 16
+--   numberOf c        c's number for a search; where c is not open, one that no channel has
 --   isIn s n          channel n is open
 --   freePlace s       the first free place, or 16
 --   channelAt s p     the channel at place p
@@ -51,6 +52,9 @@ isFree c = not (c .«open»)
 
 unfoldable pub placeOf : Channels → ℕ → ℕ
 placeOf s n = first (isChannel n) (s .at)
+
+abbrev pub numberOf : Channel → ℕ
+numberOf c = cond (c .«open») (c .number) 65536
 
 unfoldable pub freePlace : Channels → ℕ
 freePlace s = first isFree (s .at)

@@ -8,6 +8,7 @@
 --   tookAll r l xs     .. with the octets xs taken, piece by piece
 --   closed r p         .. with what place p holds ended as a unit
 --   grown s p n        the channels after n octets came to place p
+--   roomIn c n         n more octets would not take what c holds past 1,024
 --   fits s l           no held unit passes 1,024 octets on the way
 --   Lent               what a call is lent to write to: the channels, the octets held, the output and the list of units
 --   delivery           what an accepted payload leads to
@@ -26,6 +27,7 @@ use Rattle.adaptation.specs.Refusal.{Ended, leaving, refusing, _when_, checked}
 use Rattle.adaptation.specs.Handed.{longest}
 use Rattle.table.specs.Slots.{Slot, endless, pieces, octetsOf}
 use Rattle.table.specs.Table.{entryOf, isDefined}
+use Rattle.multiplex.specs.declared.channels.Channel.{Channel}
 use Rattle.multiplex.specs.declared.channels.Channels.{Channels}
 use Rattle.multiplex.specs.declared.demultiplexer.Finished.{Finished}
 use Rattle.multiplex.specs.declared.demultiplexer.Finished.the-variants.{Units, Refused}
@@ -84,8 +86,11 @@ closed r p = emptied (finished r (channelAt (r .channels) p .number) (heldOf (r 
 abbrev pub counted : Channels → ℕ → ℕ → Channels
 counted s p n = cond (channelAt s p .segmentable) (grown s p n) s
 
+abbrev pub roomIn : Channel → ℕ → Bool
+roomIn c n = not (c .segmentable) || leb (c .held + n) longest
+
 abbrev pub hasRoom : Channels → ℕ → ℕ → Bool
-hasRoom s p n = not (channelAt s p .segmentable) || leb (channelAt s p .held + n) longest
+hasRoom s p n = roomIn (channelAt s p) n
 
 unfoldable pub fits : Channels → List Piece → Bool
 fits s [] = true

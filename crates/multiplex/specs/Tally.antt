@@ -3,11 +3,14 @@
 --   noTally s          nothing has come yet
 --   counts t p n       the tally t with one more piece: n octets came to place p
 --   heldMore, oneUnit  .. on a segmentable channel, and on another, where it is a unit
+--   joins c n          the channel c after n octets came to it
+--   atOnce c k         of k that come to c, how many are finished at once
 --   tallied t l        .. with the pieces l
 --   closes t mark p    .. with what place p holds ended as a unit, where the mark is set
 --   Draft              a tally, the octets held, the output and the list of units, as far as they are written
 --   entry n a b        what is noted of a unit: its channel, start and length
 --   noted, gained      .. with one more finished unit, and with octets joined to what is held
+--   heldWith, outputWith, unitsWith   what is held, the output and the list of units with the octets x of one piece written
 --   puts w p x         the draft w with the octets x of one piece written to where they belong
 --   putsAll w l xs     .. with the octets xs, piece by piece
 --   ends w mark p      .. with what place p holds ended as a unit, where the mark is set
@@ -20,6 +23,7 @@ use Prim.Native.Nat.{ℕ, _+_, _*_, _<_}
 use lib.ListN.{length, getD, take, drop}
 use Rattle.octets.specs.Written.{written}
 use Rattle.adaptation.specs.Handed.{longest}
+use Rattle.multiplex.specs.declared.channels.Channel.{Channel}
 use Rattle.multiplex.specs.declared.channels.Channels.{Channels}
 use Rattle.multiplex.specs.declared.demultiplexer.Tally.{Tally}
 use Rattle.multiplex.specs.Channels.{places, channelAt, put, holding, heldOf}
@@ -37,6 +41,13 @@ oneUnit t n = record { channels = t .channels; octets = t .octets + n; units = t
 
 unfoldable pub counts : Tally → (p n : ℕ) → Tally
 counts t p n = cond (channelAt (t .channels) p .segmentable) (heldMore t p n) (oneUnit t n)
+
+-- .. by the channel alone
+abbrev pub joins : Channel → ℕ → Channel
+joins c n = cond (c .segmentable) (holding c (c .held + n)) c
+
+abbrev pub atOnce : Channel → ℕ → ℕ
+atOnce c k = cond (c .segmentable) 0 k
 
 unfoldable pub tallied : Tally → List Piece → Tally
 tallied t [] = t
@@ -80,6 +91,16 @@ gained w t p x = record {
   output = w .output;
   units = w .units;
 }
+
+-- .. by the channel alone
+abbrev pub heldWith : Channel → (p : ℕ) → (held x : List ℕ) → List ℕ
+heldWith c p held x = cond (c .segmentable) (written held (longest * p + c .held) x) held
+
+abbrev pub outputWith : Channel → (octets : ℕ) → (output x : List ℕ) → List ℕ
+outputWith c octets output x = cond (c .segmentable) output (written output octets x)
+
+abbrev pub unitsWith : Channel → (octets count : ℕ) → (units x : List ℕ) → List ℕ
+unitsWith c octets count units x = cond (c .segmentable) units (written units (3 * count) (entry (c .number) octets (length x)))
 
 unfoldable pub puts : Draft → (p : ℕ) → List ℕ → Draft
 puts w p x =

@@ -1,10 +1,11 @@
 // The channels: small state by value, and beside it, lent, the octets that are held and those that wait.
+use crate::places::place_of;
 use adaptation::LONGEST;
 use table::Outcome;
 ghost use mathlib.Core.Path.{_≡_};
 ghost use Rattle.table.specs.Table.{ends};
 ghost use Rattle.multiplex.specs.Channels as the;
-ghost use Rattle.multiplex.specs.Channels.{isChannel, placeOf, freePlace, channelAt, put, start, opened, closed, reset, posted};
+ghost use Rattle.multiplex.specs.Channels.{freePlace, start, opened, closed, reset, posted};
 
 // A channel's number. It is no multiplex code.
 pub struct ChannelNumber(pub u16);
@@ -68,27 +69,6 @@ pub fn new() -> Channels
     let mut at = [free; 16];
     at[0] = fresh(0, true);
     Channels { at }
-}
-
-fn is_channel(c: Channel, n: u16) -> bool
-    ensures { λ r. ⌜ r ≡ isChannel n c ⌝ }
-{
-    if c.open { c.number == n } else { false }
-}
-
-// The place of an open channel, or 16.
-pub fn place_of(s: Channels, n: u16) -> usize
-    ensures { λ r. ⌜ r ≡ placeOf s n ⌝ }
-{
-    let mut i = 0;
-    while i < 16 {
-        let c = s.at[i];
-        if is_channel(c, n) {
-            return i;
-        }
-        i += 1;
-    }
-    16
 }
 
 // The first free place, or 16.

@@ -1,6 +1,7 @@
 // The demultiplexer: every check first, by value; then the writes.
+use crate::channels::Channel;
 use crate::channels::Channels;
-use crate::pieces::find;
+use crate::places::find;
 use adaptation::LONGEST;
 use table::Code;
 use table::PAYLOAD;
@@ -12,10 +13,10 @@ ghost use Rattle.octets.specs.Written.{written};
 ghost use Rattle.table.specs.Slots.{pieces};
 ghost use Rattle.table.specs.Table.{entryOf};
 ghost use Rattle.multiplex.specs.Channels.{channelAt};
-ghost use Rattle.multiplex.specs.Pieces.{laid, lastPlace, total};
+ghost use Rattle.multiplex.specs.Pieces.{laid, total};
 ghost use Rattle.multiplex.specs.Demultiplexer as the;
-ghost use Rattle.multiplex.specs.Demultiplexer.{hasRoom, delivered, sorted, demultiplexed};
-ghost use Rattle.multiplex.specs.Tally.{noTally, counts, tallied, closes, entry, puts, putsAll, ends, Within};
+ghost use Rattle.multiplex.specs.Demultiplexer.{roomIn, delivered, sorted, demultiplexed};
+ghost use Rattle.multiplex.specs.Tally.{noTally, joins, atOnce, tallied, closes, entry, heldWith, outputWith, unitsWith, putsAll, ends, Within};
 
 // How many units are finished, or document 01's refusal number.
 pub enum Finished {
@@ -52,12 +53,10 @@ fn refused(s: Channels, k: u8) -> Delivered
     }
 }
 
-// Whether n more octets may come to place p.
-fn has_room(s: Channels, p: usize, n: u16) -> bool
-    requires { ⌜ p < 16 ⌝ }
-    ensures { λ r. ⌜ r ≡ hasRoom s p n ⌝ }
+// Whether n more octets may come to a channel.
+fn has_room(c: Channel, n: u16) -> bool
+    ensures { λ r. ⌜ r ≡ roomIn c n ⌝ }
 {
-    let c = s.at[p];
     if c.segmentable {
         c.held as usize + n as usize <= LONGEST
     } else {
@@ -65,27 +64,34 @@ fn has_room(s: Channels, p: usize, n: u16) -> bool
     }
 }
 
-// The tally with one more piece: n octets at place p.
-fn count(t: Tally, p: usize, n: u16) -> Tally
-    requires { ⌜ (p < 16) × (hasRoom (t .channels) p n ≡ true) × (t .octets < 4294967296) × (t .units < 4294967296) ⌝ }
-    ensures { λ r. ⌜ r ≡ counts t p n ⌝ }
+// The channel after n octets came to it: a segmentable one holds them.
+fn join(c: Channel, n: u16) -> Channel
+    requires { ⌜ roomIn c n ≡ true ⌝ }
+    ensures { λ r. ⌜ r ≡ joins c n ⌝ }
 {
-    let mut s = t.channels;
-    let mut c = s.at[p];
+    let mut next = c;
     if c.segmentable {
-        c.held = c.held + n;
-        s.at[p] = c;
-        return Tally {
-            channels: s,
-            octets: t.octets,
-            units: t.units,
-        };
+        next.held = c.held + n;
     }
-    Tally {
-        channels: s,
-        octets: t.octets + n as usize,
-        units: t.units + 1,
-    }
+    next
+}
+
+// Of k that come to a channel, how many are finished at once: all, but on a segmentable channel none.
+fn at_once(c: Channel, k: usize) -> usize
+    ensures { λ r. ⌜ r ≡ atOnce c k ⌝ }
+{
+    if c.segmentable { 0 } else { k }
+}
+
+fn told(fits: bool, channels: Channels, octets: usize, units: usize) -> Counted
+    ensures { λ r. ⌜ r ≡ record { fits = fits; tally = record { channels = channels; octets = octets; units = units } } ⌝ }
+{
+    let tally = Tally {
+        channels,
+        octets,
+        units,
+    };
+    Counted { fits, tally }
 }
 
 // The dry run: every piece, by value.
@@ -94,30 +100,24 @@ fn count_all(s: Channels, places: &[u16], lengths: &[u16]) -> Counted
     ensures { λ r. ⌜ (r .fits ≡ the.fits s (laid (now (places .entry)) (now (lengths .entry))))
         × (r .fits ≡ true → r .tally ≡ tallied (noTally s) (laid (now (places .entry)) (now (lengths .entry)))) ⌝ }
 {
-    let mut t = Tally {
-        channels: s,
-        octets: 0,
-        units: 0,
-    };
+    let mut cur = s;
+    let mut octets = 0;
+    let mut units = 0;
     let mut j = 0;
     while j < places.len() {
         let p = places[j] as usize;
         let n = lengths[j];
-        let here = t.channels;
-        if has_room(here, p, n) {
-            t = count(t, p, n);
+        let c = cur.at[p];
+        if has_room(c, n) {
+            cur.at[p] = join(c, n);
+            octets += at_once(c, n as usize);
+            units += at_once(c, 1);
             j += 1;
         } else {
-            return Counted {
-                fits: false,
-                tally: t,
-            };
+            return told(false, cur, octets, units);
         }
     }
-    Counted {
-        fits: true,
-        tally: t,
-    }
+    told(true, cur, octets, units)
 }
 
 // Writes down a finished unit: its channel, start and length.
@@ -130,25 +130,30 @@ fn note(units: &mut [u16], at: usize, channel: u16, start: usize, len: usize)
     units[at + 2] = len as u16;
 }
 
-// Writes the octets x of one piece to where they belong: behind what place p holds, or as a unit.
-fn put(t: Tally, held: &mut [u8], output: &mut [u8], units: &mut [u16], p: usize, x: &[u8]) -> Tally
-    requires { ⌜ (p < 16) × (length (now x) ≤ 255) × (hasRoom (t .channels) p (length (now x)) ≡ true) × (t .octets < 65536) × (t .units < 65536)
-        × (counts t p (length (now x)) .octets ≤ length (now output)) × (3 * counts t p (length (now x)) .units ≤ length (now units))
-        × (length (now held) ≡ 16384) ⌝ }
-    ensures { λ r. ⌜ record { tally = r; held = now (held .exit); output = now (output .exit); units = now (units .exit) }
-        ≡ puts (record { tally = t; held = now (held .entry); output = now (output .entry); units = now (units .entry) }) p (now (x .entry)) ⌝ }
+// Writes the octets x of one piece to where they belong: behind what the channel c at place p holds, or as a unit behind `octets`
+// finished octets and `count` units.
+fn put(
+    c: Channel,
+    p: usize,
+    octets: usize,
+    count: usize,
+    held: &mut [u8],
+    output: &mut [u8],
+    units: &mut [u16],
+    x: &[u8],
+)
+    requires { ⌜ (p < 16) × (length (now x) ≤ 255) × (roomIn c (length (now x)) ≡ true) × (octets < 65536) × (count < 65536)
+        × (octets + atOnce c (length (now x)) ≤ length (now output)) × (3 * (count + atOnce c 1) ≤ length (now units)) × (length (now held) ≡ 16384) ⌝ }
+    ensures { λ _. ⌜ (now (held .exit) ≡ heldWith c p (now (held .entry)) (now (x .entry)))
+        × (now (output .exit) ≡ outputWith c octets (now (output .entry)) (now (x .entry)))
+        × (now (units .exit) ≡ unitsWith c octets count (now (units .entry)) (now (x .entry))) ⌝ }
 {
-    let s = t.channels;
-    let c = s.at[p];
-    let n = x.len();
     if c.segmentable {
         octets::write(held, LONGEST * p + c.held as usize, x);
-        return count(t, p, n as u16);
+    } else {
+        octets::write(output, octets, x);
+        note(units, 3 * count, c.number, octets, x.len());
     }
-    let at = t.octets;
-    octets::write(output, at, x);
-    note(units, 3 * t.units, c.number, at, n);
-    count(t, p, n as u16)
 }
 
 // Writes every piece.
@@ -169,21 +174,28 @@ fn pour(
         ≡ putsAll (record { tally = noTally s; held = now (held .entry); output = now (output .entry); units = now (units .entry) })
         (laid (now (places .entry)) (now (lengths .entry))) (now (payload .entry)) ⌝ }
 {
-    let mut t = Tally {
-        channels: s,
-        octets: 0,
-        units: 0,
-    };
+    let mut cur = s;
+    let mut octets = 0;
+    let mut count = 0;
     let mut at = 0;
     let mut j = 0;
     while j < places.len() {
         let p = places[j] as usize;
-        let end = at + lengths[j] as usize;
-        t = put(t, held, output, units, p, &payload[at..end]);
+        let n = lengths[j];
+        let end = at + n as usize;
+        let c = cur.at[p];
+        put(c, p, octets, count, held, output, units, &payload[at..end]);
+        cur.at[p] = join(c, n);
+        octets += at_once(c, n as usize);
+        count += at_once(c, 1);
         at = end;
         j += 1;
     }
-    t
+    Tally {
+        channels: cur,
+        octets,
+        units: count,
+    }
 }
 
 // Ends the unit that place p holds, where the mark is set, by value.

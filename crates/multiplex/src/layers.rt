@@ -1,8 +1,8 @@
 // AL2 by channel, and a finished unit read by its adaptation layer where it lies.
-use crate::channels;
 use crate::channels::Channel;
 use crate::channels::ChannelNumber;
 use crate::channels::Channels;
+use crate::places::place_of;
 use adaptation::Length;
 use adaptation::al1;
 use adaptation::al1m;
@@ -17,7 +17,7 @@ ghost use Rattle.adaptation.specs.AL2.{unitOf};
 ghost use Rattle.adaptation.specs.Receiving.{Receives};
 ghost use Rattle.multiplex.specs.Channels as the;
 ghost use Rattle.multiplex.specs.Channels.{placeOf, channelAt, put};
-ghost use Rattle.multiplex.specs.Layers.{Lent, numberAs, risen, sending, taking, endsTaking};
+ghost use Rattle.multiplex.specs.Layers.{numberAs, risen, sending, taking, endsTaking};
 ghost use Rattle.multiplex.specs.Parts.{partAt};
 
 // How many octets an AL2 unit was sent in, or document 01's refusal number; and the channels behind it.
@@ -71,7 +71,7 @@ pub fn send(s: Channels, number: ChannelNumber, numbered: bool, unit: &[u8], out
         ≡ sending (record { channels = s; output = now (out .entry) }) (number .0) numbered (now (unit .entry)) ⌝ }
 {
     let n = number.0;
-    let p = channels::place_of(s, n);
+    let p = place_of(s, n);
     if 16 <= p {
         return unsent(s, 5);
     }
@@ -118,7 +118,7 @@ pub fn take(s: Channels, number: ChannelNumber, numbered: bool, whole: &[u8]) ->
         ≡ taking s (number .0) numbered (now (whole .entry)) ⌝ }
 {
     let n = number.0;
-    let p = channels::place_of(s, n);
+    let p = place_of(s, n);
     if 16 <= p {
         return untaken(s, 5);
     }

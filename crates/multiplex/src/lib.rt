@@ -4,4 +4,4 @@ pub mod channels; // channels.rt: what is open, held and waiting
 pub mod demultiplexer; // demultiplexer.rt: a payload's octets given back to their channels
 pub mod layers; // layers.rt: AL2 by channel, and a finished unit read where it lies
 pub mod multiplexer; // multiplexer.rt: waiting octets laid out as a payload
-mod pieces; // pieces.rt: the places of a payload's slots
+mod places; // places.rt: where channels are

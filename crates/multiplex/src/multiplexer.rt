@@ -1,20 +1,20 @@
 // The multiplexer: the walk first, by value; then the writes.
-use crate::channels;
 use crate::channels::Channel;
 use crate::channels::Channels;
+use crate::places::numbers_of;
+use crate::places::seek;
 use adaptation::LONGEST;
 use table::Code;
 use table::PAYLOAD;
 ghost use mathlib.Core.Path.{_≡_};
-ghost use Prim.Native.Nat.{_≤_, _<_};
+ghost use Prim.Native.Nat.{_-_, _≤_};
 ghost use lib.ListN.{length, take};
 ghost use Rattle.octets.specs.Written.{written};
 ghost use Rattle.multiplex.specs.Channels as the;
-ghost use Rattle.multiplex.specs.Channels.{channelAt};
 ghost use Rattle.multiplex.specs.Pieces.{laid, total};
 ghost use Rattle.table.specs.Slots.{pieces};
 ghost use Rattle.table.specs.Table.{entryOf};
-ghost use Rattle.multiplex.specs.Multiplexer.{Lent, left, walked, gathered, packed, multiplexed, ends};
+ghost use Rattle.multiplex.specs.Multiplexer.{walked, gathered, packed, multiplexed, ends};
 ghost use Rattle.multiplex.specs.Walks.{turned, slotted, Sendable, WalkIs};
 
 // A payload's octets and closing mark, or document 01's refusal number.
@@ -80,15 +80,13 @@ fn turn_of(c: Channel, slot: u16) -> Turn
     Turn::Stop
 }
 
-// The channels after k waiting octets of place p were sent.
-fn leave(s: Channels, p: usize, k: usize) -> Channels
-    requires { ⌜ (p < 16) × (k ≤ the.waits (channelAt s p)) ⌝ }
-    ensures { λ r. ⌜ r ≡ left s p k ⌝ }
+// The channel after k of its waiting octets were sent.
+fn leave(c: Channel, k: usize) -> Channel
+    requires { ⌜ k ≤ the.waits c ⌝ }
+    ensures { λ r. ⌜ r ≡ the.waiting c (the.waits c - k) ⌝ }
 {
-    let mut c = s.at[p];
-    c.waiting = (waits(c) - k) as u16;
-    let mut next = s;
-    next.at[p] = c;
+    let mut next = c;
+    next.waiting = (waits(c) - k) as u16;
     next
 }
 
@@ -109,12 +107,13 @@ fn walk(s: Channels, n: usize, numbers: &mut [u16], lengths: &mut [u16]) -> Walk
     requires { ⌜ (n ≤ 255) × (n ≤ length (now numbers)) × (n ≤ length (now lengths)) ⌝ }
     ensures { λ r. ⌜ WalkIs (walked s (slotted (take n (now (numbers .entry))) (take n (now (lengths .entry))))) r (now (numbers .exit)) (now (lengths .exit)) ⌝ }
 {
+    let seats = numbers_of(s);
     let mut cur = s;
     let mut octets = 0;
     let mut j = 0;
     while j < n {
         let number = numbers[j];
-        let p = channels::place_of(cur, number);
+        let p = seek(&seats, number as u32);
         if 16 <= p {
             return ended(j, octets, false, false, cur);
         }
@@ -125,17 +124,17 @@ fn walk(s: Channels, n: usize, numbers: &mut [u16], lengths: &mut [u16]) -> Walk
                 return ended(j, octets, false, true, cur);
             }
             Turn::On(k) => {
-                cur = leave(cur, p, k);
+                cur.at[p] = leave(c, k);
                 numbers[j] = p as u16;
                 lengths[j] = k as u16;
                 octets += k;
                 j += 1;
             }
             Turn::Last(k) => {
-                let last = leave(cur, p, k);
+                cur.at[p] = leave(c, k);
                 numbers[j] = p as u16;
                 lengths[j] = k as u16;
-                return ended(j + 1, octets + k, c.segmentable, true, last);
+                return ended(j + 1, octets + k, c.segmentable, true, cur);
             }
         }
     }
@@ -163,7 +162,7 @@ fn gather(
         let c = cur.at[p];
         let from = LONGEST * p + (LONGEST - waits(c));
         octets::write(payload, at, &waiting[from..from + k]);
-        cur = leave(cur, p, k);
+        cur.at[p] = leave(c, k);
         at += k;
         j += 1;
     }

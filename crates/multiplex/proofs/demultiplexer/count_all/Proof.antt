@@ -1,25 +1,53 @@
 -- After j turns the first j pieces are counted, and what they come to depends on those behind. Assumes nothing.
 use borrow.Author.Needs.{needs}
-use mathlib.Core.Path.{_≡_, refl, sym, _∙_}
-use Prim.Native.Nat.{ℕ, _*_, _-_, _≤_, _<_}
+use mathlib.Core.Path.{_≡_, refl, sym, ap, _∙_}
+use mathlib.Core.Bool.{true, false}
+use mathlib.Core.List.{List}
+use Prim.Native.Nat.{ℕ, _+_, _*_, _-_, _≤_, _<_}
 use native.Mathlib.Omega.{arith}
 use lib.ListN.{length, drop, getD}
 use denote.Ref.{now}
+use Rattle.multiplex.specs.declared.demultiplexer.Tally.{Tally}
+use Rattle.multiplex.specs.Channels.{channelAt}
 use Rattle.multiplex.specs.Pieces.{laid}
 use Rattle.multiplex.specs.Demultiplexer.{fits}
-use Rattle.multiplex.specs.Tally.{tallied}
-use Rattle.multiplex.proofs.Tallying.{counts-most, fits-met, fits-missed, fits-end, tallied-at, tallied-end}
+use Rattle.multiplex.specs.Tally.{noTally, tallied}
+use Rattle.multiplex.proofs.Tallying.{at-once-most, counts-parts, fits-met, fits-missed, fits-end, tallied-at, tallied-end}
 use Rattle.multiplex.proofs.demultiplexer.count_all.Statement.{statement}
 use Rattle.multiplex.proofs.demultiplexer.count_all.Tie as tie
 
 abbrev Inv-loop : tie.InvT-loop
-Inv-loop places lengths t₀ j₀ t j =
-    (fits (t₀ .channels) (laid places lengths) ≡ fits (t .channels) (laid (drop j places) (drop j lengths)))
-    × (tallied t₀ (laid places lengths) ≡ tallied t (laid (drop j places) (drop j lengths)))
-    × (j ≤ length places) × (t .octets ≤ 65535 * j) × (t .units ≤ j)
+Inv-loop places lengths cur₀ octets₀ units₀ j₀ cur octets units j =
+    (fits cur₀ (laid places lengths) ≡ fits cur (laid (drop j places) (drop j lengths)))
+    × (tallied (noTally cur₀) (laid places lengths) ≡ tallied (record { channels = cur; octets = octets; units = units }) (laid (drop j places) (drop j lengths)))
+    × (j ≤ length places) × (octets ≤ 65535 * j) × (units ≤ j)
 
 abbrev μ-loop : tie.MeasureT-loop
-μ-loop places lengths t₀ j₀ t j = length places - j
+μ-loop places lengths cur₀ octets₀ units₀ j₀ cur octets units j = length places - j
+
+-- ---- one turn: the piece at place j
+
+module _ (c : tie.In-loop Inv-loop μ-loop) where
+  abbrev ps : List ℕ
+  ps = now (c .before .before .before .before .args .places)
+
+  abbrev ls : List ℕ
+  ls = now (c .before .before .before .before .args .lengths)
+
+  abbrev place : ℕ
+  place = getD ps (c .before .loop .j) 0
+
+  abbrev more : ℕ
+  more = getD ls (c .before .loop .j) 0
+
+  near : place < 16
+  near = c .before .before .before .before .pre .0 (c .before .loop .j) (c .loop-test .taken)
+
+  in-ls : c .before .loop .j < length ls
+  in-ls = omega (arith, c .loop-test .taken, c .before .before .before .before .pre .1)
+
+never : {A : Type 0} → false ≡ true → A
+never e = absurd (let z : _≡_ {A = ℕ} 0 1 = cc in omega arith)
 
 loop-holds : tie.Need-loop-holds Inv-loop μ-loop
 loop-holds c = (refl, refl, search needs, search needs, search needs)
@@ -39,13 +67,38 @@ mul-n c = search needs
 shared-slice-read-n : tie.Need-shared-slice-read-n Inv-loop μ-loop
 shared-slice-read-n c = search needs
 
-has-room-requires : tie.Need-has-room-requires Inv-loop μ-loop
-has-room-requires c κs = c .before .before .before .before .before .before .before .pre .0 (c .before .before .before .before .loop .j) (c .before .before .before .loop-test .taken)
+mul-c : tie.Need-mul-c Inv-loop μ-loop
+mul-c c = omega (arith, near (c .before .before))
 
-count-requires : tie.Need-count-requires Inv-loop μ-loop
-count-requires c κs =
-    let l = c .before .before .before .before .before .before .loop in
-    (c .before .before .before .before .before .before .before .before .before .pre .0 (l .j) (c .before .before .before .before .before .loop-test .taken), sym (c .before .has-room .ensures) ∙ c .if1 .taken, omega arith, omega arith)
+element-copy-out-c : tie.Need-element-copy-out-c Inv-loop μ-loop
+element-copy-out-c c = near (c .before .before)
+
+has-room-requires : tie.Need-has-room-requires Inv-loop μ-loop
+has-room-requires c κs = search needs
+
+join-requires : tie.Need-join-requires Inv-loop μ-loop
+join-requires c κs = sym (c .before .has-room .ensures) ∙ c .if1 .taken
+
+mul-t21 : tie.Need-mul-t21 Inv-loop μ-loop
+mul-t21 c = omega (arith, near (c .before .before .before .before .before .before))
+
+element-set-from-cur : tie.Need-element-set-from-cur Inv-loop μ-loop
+element-set-from-cur c = near (c .before .before .before .before .before .before)
+
+cast-at-once : tie.Need-cast-at-once Inv-loop μ-loop
+cast-at-once c = omega (arith, c .before .before .before .before .shared-slice-known4 .given (c .before .before .before .before .before .before .before .loop .j))
+
+at-once-requires : tie.Need-at-once-requires Inv-loop μ-loop
+at-once-requires c κs = search needs
+
+add-octets : tie.Need-add-octets Inv-loop μ-loop
+add-octets c = omega (arith, c .at-once .ensures, at-once-most (channelAt (c .before .before .before .before .before .before .before .before .loop .cur) (place (c .before .before .before .before .before .before .before))) (more (c .before .before .before .before .before .before .before)), c .before .before .before .before .before .shared-slice-known4 .given (c .before .before .before .before .before .before .before .before .loop .j))
+
+at-once-requires-2 : tie.Need-at-once-requires-2 Inv-loop μ-loop
+at-once-requires-2 c κs = search needs
+
+add-units : tie.Need-add-units Inv-loop μ-loop
+add-units c = omega (arith, c .at-once2 .ensures, at-once-most (channelAt (c .before .before .before .before .before .before .before .before .before .loop .cur) (place (c .before .before .before .before .before .before .before .before))) 1)
 
 add-j : tie.Need-add-j Inv-loop μ-loop
 add-j c = search needs
@@ -55,35 +108,46 @@ loop-less c = search needs
 
 loop-again : tie.Need-loop-again Inv-loop μ-loop
 loop-again c =
-    let a = c .before .before .before .before .before .before .before .before .before .before .args in
-    let l = c .before .before .before .before .before .before .before .loop in
-    let p = getD (now (a .places)) (l .j) 0 in
-    let n = getD (now (a .lengths)) (l .j) 0 in
-    let h = c .before .before .before .before .before .before .loop-test .taken in
-    let k : l .j < length (now (a .lengths)) = omega arith in
-    let e = c .count .ensures in
-    let room = sym (c .before .before .has-room .ensures) ∙ c .before .if1 .taken in (
-      l .inv .0 ∙ fits-met (now (a .places)) (now (a .lengths)) (l .j) (l .t) h k room ∙ rw e,
-      l .inv .1 ∙ tallied-at (now (a .places)) (now (a .lengths)) (l .j) (l .t) h k ∙ rw e,
+    let i = c .before .before .before .before .before .before .before .before in
+    let l = i .before .loop in
+    let h = i .loop-test .taken in
+    let t : Tally = record { channels = l .cur; octets = l .octets; units = l .units } in
+    let e = counts-parts t (place i) (more i) in
+    let on = channelAt (l .cur) (place i) in
+    let behind = laid (drop (l .j + 1) (ps i)) (drop (l .j + 1) (ls i)) in
+    rw (c .before .before .join .ensures, c .before .at-once .ensures, c .at-once2 .ensures) (
+      l .inv .0 ∙ fits-met (ps i) (ls i) (l .j) t h (in-ls i) (sym (c .before .before .before .before .has-room .ensures) ∙ c .before .before .before .if1 .taken) ∙ ap (λ (w : Tally). fits (w .channels) behind) (sym e),
+      l .inv .1 ∙ tallied-at (ps i) (ls i) (l .j) t h (in-ls i) ∙ ap (λ (w : Tally). tallied w behind) (sym e),
       search needs,
-      rw e (omega (arith, counts-most (l .t) p n .0, c .before .before .before .before .shared-slice-known4 .given (l .j))),
-      rw e (omega (arith, counts-most (l .t) p n .1)),
+      omega (arith, at-once-most on (more i), c .before .before .before .before .before .before .shared-slice-known4 .given (l .j)),
+      omega (arith, at-once-most on 1),
     )
+
+told-requires : tie.Need-told-requires Inv-loop μ-loop
+told-requires c κs = search needs
 
 returns : tie.Need-returns Inv-loop μ-loop
 returns c =
-    let a = c .before .before .before .before .before .before .before .before .before .args in
-    let l = c .before .before .before .before .before .before .loop in
-    let h = c .before .before .before .before .before .loop-test .taken in
-    let k : l .j < length (now (a .lengths)) = omega arith in
-    (sym (l .inv .0 ∙ fits-missed (now (a .places)) (now (a .lengths)) (l .j) (l .t) h k (sym (c .before .has-room .ensures) ∙ c .if1 .left)), λ e. absurd (let z : _≡_ {A = ℕ} 0 1 = cc in omega arith))
+    let i = c .before .before .before .before .before .before in
+    let l = i .before .loop in
+    rw (c .told .ensures) (
+      sym (l .inv .0 ∙ fits-missed (ps i) (ls i) (l .j) (record { channels = l .cur; octets = l .octets; units = l .units }) (i .loop-test .taken) (in-ls i) (sym (c .before .before .has-room .ensures) ∙ c .before .if1 .left)),
+      never,
+    )
+
+told-requires-2 : tie.Need-told-requires-2 Inv-loop μ-loop
+told-requires-2 c κs = search needs
 
 returns-2 : tie.Need-returns-2 Inv-loop μ-loop
 returns-2 c =
-    let a = c .before .before .before .before .args in
-    let l = c .before .loop in
-    let h = c .loop-test .left in
-    (sym (l .inv .0 ∙ fits-end (now (a .places)) (now (a .lengths)) (l .j) (l .t) h), λ e. sym (l .inv .1 ∙ tallied-end (now (a .places)) (now (a .lengths)) (l .j) (l .t) h))
+    let a = c .before .before .before .before .before .args in
+    let l = c .before .before .loop in
+    let h = c .before .loop-test .left in
+    let t : Tally = record { channels = l .cur; octets = l .octets; units = l .units } in
+    rw (c .told2 .ensures) (
+      sym (l .inv .0 ∙ fits-end (now (a .places)) (now (a .lengths)) (l .j) t h),
+      λ e. sym (l .inv .1 ∙ tallied-end (now (a .places)) (now (a .lengths)) (l .j) t h),
+    )
 
 pub count-all-spec : {M : Type 1} → statement M
 count-all-spec =
@@ -97,10 +161,21 @@ count-all-spec =
     cast-p
     mul-n
     shared-slice-read-n
+    mul-c
+    element-copy-out-c
     has-room-requires
-    count-requires
+    join-requires
+    mul-t21
+    element-set-from-cur
+    cast-at-once
+    at-once-requires
+    add-octets
+    at-once-requires-2
+    add-units
     add-j
     loop-less
     loop-again
+    told-requires
     returns
+    told-requires-2
     returns-2)

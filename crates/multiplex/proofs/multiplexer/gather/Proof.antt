@@ -99,8 +99,13 @@ write-requires c κs = simp length-take (omega (arith, moves (c .before .before 
 
 leave-requires : tie.Need-leave-requires Inv-loop μ-loop
 leave-requires c κs =
-    let m = moves (c .before .before .before .before .before .before .before .before .before) in
-    (m .0, m .1)
+    moves (c .before .before .before .before .before .before .before .before .before) .1
+
+mul-t23 : tie.Need-mul-t23 Inv-loop μ-loop
+mul-t23 c = omega (arith, moves (c .before .before .before .before .before .before .before .before .before .before) .0)
+
+element-set-from-cur : tie.Need-element-set-from-cur Inv-loop μ-loop
+element-set-from-cur c = moves (c .before .before .before .before .before .before .before .before .before .before) .0
 
 add-at : tie.Need-add-at Inv-loop μ-loop
 add-at c =
@@ -154,6 +159,8 @@ gather-spec =
     part-write-end
     write-requires
     leave-requires
+    mul-t23
+    element-set-from-cur
     add-at
     add-j
     loop-less
