@@ -1,6 +1,5 @@
 -- The pieces that a walk sends are those that the demultiplexer sees.
 --
---   by-test           a walk that goes by a test
 --   Agrees r l x      the walk x over the slots l: cut to the octets that it sends, the slots are its pieces by the channels r, each open
 --                     and with an octet; and there is a last one where it has the closing mark
 --   agrees-stopped    .. of the walk that sends nothing
@@ -27,11 +26,8 @@ use Rattle.multiplex.specs.declared.channels.Channels.{Channels}
 use Rattle.multiplex.specs.Channels.{channelAt, placeOf, isIn, waits, waiting}
 use Rattle.multiplex.specs.Pieces.{Piece, placed, allOpen, total}
 use Rattle.multiplex.specs.Multiplexer.{Walk, isBlocked, goesOn, moved, left, stopped, sending, ending, walked}
+use Rattle.multiplex.proofs.Deciding.{by-test}
 use Rattle.multiplex.proofs.Seats.{seats, place-seats, seats-put}
-
-pub by-test : {A : Type 0} (P : A → Type 0) (b : Bool) {x y : A} → (b ≡ true → P x) → (b ≡ false → P y) → P (cond b x y)
-by-test P true f g = f refl
-by-test P false f g = g refl
 
 pub record Agrees (r : Channels) (l : List Slot) (x : Walk) : Type 0 where
   pub same : placed r (cut (total (x .pieces)) l) ≡ x .pieces

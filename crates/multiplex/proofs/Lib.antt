@@ -1,3 +1,4 @@
+pub mod Deciding
 pub mod Search
 pub mod Seats
 pub mod Parts

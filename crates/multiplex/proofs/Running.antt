@@ -23,7 +23,7 @@ use Rattle.adaptation.specs.Refusal.{Ended, leaving, refusing}
 use Rattle.table.specs.Slots.{pieces}
 use Rattle.table.specs.Table.{entryOf, isDefined, replaced}
 use Rattle.multiplex.specs.declared.channels.Channels.{Channels}
-use Rattle.multiplex.specs.Channels.{placeOf, freePlace, channelAt, put, fresh, isIn, isUnit, opened, posted, Post, waiting}
+use Rattle.multiplex.specs.Channels.{placeOf, freePlace, channelAt, put, fresh, isIn, isUnit, opened, postTests, posted, Post, waiting}
 use Rattle.multiplex.specs.Pieces.{total}
 use Rattle.multiplex.specs.Demultiplexer.{Lent, demultiplexed}
 use Rattle.multiplex.specs.Multiplexer as sending
@@ -32,7 +32,7 @@ use Rattle.multiplex.specs.Runs.{UnitOn, unitsOn, withoutLast, World, be
 use Rattle.multiplex.proofs.Seats.{free-seats, place-seats}
 use Rattle.multiplex.proofs.Matching.{Matched, posted-matched}
 use Rattle.multiplex.proofs.Opening.{opened-matched, start-matched}
-use Rattle.multiplex.proofs.Agreeing.{by-test}
+use Rattle.multiplex.proofs.Deciding.{by-test, by-tests}
 use Rattle.multiplex.proofs.Accepting.{accepted, carried-over, payload-front}
 
 pub record Kept (x : World) : Type 0 where
@@ -80,17 +80,18 @@ module _ (x : World) (k : Kept x) (n : ℕ) (u : List ℕ) where
   pub posting-kept : Kept (afterPost x unit (posted s (x .sender .octets) n u))
   unfolding posted
   posting-kept =
-      by-test Posted (not (isUnit u)) (λ e. same-kept 2)
-      (λ e. by-test Posted (not (isIn s n)) (λ f. same-kept 5)
-      (λ f. by-test Posted (leb 1 (channelAt s (placeOf s n) .waiting)) (λ g. same-kept 11) (λ g.
-      let two = both-true (leb 1 (length u)) (leb (length u) 1024) (not-false (isUnit u) e) in
-      let free : channelAt s (placeOf s n) .waiting ≡ 0 = omega (arith, leb-false 1 (channelAt s (placeOf s n) .waiting) g) in
+      by-tests Posted (refusing (record { channels = s; octets = x .sender .octets })) (postTests s n u) _ same-kept (λ none.
+      let long : not (isUnit u) ≡ false = search none in
+      let closed : not (isIn s n) ≡ false = search none in
+      let some : leb 1 (channelAt s (placeOf s n) .waiting) ≡ false = search none in
+      let two = both-true (leb 1 (length u)) (leb (length u) 1024) (not-false (isUnit u) long) in
+      let free : channelAt s (placeOf s n) .waiting ≡ 0 = omega (arith, leb-false 1 (channelAt s (placeOf s n) .waiting) some) in
       record {
         tables = k .tables;
         unrefused = k .unrefused;
         matched = posted-matched (k .matched) n u (leb-true 1 (length u) (two .0)) (leb-true (length u) 1024 (two .1)) (placeOf s n) refl
-            (ltb-true (placeOf s n) 16 (not-false (isIn s n) f)) free;
-      })))
+            (ltb-true (placeOf s n) 16 (not-false (isIn s n) closed)) free;
+      })
 
 -- ---- paying
 

@@ -1,29 +1,29 @@
 -- The claims of specs/Claims.antt, proved.
 --
---   passed           a call that answered was not refused by the test
+--   not-refused      a call that answered was not refused
 --   payload-holds    what an accepted payload leaves has all its octets
 --   demand-met, idle-fails, refuser-fails, octets-once, order-kept   the claims
 --
 -- Assumes nothing.
 use mathlib.Core.Path.{_≡_, refl, sym, ap, ap₂, subst, _∙_}
-use mathlib.Core.Bool.{Bool, true, false, cond, not, _&&_}
+use mathlib.Core.Bool.{Bool, true, false, not, _&&_}
 use mathlib.Core.List.{List, [], _++_, flatten}
 use Prim.Native.Nat.{ℕ, _≤_, _<_}
 use native.Mathlib.Decide.{decLt}
 use native.Mathlib.Omega.{arith}
 use borrow.Author.Tests.{not-false}
-use lib.Dec.{ltb}
 use lib.ListN.{length}
 use Rattle.adaptation.specs.Refusal.{Told, refused, told, Ended, leaving, refusing}
 use Rattle.table.specs.Slots.{Slot, pieces, octetsOf, channelsOf}
 use Rattle.table.specs.Laws.{pieces-most}
-use Rattle.table.specs.Table.{entryOf, isDefined}
+use Rattle.table.specs.Table.{entryOf}
 use Rattle.multiplex.specs.declared.channels.Channels.{Channels}
 use Rattle.multiplex.specs.Channels.{placeOf, channelAt, heldOf}
-use Rattle.multiplex.specs.Pieces.{placed, allOpen, lastPlace}
-use Rattle.multiplex.specs.Demultiplexer.{Lent, nothing, fits, tookAll, delivery, tooSmall, writes, delivered, sorted, demultiplexed}
+use Rattle.multiplex.specs.Pieces.{Piece, placed, allOpen, lastPlace}
+use Rattle.multiplex.specs.Demultiplexer.{Lent, Delivery, nothing, fits, tookAll, delivery, writes, callTests, slotTests, pieceTests, delivered, sorted, demultiplexed}
 use Rattle.multiplex.specs.Runs.{UnitOn, unitsOn, unitsIn}
 use Rattle.multiplex.specs.Claims.{DemandMet, IdleFails, RefuserFails, goingTo, Orderly, OctetsOnce, OrderKept}
+use Rattle.multiplex.proofs.Deciding.{by-tests}
 use Rattle.multiplex.proofs.Seats.{place-seats, vacant-behind}
 use Rattle.multiplex.proofs.Records.{tells-nothing, tells-read}
 use Rattle.multiplex.proofs.Keeping.{Holds, slots-hold, closed-holds, last-known}
@@ -41,11 +41,10 @@ refuser-fails = failing.refuser-fails
 
 -- ---- an accepted payload
 
-passed : (b : Bool) (i : ℕ) (x : Lent) (r : Ended ℕ Lent) (a : ℕ) (y : Lent) → cond b (refusing x i) r ≡ leaving a y → (b ≡ false) × (r ≡ leaving a y)
-passed true i x r a y e =
-    let f : _≡_ {A = Told ℕ} (refused i) (told a) = ap (λ (z : Ended ℕ Lent). z .answer) e in
+not-refused : {A : Type 0} (x y : Lent) (i k : ℕ) → _≡_ {A = Ended ℕ Lent} (refusing x i) (leaving k y) → A
+not-refused x y i k e =
+    let f : _≡_ {A = Told ℕ} (refused i) (told k) = ap (λ (z : Ended ℕ Lent). z .answer) e in
     absurd (let z : _≡_ {A = ℕ} 0 1 = cc in omega arith)
-passed false i x r a y e = (refl, e)
 
 -- what was accepted met none of the refusals, and leaves its delivery
 record Accepted (x y : Lent) (mark : Bool) (l : List Slot) (xs : List ℕ) (k : ℕ) : Type 0 where
@@ -58,25 +57,35 @@ record Accepted (x y : Lent) (mark : Bool) (l : List Slot) (xs : List ℕ) (k : 
 is-accepted : (x y : Lent) (t : List ℕ) (c : ℕ) (mark : Bool) (xs : List ℕ) (k : ℕ) → demultiplexed x t c mark xs ≡ leaving k y
     → Accepted x y mark (pieces (entryOf t c) (length xs)) xs k
 unfolding demultiplexed sorted delivered
-is-accepted x y t c mark xs k e =
-    let l = pieces (entryOf t c) (length xs) in
-    let ps = placed (x .channels) l in
-    let d = delivery (x .channels) (x .held) mark ps xs in
-    let e2 = passed (ltb 255 (length xs)) 2 x _ k y e in
-    let e4 = passed (not (isDefined t c)) 4 x _ k y (e2 .1) in
-    let e6 = passed (ltb (octetsOf l) (length xs)) 6 x _ k y (e4 .1) in
-    let e5 = passed (not (allOpen (x .channels) l)) 5 x _ k y (e6 .1) in
-    let e7 = passed (mark && not (channelAt (x .channels) (lastPlace ps) .segmentable)) 7 x _ k y (e5 .1) in
-    let e8 = passed (not (fits (x .channels) ps)) 8 x _ k y (e7 .1) in
-    let e3 = passed (tooSmall d (x .output) (x .units)) 3 x (leaving (d .count) (writes d (x .output) (x .units))) k y (e8 .1) in
+is-accepted x y t c mark xs k =
+    by-tests Ends (refusing _) (callTests t c xs) _ (refuses _) (λ call.
+    by-tests Ends (refusing _) (slotTests x l xs) _ (refuses _) (λ slots.
+    by-tests Ends (refusing _) (pieceTests x mark ps xs) (leaving (d .count) (writes d (x .output) (x .units))) (refuses _) (λ rest e.
+    let closed : not (allOpen (x .channels) l) ≡ false = search slots in
+    let full : not (fits (x .channels) ps) ≡ false = search rest in
     record {
-      opened = not-false (allOpen (x .channels) l) (e5 .0);
-      marked = e7 .0;
-      fitting = not-false (fits (x .channels) ps) (e8 .0);
-      count = same-told (d .count) k (ap (λ (r : Ended ℕ Lent). r .answer) (e3 .1));
-      left = ap (λ (r : Ended ℕ Lent). r .left) (e3 .1);
-    }
+      opened = not-false (allOpen (x .channels) l) closed;
+      marked = search rest;
+      fitting = not-false (fits (x .channels) ps) full;
+      count = same-told (d .count) k (ap (λ (r : Ended ℕ Lent). r .answer) e);
+      left = ap (λ (r : Ended ℕ Lent). r .left) e;
+    })))
   where
+    l : List Slot
+    l = pieces (entryOf t c) (length xs)
+
+    ps : List Piece
+    ps = placed (x .channels) l
+
+    d : Delivery
+    d = delivery (x .channels) (x .held) mark ps xs
+
+    Ends : Ended ℕ Lent → Type 0
+    Ends r = r ≡ leaving k y → Accepted x y mark l xs k
+
+    refuses : (z : Lent) (i : ℕ) → Ends (refusing z i)
+    refuses z i = not-refused z y i k
+
     same-told : (a b : ℕ) → _≡_ {A = Told ℕ} (told a) (told b) → a ≡ b
     same-told a b e = cc
 

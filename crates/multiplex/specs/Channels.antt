@@ -15,6 +15,7 @@
 --   waits c           how many octets wait at c
 --   waitingFrom c p   where they stand: at the end of its 1,024, so that what is sent leaves at the front
 --   waitingOf s w p   the octets that wait at place p
+--   postTests         what refuses a post
 --   opened, closed, reset, posted   how the calls end; what refuses them stands in the order of document 01
 --
 -- Assumes nothing.
@@ -24,7 +25,7 @@ use Prim.Native.Nat.{ℕ, _+_, _*_, _-_, min}
 use lib.Dec.{leb, ltb, eqb}
 use lib.ListN.{length, getD, set, take, drop, replicate}
 use Rattle.octets.specs.Written.{written}
-use Rattle.adaptation.specs.Refusal.{Ended, leaving, refusing, _when_, checked}
+use Rattle.adaptation.specs.Refusal.{Ended, leaving, refusing, Test, _when_, checked}
 use Rattle.adaptation.specs.Handed.{longest}
 use Rattle.multiplex.specs.declared.channels.Channel.{Channel}
 use Rattle.multiplex.specs.declared.channels.Channels.{Channels}
@@ -114,10 +115,16 @@ pub record Post : Type 0 where
   pub channels : Channels
   pub octets : List ℕ
 
+abbrev pub postTests : Channels → ℕ → List ℕ → List Test
+postTests s n u =
+    2 when not (isUnit u)
+    ∷ 5 when not (isIn s n)
+    ∷ 11 when leb 1 (channelAt s (placeOf s n) .waiting)
+    ∷ []
+
 unfoldable pub posted : Channels → List ℕ → ℕ → List ℕ → Ended (Unit {0}) Post
 posted s w n u =
-    checked (refusing (record { channels = s; octets = w }))
-    (2 when not (isUnit u) ∷ 5 when not (isIn s n) ∷ 11 when leb 1 (channelAt s (placeOf s n) .waiting) ∷ [])
+    checked (refusing (record { channels = s; octets = w })) (postTests s n u)
     (leaving tt (record {
       channels = put s (placeOf s n) (waiting (channelAt s (placeOf s n)) (length u));
       octets = written w (longest * placeOf s n + (longest - length u)) u;

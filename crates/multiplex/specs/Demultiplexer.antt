@@ -12,7 +12,7 @@
 --   fits s l           no held unit passes 1,024 octets on the way
 --   Lent               what a call is lent to write to: the channels, the octets held, the output and the list of units
 --   delivery           what an accepted payload leads to
---   refusals           what refuses it, in this order
+--   callTests, slotTests, pieceTests   what refuses it, in this order: of the call, its slots, and the pieces at their places
 --   demultiplexed      how the call ends: with the number of finished units, or a refusal
 --   ends               what an answer says, and what it leaves
 --
@@ -23,7 +23,7 @@ use Prim.Native.Nat.{ℕ, _+_, _*_}
 use lib.Dec.{leb, ltb}
 use lib.ListN.{length, take, drop}
 use Rattle.octets.specs.Written.{written}
-use Rattle.adaptation.specs.Refusal.{Ended, leaving, refusing, _when_, checked}
+use Rattle.adaptation.specs.Refusal.{Ended, leaving, refusing, Test, _when_, checked}
 use Rattle.adaptation.specs.Handed.{longest}
 use Rattle.table.specs.Slots.{Slot, endless, pieces, octetsOf}
 use Rattle.table.specs.Table.{entryOf, isDefined}
@@ -122,23 +122,32 @@ writes r output units = record {
   units = written units 0 (r .units);
 }
 
--- .. where the slots of the payload are l, by refusals 7, 8, 3
-unfoldable pub delivered : Lent → (mark : Bool) → List Piece → List ℕ → Ended ℕ Lent
-delivered x mark l xs =
-    checked (refusing x) (7 when (mark && not (channelAt (x .channels) (lastPlace l) .segmentable))
+abbrev pub pieceTests : Lent → (mark : Bool) → List Piece → List ℕ → List Test
+pieceTests x mark l xs =
+    7 when (mark && not (channelAt (x .channels) (lastPlace l) .segmentable))
     ∷ 8 when not (fits (x .channels) l)
     ∷ 3 when tooSmall (delivery (x .channels) (x .held) mark l xs) (x .output) (x .units)
-    ∷ [])
+    ∷ []
+
+unfoldable pub delivered : Lent → (mark : Bool) → List Piece → List ℕ → Ended ℕ Lent
+delivered x mark l xs =
+    checked (refusing x) (pieceTests x mark l xs)
     (leaving (delivery (x .channels) (x .held) mark l xs .count) (writes (delivery (x .channels) (x .held) mark l xs) (x .output) (x .units)))
+
+abbrev pub slotTests : Lent → List Slot → List ℕ → List Test
+slotTests x l xs = 6 when ltb (octetsOf l) (length xs) ∷ 5 when not (allOpen (x .channels) l) ∷ []
 
 unfoldable pub sorted : Lent → (mark : Bool) → List Slot → List ℕ → Ended ℕ Lent
 sorted x mark l xs =
-    checked (refusing x) (6 when ltb (octetsOf l) (length xs) ∷ 5 when not (allOpen (x .channels) l) ∷ [])
+    checked (refusing x) (slotTests x l xs)
     (delivered x mark (placed (x .channels) l) xs)
+
+abbrev pub callTests : (table : List ℕ) → (code : ℕ) → List ℕ → List Test
+callTests t c xs = 2 when ltb endless (length xs) ∷ 4 when not (isDefined t c) ∷ []
 
 unfoldable pub demultiplexed : Lent → (table : List ℕ) → (code : ℕ) → (mark : Bool) → List ℕ → Ended ℕ Lent
 demultiplexed x t c mark xs =
-    checked (refusing x) (2 when ltb endless (length xs) ∷ 4 when not (isDefined t c) ∷ [])
+    checked (refusing x) (callTests t c xs)
     (sorted x mark (pieces (entryOf t c) (length xs)) xs)
 
 -- what an answer says, and what it leaves
