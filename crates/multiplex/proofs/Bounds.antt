@@ -1,14 +1,13 @@
 -- Every call keeps the state's bounds.
 --
 --   checked-keeps     what holds of what was lent, and of what an accepted call leaves, holds of what a call leaves
---   refusal-none      where nothing refuses, no test holds
 --   waits-put         a place put within its bound leaves all within theirs
 --   always-sound      whatever is called, the state is sound
 --
 -- Assumes nothing.
 use mathlib.Core.Path.{_≡_, refl, sym, ap, subst, _∙_}
-use mathlib.Core.Bool.{Bool, true, false, cond, not, _&&_}
-use mathlib.Core.List.{List, [], _∷_}
+use mathlib.Core.Bool.{Bool, true, false, cond, not}
+use mathlib.Core.List.{List, [], _∷_, _++_}
 use Prim.Native.Nat.{ℕ, zero, suc, _+_, _*_, _-_, _≤_, _<_}
 use native.Mathlib.Omega.{arith}
 use borrow.Author.Tests.{ltb-true, ltb-false, leb-true, leb-false, not-false}
@@ -16,17 +15,17 @@ use lib.Dec.{leb, ltb, eqb}
 use lib.ListN.{length, getD, set, take, replicate}
 use Rattle.octets.specs.Tests.{both-true}
 use Rattle.octets.specs.Written.{written, written-length}
-use Rattle.adaptation.specs.Refusal.{Told, refused, told, Ended, leaving, refusing, Test, _when_, checked, refusal}
+use Rattle.adaptation.specs.Refusal.{Told, refused, told, Ended, leaving, refusing, Test, _when_, checked}
 use Rattle.adaptation.specs.Handed.{longest}
 use Rattle.adaptation.proofs.Refusals.{checked-leaves}
 use Rattle.adaptation.specs.AL2 as al2
-use Rattle.table.specs.Slots.{Slot, pieces, octetsOf}
+use Rattle.table.specs.Slots.{Slot, pieces}
 use Rattle.table.specs.Form.{longestEntry, isEntry}
 use Rattle.table.specs.Table as table
 use Rattle.table.specs.Table.{highestCode, entryOf, isDefined, replaced}
 use Rattle.multiplex.specs.declared.channels.Channel.{Channel}
 use Rattle.multiplex.specs.declared.channels.Channels.{Channels}
-use Rattle.multiplex.specs.Channels.{places, vacant, fresh, start, placeOf, freePlace, isIn, channelAt, put, holding, waiting, numbered, isUnit, Post, opened, closed, reset, posted}
+use Rattle.multiplex.specs.Channels.{places, vacant, fresh, start, placeOf, freePlace, isIn, channelAt, put, holding, waiting, numbered, isUnit, Post, opened, closed, reset, postTests, posted}
 use Rattle.multiplex.specs.Pieces.{Piece, placed, allOpen, lastPlace, total}
 use Rattle.multiplex.specs.Demultiplexer as demux
 use Rattle.multiplex.specs.Demultiplexer.{Delivery}
@@ -35,18 +34,13 @@ use Rattle.multiplex.specs.Multiplexer as mux
 use Rattle.multiplex.specs.Claims.{Orderly}
 use Rattle.multiplex.specs.Calls as calls
 use Rattle.multiplex.specs.Calls.{Link, Call, lentTo, after, led, begun, Sound, AlwaysSound}
+use Rattle.multiplex.proofs.Deciding.{None, by-tests}
 use Rattle.multiplex.proofs.Holding.{orderly-put}
 use Rattle.multiplex.proofs.Theorems.{order-kept}
 
-pub refusal-none : (i : ℕ) (b : Bool) (l : List Test) → refusal (i when b ∷ l) ≡ told tt → (b ≡ false) × (refusal l ≡ told tt)
-refusal-none i true l e = absurd (let z : _≡_ {A = ℕ} 0 1 = cc in omega arith)
-refusal-none i false l e = (refl, e)
-
-pub checked-keeps : {A X : Type 0} (P : X → Type 0) (x : X) (l : List Test) (e : Ended A X) → P x → (refusal l ≡ told tt → P (e .left))
+checked-keeps : {A X : Type 0} (P : X → Type 0) (x : X) (l : List Test) (e : Ended A X) → P x → (None l → P (e .left))
     → P (checked (refusing x) l e .left)
-checked-keeps P x [] e p f = f refl
-checked-keeps P x ((i when true) ∷ l) e p f = p
-checked-keeps P x ((i when false) ∷ l) e p f = checked-keeps P x l e p f
+checked-keeps P x l e p f = by-tests (λ r. P (r .left)) (refusing x) l e (λ k. p) f
 
 abbrev Waits : Channels → Type 0
 Waits s = (p : ℕ) → channelAt s p .waiting ≤ longest
@@ -84,28 +78,27 @@ module _ (x : Link) (h : Sound x) where
     entries = h .entries;
   }
 
-  inside : (n : ℕ) (l : List Test) (k : ℕ) → refusal (k when not (isIn s n) ∷ l) ≡ told tt → placeOf s n < 16
-  inside n l k e = ltb-true (placeOf s n) 16 (not-false (isIn s n) (refusal-none k (not (isIn s n)) l e .0))
+  inside : (n : ℕ) → not (isIn s n) ≡ false → placeOf s n < 16
+  inside n e = ltb-true (placeOf s n) 16 (not-false (isIn s n) e)
 
   opening : (n : ℕ) (g : Bool) → Sound (calls.with x (opened s n g .left))
   unfolding opened
   opening n g =
       checked-keeps {A = Unit {0}} (λ r. Sound (calls.with x r)) s (13 when isIn s n ∷ 12 when leb places (freePlace s) ∷ []) (leaving tt (put s (freePlace s) (fresh n g))) h
-      λ e. let free = refusal-none 12 (leb places (freePlace s)) [] (refusal-none 13 (isIn s n) (12 when leb places (freePlace s) ∷ []) e .1) .0 in
-      sound-put (freePlace s) (fresh n g) (leb-false 16 (freePlace s) free) (omega arith) (λ q. refl) (omega arith)
+      λ e. sound-put (freePlace s) (fresh n g) (leb-false 16 (freePlace s) (e .1 .0)) (omega arith) (λ q. refl) (omega arith)
 
   closing : (n : ℕ) → Sound (calls.with x (closed s n .left))
   unfolding closed
   closing n =
       checked-keeps {A = Unit {0}} (λ r. Sound (calls.with x r)) s (5 when not (isIn s n) ∷ 14 when eqb n 0 ∷ []) (leaving tt (put s (placeOf s n) vacant)) h
-      λ e. sound-put (placeOf s n) vacant (inside n (14 when eqb n 0 ∷ []) 5 e) (omega arith) (λ q. refl) (omega arith)
+      λ e. sound-put (placeOf s n) vacant (inside n (e .0)) (omega arith) (λ q. refl) (omega arith)
 
   resetting : (n : ℕ) → Sound (calls.with x (reset s n .left))
   unfolding reset
   resetting n =
       let c = numbered (holding (channelAt s (placeOf s n)) 0) 0 0 in
       checked-keeps {A = Unit {0}} (λ r. Sound (calls.with x r)) s (5 when not (isIn s n) ∷ []) (leaving tt (put s (placeOf s n) c)) h
-      λ e. sound-put (placeOf s n) c (inside n [] 5 e) (omega arith) (λ q. refl) (h .waits (placeOf s n))
+      λ e. sound-put (placeOf s n) c (inside n (e .0)) (omega arith) (λ q. refl) (h .waits (placeOf s n))
 
   posting : (n : ℕ) (u : List ℕ)
       → let r = posted s (x .waiting) n u .left in
@@ -114,21 +107,20 @@ module _ (x : Link) (h : Sound x) where
   posting n u =
       checked-keeps {A = Unit {0}} (λ (r : Post). Sound (record { channels = r .channels; held = x .held; waiting = r .octets; table = x .table }))
       (record { channels = s; octets = x .waiting })
-      (2 when not (isUnit u) ∷ 5 when not (isIn s n) ∷ 11 when leb 1 (channelAt s (placeOf s n) .waiting) ∷ [])
+      (postTests s n u)
       (leaving tt (record { channels = put s (placeOf s n) (waiting (channelAt s (placeOf s n)) (length u)); octets = written (x .waiting) (longest * placeOf s n + (longest - length u)) u }))
       h accepted
     where
-      accepted : refusal (2 when not (isUnit u) ∷ 5 when not (isIn s n) ∷ 11 when leb 1 (channelAt s (placeOf s n) .waiting) ∷ []) ≡ told tt
+      accepted : None (postTests s n u)
           → Sound (record {
             channels = put s (placeOf s n) (waiting (channelAt s (placeOf s n)) (length u));
             held = x .held;
             waiting = written (x .waiting) (longest * placeOf s n + (longest - length u)) u;
             table = x .table;
           })
-      accepted e =
-          let a = refusal-none 2 (not (isUnit u)) (5 when not (isIn s n) ∷ 11 when leb 1 (channelAt s (placeOf s n) .waiting) ∷ []) e in
-          let p = inside n (11 when leb 1 (channelAt s (placeOf s n) .waiting) ∷ []) 5 (a .1) in
-          let t = leb-true (length u) longest (both-true (leb 1 (length u)) (leb (length u) longest) (not-false (isUnit u) (a .0)) .1) in
+      accepted none =
+          let p = inside n (search none) in
+          let t = leb-true (length u) longest (both-true (leb 1 (length u)) (leb (length u) longest) (not-false (isUnit u) (search none)) .1) in
           let o = h .orderly in
           record {
             orderly = orderly-put o p (waiting (channelAt s (placeOf s n)) (length u)) (x .held) (o .bounded (placeOf s n)) (o .whole (placeOf s n)) (o .room);
@@ -143,14 +135,11 @@ module _ (x : Link) (h : Sound x) where
       checked-keeps {A = Unit {0}} (λ (t : List ℕ). Sound (record { channels = s; held = x .held; waiting = x .waiting; table = t })) (x .table)
       (4 when ltb highestCode c ∷ 14 when eqb c 0 ∷ 10 when not (isEntry e) ∷ []) (leaving tt (table.placed (x .table) c e)) h accepted
     where
-      accepted : refusal (4 when ltb highestCode c ∷ 14 when eqb c 0 ∷ 10 when not (isEntry e) ∷ []) ≡ told tt
+      accepted : None (4 when ltb highestCode c ∷ 14 when eqb c 0 ∷ 10 when not (isEntry e) ∷ [])
           → Sound (record { channels = s; held = x .held; waiting = x .waiting; table = table.placed (x .table) c e })
-      accepted q =
-          let a = refusal-none 4 (ltb highestCode c) (14 when eqb c 0 ∷ 10 when not (isEntry e) ∷ []) q in
-          let b = refusal-none 14 (eqb c 0) (10 when not (isEntry e) ∷ []) (a .1) in
-          let d = refusal-none 10 (not (isEntry e)) [] (b .1) in
-          let small = entry-length e (not-false (isEntry e) (d .0)) in
-          let code = ltb-false 15 c (a .0) in
+      accepted none =
+          let small = entry-length e (not-false (isEntry e) (none .1 .1 .0)) in
+          let code = ltb-false 15 c (none .0) in
           record {
             orderly = h .orderly;
             waits = h .waits;
@@ -166,7 +155,7 @@ module _ (x : Link) (h : Sound x) where
   unfolding layers.sending
   sending n has u out =
       checked-keeps (λ (r : layers.Lent). Sound (calls.with x (r .channels))) (record { channels = s; output = out }) (5 when not (isIn s n) ∷ []) _ h
-      λ e. by (al2.sent (layers.numberAs has (channelAt s (placeOf s n))) u out .answer) has (inside n [] 5 e)
+      λ e. by (al2.sent (layers.numberAs has (channelAt s (placeOf s n))) u out .answer) has (inside n (e .0))
     where
       by : (t : Told ℕ) (b : Bool) → placeOf s n < 16
           → Sound (calls.with x (layers.sentBy (record { channels = s; output = out }) (placeOf s n) (layers.risen b (channelAt s (placeOf s n))) t (al2.sent (layers.numberAs has (channelAt s (placeOf s n))) u out .left) .left .channels))
@@ -178,7 +167,7 @@ module _ (x : Link) (h : Sound x) where
   unfolding layers.taking
   taking n has w =
       checked-keeps (λ (r : Channels). Sound (calls.with x r)) s (5 when not (isIn s n) ∷ []) _ h
-      λ e. by (al2.received has w (channelAt s (placeOf s n) .expected)) (inside n [] 5 e)
+      λ e. by (al2.received has w (channelAt s (placeOf s n) .expected)) (inside n (e .0))
     where
       by : (t : Told al2.Receipt) → placeOf s n < 16 → Sound (calls.with x (layers.takenBy s (placeOf s n) (channelAt s (placeOf s n)) t .left))
       by (refused k) p = h
@@ -255,15 +244,7 @@ module _ (x : demux.Lent) (t : List ℕ) (c : ℕ) (mark : Bool) (xs : List ℕ)
   d = demux.delivery (x .channels) (x .held) mark (placed (x .channels) l) xs
 
   abbrev tests : List Test
-  tests =
-      2 when ltb 255 (length xs)
-      ∷ 4 when not (isDefined t c)
-      ∷ 6 when ltb (octetsOf l) (length xs)
-      ∷ 5 when not (allOpen (x .channels) l)
-      ∷ 7 when (mark && not (channelAt (x .channels) (lastPlace (placed (x .channels) l)) .segmentable))
-      ∷ 8 when not (demux.fits (x .channels) (placed (x .channels) l))
-      ∷ 3 when demux.tooSmall d (x .output) (x .units)
-      ∷ []
+  tests = demux.callTests t c xs ++ demux.slotTests x l xs ++ demux.pieceTests x mark (placed (x .channels) l) xs
 
   waits-demux : Waits (x .channels) → Waits (demux.demultiplexed x t c mark xs .left .channels)
   unfolding demux.demultiplexed demux.sorted demux.delivered
