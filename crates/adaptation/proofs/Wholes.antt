@@ -48,7 +48,7 @@ fieldLength-most false = omega arith
 module _ (n : Number) (u : List ℕ) (m : ℕ) (e : m ≡ length (field n)) where
   pub whole-length : length (whole n u) ≡ m + length u + 1
   unfolding eight
-  whole-length = rw e (length-append (field n ++ u) _ ∙ ap₂ _+_ (length-append (field n) u) (check-length eight (field n ++ u)))
+  whole-length = rw e (length-append (field n ++ u) _ ∙ ap₂ _+_ (length-append (field n) u) (check-length eight _))
 
   module _ (out : List ℕ) where
     pub sent-empty : length u ≡ 0 → sent n u out ≡ refusing out 2
