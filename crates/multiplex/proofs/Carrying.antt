@@ -11,7 +11,7 @@
 --
 -- Assumes nothing.
 use mathlib.Core.Path.{_≡_, refl, sym, ap, ap₂, subst, _∙_}
-use mathlib.Core.Bool.{Bool, true, false, cond, not, _&&_, _||_}
+use mathlib.Core.Bool.{Bool, true, false, cond, not, _&&_, _||_, or-true}
 use mathlib.Core.List.{List, [], _∷_, _++_}
 use Prim.Native.Nat.{ℕ, _+_, _*_, _≤_, _<_}
 use native.Mathlib.Omega.{arith}
@@ -71,10 +71,6 @@ pub record Step (s : Channels) (w : List ℕ) (r : Delivery) (p k : ℕ) (r′ :
   pub octets : length (r′ .octets) ≤ length (r .octets) + k
   pub count : r′ .count ≤ r .count + 1
   pub alike : seats (r .channels) ≡ seats (r′ .channels)
-
-or-true : (a : Bool) → (a || true) ≡ true
-or-true true = refl
-or-true false = refl
 
 module _ {s : Channels} {w : List ℕ} {sent base : List UnitOn} {r : Delivery} (o : Sound s w sent base r) (n p : ℕ) (place : placeOf s n ≡ p) (inside : p < 16) (k : ℕ) (most : k ≤ waits (channelAt s p)) where
   abbrev x : List ℕ

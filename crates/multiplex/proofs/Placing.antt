@@ -3,7 +3,6 @@
 --   place-most               a place is at most 16
 --   in-met, in-missed        `allIn` behind place j, where the number there is open, and where it is not
 --   in-end                   .. and behind the last
---   and-false, and-true      a test and one that is decided
 --   mapped-at                what is mapped to place j and not behind it, with place j mapped too
 --   sought, sought-place     a search by number finds a channel's place
 --   in-placed                where all are open, each place is below 16
@@ -31,14 +30,6 @@ use Rattle.multiplex.proofs.Search.{first-most}
 pub place-most : (s : Channels) (n : ℕ) → length (s .at) ≡ 16 → placeOf s n ≤ 16
 unfolding placeOf
 place-most s n e = omega (arith, first-most (isChannel n) (s .at))
-
-pub and-false : (b : Bool) → (b && false) ≡ false
-and-false true = refl
-and-false false = refl
-
-pub and-true : (b : Bool) → (b && true) ≡ b
-and-true true = refl
-and-true false = refl
 
 module _ (s : Channels) (l : List ℕ) (j : ℕ) where
   in-at : j < length l → allIn s (drop j l) ≡ (isIn s (getD l j 0) && allIn s (drop (j + 1) l))

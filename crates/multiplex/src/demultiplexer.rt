@@ -83,6 +83,7 @@ fn at_once(c: Channel, k: usize) -> usize
     if c.segmentable { 0 } else { k }
 }
 
+// What the dry run tells.
 fn told(fits: bool, channels: Channels, octets: usize, units: usize) -> Counted
     ensures { λ r. ⌜ r ≡ record { fits = fits; tally = record { channels = channels; octets = octets; units = units } } ⌝ }
 {

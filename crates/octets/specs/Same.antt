@@ -8,7 +8,7 @@
 --
 -- Assumes nothing.
 use mathlib.Core.Path.{_≡_, refl, ap, ap₂, _∙_}
-use mathlib.Core.Bool.{Bool, true, false, _&&_}
+use mathlib.Core.Bool.{Bool, true, false, _&&_, and-false}
 use mathlib.Core.List.{List, [], _∷_}
 use Prim.Native.Nat.{ℕ, suc, _<_}
 use borrow.Author.Tests.{eq-eqb}
@@ -37,10 +37,6 @@ same-equal (a ∷ u) (b ∷ v) t =
 pub same-at : (u v : List ℕ) (j : ℕ) → j < length u → j < length v
     → same (drop j u) (drop j v) ≡ (eqb (getD u j 0) (getD v j 0) && same (drop (suc j) u) (drop (suc j) v))
 same-at u v j h k = ap₂ same (drop-cons u j 0 h) (drop-cons v j 0 k)
-
-and-false : (b : Bool) → (b && false) ≡ false
-and-false true = refl
-and-false false = refl
 
 pub same-lengths : (u v : List ℕ) → (length u ≡ length v → ⊥) → same u v ≡ false
 same-lengths [] [] h = absurd (h refl)

@@ -3,7 +3,7 @@ use borrow.Author.Needs.{needs}
 use mathlib.Core.Path.{_≡_, refl, sym, ap, _∙_}
 use mathlib.Core.Logic.{⊎-elim}
 use mathlib.Core.List.{map, _++_, append-nil}
-use mathlib.Core.Bool.{Bool, _&&_}
+use mathlib.Core.Bool.{Bool, _&&_, and-true, and-false}
 use Prim.Native.Nat.{_+_, _-_, _≤_}
 use native.Mathlib.Omega.{arith}
 use lib.Dec.{eqb}
@@ -13,7 +13,7 @@ use Rattle.multiplex.specs.declared.channels.Channels.{Channels}
 use Rattle.multiplex.specs.Search.{first}
 use Rattle.multiplex.specs.Channels.{placeOf, numberOf}
 use Rattle.multiplex.specs.Pieces.{allIn}
-use Rattle.multiplex.proofs.Placing.{place-most, in-met, in-missed, in-end, mapped-at, sought-place, and-false, and-true}
+use Rattle.multiplex.proofs.Placing.{place-most, in-met, in-missed, in-end, mapped-at, sought-place}
 use Rattle.multiplex.proofs.places.find.Statement.{statement}
 use Rattle.multiplex.proofs.places.find.Tie as tie
 
