@@ -1,7 +1,6 @@
 // What the benchmark times: payloads of 255 octets, each from the same state. No host calls these entries.
-use multiplex::channels;
-use multiplex::channels::ChannelNumber;
-use multiplex::channels::Channels;
+use channels::ChannelNumber;
+use channels::Channels;
 use multiplex::demultiplexer;
 use multiplex::demultiplexer::Finished;
 use multiplex::multiplexer;

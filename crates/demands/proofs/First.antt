@@ -27,13 +27,13 @@ use Rattle.adaptation.specs.declared.Length.{Length}
 use Rattle.adaptation.specs.declared.Length.the-variants as length
 use Rattle.adaptation.specs.declared.al1m.Received.{Received}
 use Rattle.adaptation.specs.declared.al1m.Received.the-variants as al1m
-use Rattle.multiplex.specs.declared.channels.Channel.{Channel}
-use Rattle.multiplex.specs.declared.channels.Channels.{Channels}
+use Rattle.channels.specs.declared.Channel.{Channel}
+use Rattle.channels.specs.declared.Channels.{Channels}
 use Rattle.table.specs.Table.{replaced}
-use Rattle.multiplex.specs.Channels.{placeOf, isIn, channelAt, put, opened, closed, reset, posted}
+use Rattle.channels.specs.Channels.{placeOf, isIn, channelAt, put, opened, closed, reset, posted}
 use Rattle.multiplex.specs.Demultiplexer as demux
 use Rattle.multiplex.specs.Multiplexer as mux
-use Rattle.multiplex.specs.Layers as layers
+use Rattle.channels.specs.Layers as layers
 use Rattle.demands.specs.Answers.{Refuses, alone, judged, Demand1}
 
 told-refused : {A : Type 0} (a : A) (k : ℕ) → _≡_ {A = Told A} (told a) (refused k) → ⊥

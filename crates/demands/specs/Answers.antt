@@ -28,12 +28,12 @@ use Rattle.adaptation.specs.declared.al1m.Received.the-variants as al1m
 use Rattle.table.specs.Form.{isEntry}
 use Rattle.table.specs.Slots.{Slot, endless, pieces, octetsOf}
 use Rattle.table.specs.Table.{highestCode, entryOf, isDefined, replaced}
-use Rattle.multiplex.specs.declared.channels.Channels.{Channels}
-use Rattle.multiplex.specs.Channels.{places, placeOf, freePlace, isIn, channelAt, isUnit, opened, closed, reset, posted}
+use Rattle.channels.specs.declared.Channels.{Channels}
+use Rattle.channels.specs.Channels.{places, placeOf, freePlace, isIn, channelAt, isUnit, opened, closed, reset, posted}
 use Rattle.multiplex.specs.Pieces.{Piece, placed, allOpen, lastPlace, total}
 use Rattle.multiplex.specs.Demultiplexer as demux
 use Rattle.multiplex.specs.Multiplexer as mux
-use Rattle.multiplex.specs.Layers as layers
+use Rattle.channels.specs.Layers as layers
 
 pub record Refuses {A X : Type 0} (d : Ended A X) (l : List Test) (x : X) : Type 0 where
   pub exactly : (k : ℕ) → d .answer ≡ refused k ↔ (refusal l ≡ refused k)

@@ -8,9 +8,9 @@ use adaptation::Badge;
 use adaptation::al1::Passed;
 use adaptation::al1m;
 use adaptation::al2;
-use multiplex::channels::ChannelNumber;
-use multiplex::channels::Channels;
-use multiplex::layers;
+use channels::ChannelNumber;
+use channels::Channels;
+use channels::layers;
 
 // What became of a unit: its badge's column, or 0 where it was not handed up; how many octets were repaired; whether it is what was
 // sent; and the channels behind it.

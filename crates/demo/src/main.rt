@@ -8,7 +8,7 @@ mod show; // show.rt: the table
 mod tally; // tally.rt: what was counted
 mod way; // way.rt: payloads, and the damage to them
 
-use multiplex::channels::Channels;
+use channels::Channels;
 use tally::Tally;
 use way::Call;
 

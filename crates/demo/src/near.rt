@@ -2,11 +2,10 @@
 use crate::plan;
 use adaptation::Length;
 use adaptation::al1m;
-use multiplex::channels;
-use multiplex::channels::ChannelNumber;
-use multiplex::channels::Channels;
-use multiplex::layers;
-use multiplex::layers::Sent;
+use channels::ChannelNumber;
+use channels::Channels;
+use channels::layers;
+use channels::layers::Sent;
 
 // The octet i of a channel's unit.
 fn octet(channel: u16, round: usize, i: usize) -> u8 {

@@ -5,7 +5,7 @@ use crate::payload;
 use crate::units;
 use crate::words;
 use crate::words::Words;
-use multiplex::channels::Channels;
+use channels::Channels;
 
 // Calls that have no state; whether this is one.
 fn coding_call(line: &[u8], w: Words) -> bool {

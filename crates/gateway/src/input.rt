@@ -1,8 +1,7 @@
 // Lines, from a file of any length: one line at a time is in memory.
 use crate::answer;
 use crate::call;
-use multiplex::channels;
-use multiplex::channels::Channels;
+use channels::Channels;
 
 // The line that is being read: how many octets of it stand in the lent line, and whether it is longer than the longest that is read;
 // and the channels as the calls before it left them.

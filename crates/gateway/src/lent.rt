@@ -1,11 +1,11 @@
 // The library's calls that write to a lent buffer, with as much of it lent as the line names.
 use adaptation::Length;
 use adaptation::al1m;
-use multiplex::channels::ChannelNumber;
-use multiplex::channels::Channels;
+use channels::ChannelNumber;
+use channels::Channels;
+use channels::layers;
 use multiplex::demultiplexer;
 use multiplex::demultiplexer::Delivered;
-use multiplex::layers;
 use multiplex::multiplexer;
 use multiplex::multiplexer::Sending;
 use table::Code;

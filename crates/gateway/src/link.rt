@@ -7,9 +7,8 @@ use crate::words::Named;
 use crate::words::Number;
 use crate::words::Octets;
 use crate::words::Words;
-use multiplex::channels;
-use multiplex::channels::After;
-use multiplex::channels::Channels;
+use channels::After;
+use channels::Channels;
 use table::Code;
 use table::Outcome;
 

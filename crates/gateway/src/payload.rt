@@ -6,9 +6,9 @@ use crate::words;
 use crate::words::Number;
 use crate::words::Octets;
 use crate::words::Words;
-use multiplex::channels::Channels;
+use channels::Channels;
+use channels::layers;
 use multiplex::demultiplexer::Finished;
-use multiplex::layers;
 use multiplex::multiplexer::Sent;
 use table::Code;
 

@@ -9,8 +9,8 @@ use crate::words::Number;
 use crate::words::Octets;
 use crate::words::Words;
 use adaptation::al2;
-use multiplex::channels::Channels;
-use multiplex::layers;
+use channels::Channels;
+use channels::layers;
 
 // Whether units have the number, where word 2 says so.
 enum Kind {

@@ -1,6 +1,6 @@
 // A line's words, and what they say.
 ghost use Prim.Native.Nat.{_≤_};
-use multiplex::channels::ChannelNumber;
+use channels::ChannelNumber;
 
 // Where a line's words stand: how many there are, as far as nine; where the last one ends; and from where to where the first eight go.
 pub struct Words {

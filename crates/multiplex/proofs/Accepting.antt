@@ -20,8 +20,8 @@ use Rattle.adaptation.specs.Refusal.{Ended, leaving}
 use Rattle.table.specs.Slots.{Slot, pieces, octetsOf, cut}
 use Rattle.table.specs.Laws.{cut-octets, pieces-filled, pieces-most, pieces-cut}
 use Rattle.table.specs.Table.{entryOf, isDefined}
-use Rattle.multiplex.specs.declared.channels.Channels.{Channels}
-use Rattle.multiplex.specs.Channels.{channelAt}
+use Rattle.channels.specs.declared.Channels.{Channels}
+use Rattle.channels.specs.Channels.{channelAt}
 use Rattle.multiplex.specs.Pieces.{Piece, placed, allOpen, lastPlace, total}
 use Rattle.multiplex.specs.Demultiplexer.{Delivery, Lent, nothing, fits, delivery, tooSmall, writes, delivered, sorted, demultiplexed}
 use Rattle.multiplex.specs.Multiplexer.{Walk, walked, gathered}

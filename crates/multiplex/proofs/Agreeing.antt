@@ -21,9 +21,9 @@ use lib.Dec.{eqb, ltb}
 use lib.ListN.{length}
 use Rattle.table.specs.Slots.{Slot, cut, octetsOf}
 use Rattle.table.specs.Laws.{Filled, cut-none}
-use Rattle.multiplex.specs.declared.channels.Channel.{Channel}
-use Rattle.multiplex.specs.declared.channels.Channels.{Channels}
-use Rattle.multiplex.specs.Channels.{channelAt, placeOf, isIn, waits, waiting}
+use Rattle.channels.specs.declared.Channel.{Channel}
+use Rattle.channels.specs.declared.Channels.{Channels}
+use Rattle.channels.specs.Channels.{channelAt, placeOf, isIn, waits, waiting}
 use Rattle.multiplex.specs.Pieces.{Piece, placed, allOpen, total}
 use Rattle.multiplex.specs.Multiplexer.{Walk, isBlocked, goesOn, moved, left, stopped, sending, ending, walked}
 use Rattle.multiplex.proofs.Deciding.{by-test}

@@ -23,13 +23,13 @@ use Rattle.table.specs.Slots.{Slot, pieces}
 use Rattle.table.specs.Form.{longestEntry, isEntry}
 use Rattle.table.specs.Table as table
 use Rattle.table.specs.Table.{highestCode, entryOf, isDefined, replaced}
-use Rattle.multiplex.specs.declared.channels.Channel.{Channel}
-use Rattle.multiplex.specs.declared.channels.Channels.{Channels}
-use Rattle.multiplex.specs.Channels.{places, vacant, fresh, start, placeOf, freePlace, isIn, channelAt, put, holding, waiting, numbered, isUnit, Post, opened, closed, reset, postTests, posted}
+use Rattle.channels.specs.declared.Channel.{Channel}
+use Rattle.channels.specs.declared.Channels.{Channels}
+use Rattle.channels.specs.Channels.{places, vacant, fresh, start, placeOf, freePlace, isIn, channelAt, put, holding, waiting, numbered, isUnit, Post, opened, closed, reset, postTests, posted}
 use Rattle.multiplex.specs.Pieces.{Piece, placed, allOpen, lastPlace, total}
 use Rattle.multiplex.specs.Demultiplexer as demux
 use Rattle.multiplex.specs.Demultiplexer.{Delivery}
-use Rattle.multiplex.specs.Layers as layers
+use Rattle.channels.specs.Layers as layers
 use Rattle.multiplex.specs.Multiplexer as mux
 use Rattle.multiplex.specs.Claims.{Orderly}
 use Rattle.multiplex.specs.Calls as calls

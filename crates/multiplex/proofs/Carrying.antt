@@ -22,9 +22,9 @@ use lib.Seq.{take-at, drop-at}
 use Rattle.adaptation.specs.Handed.{longest}
 use Rattle.table.specs.Slots.{Slot}
 use Rattle.table.specs.Laws.{Filled}
-use Rattle.multiplex.specs.declared.channels.Channel.{Channel}
-use Rattle.multiplex.specs.declared.channels.Channels.{Channels}
-use Rattle.multiplex.specs.Channels.{placeOf, channelAt, holding, isIn, waits, heldOf, waitingOf}
+use Rattle.channels.specs.declared.Channel.{Channel}
+use Rattle.channels.specs.declared.Channels.{Channels}
+use Rattle.channels.specs.Channels.{placeOf, channelAt, holding, isIn, waits, heldOf, waitingOf}
 use Rattle.multiplex.specs.Pieces.{Piece, lastPlace, total}
 use Rattle.multiplex.specs.Demultiplexer.{Delivery, finished, grown, joined, took, tookAll, closed, counted, hasRoom, fits}
 use Rattle.multiplex.specs.Multiplexer.{Walk, isBlocked, goesOn, moved, left, stopped, piece, sending, ending, walked, gathered}

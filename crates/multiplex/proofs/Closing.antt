@@ -28,10 +28,10 @@ use lib.Seq.{length-take-le, getD-set-same}
 use Rattle.octets.specs.Written.{written-length, written-nothing}
 use Rattle.octets.specs.Tests.{both-true}
 use Rattle.adaptation.specs.Handed.{longest}
-use Rattle.multiplex.specs.declared.channels.Channel.{Channel}
-use Rattle.multiplex.specs.declared.channels.Channels.{Channels}
+use Rattle.channels.specs.declared.Channel.{Channel}
+use Rattle.channels.specs.declared.Channels.{Channels}
 use Rattle.multiplex.specs.declared.demultiplexer.Tally.{Tally}
-use Rattle.multiplex.specs.Channels.{vacant, channelAt, holding, heldOf}
+use Rattle.channels.specs.Channels.{vacant, channelAt, holding, heldOf}
 use Rattle.multiplex.specs.Pieces.{Piece, laid, lastPlace, total}
 use Rattle.multiplex.specs.Demultiplexer.{Delivery, joined, finished, took, tookAll, closed, counted, hasRoom, fits, nothing, delivery}
 use Rattle.multiplex.specs.Tally.{noTally, counts, tallied, closing, closes, Draft, noted, putsAll, ends, Within}

@@ -22,7 +22,7 @@ use lib.ListN.{length, take, drop, length-append, length-drop}
 use lib.Seq.{length-take-le}
 use Rattle.octets.specs.Written.{written, written-next}
 use Rattle.multiplex.specs.declared.demultiplexer.Tally.{Tally}
-use Rattle.multiplex.specs.Channels.{channelAt, heldOf}
+use Rattle.channels.specs.Channels.{channelAt, heldOf}
 use Rattle.multiplex.specs.Pieces.{Piece, total}
 use Rattle.multiplex.specs.Demultiplexer.{Delivery, finished, joined, took, tookAll, closed}
 use Rattle.multiplex.specs.Tally.{heldMore, oneUnit, counts, tallied, closing, Draft, entry, gained, noted, puts, putsAll}

@@ -13,8 +13,8 @@ use native.Mathlib.Omega.{arith}
 use lib.ListN.{length, replicate, length-replicate}
 use Rattle.table.specs.Slots.{slots, listSlots, inTurn, elementSlots, cut, pieces}
 use Rattle.table.specs.Table.{entryOf, isDefined}
-use Rattle.multiplex.specs.Search.{first}
-use Rattle.multiplex.specs.Channels.{start, placeOf, posted}
+use Rattle.channels.specs.Search.{first}
+use Rattle.channels.specs.Channels.{start, placeOf, posted}
 use Rattle.multiplex.specs.Pieces.{total}
 use Rattle.multiplex.specs.Demultiplexer.{demultiplexed}
 use Rattle.multiplex.specs.Multiplexer.{walked, packed, multiplexed}

@@ -16,8 +16,8 @@ use native.Mathlib.Omega.{arith}
 use lib.ListN.{length, take, drop, getD, length-drop}
 use lib.Seq.{length-take-le, take-take, getD-take}
 use Rattle.octets.specs.Written.{written, written-length, written-append, written-nothing}
-use Rattle.multiplex.specs.declared.channels.Channels.{Channels}
-use Rattle.multiplex.specs.Channels.{channelAt, waits, waitingFrom, waitingOf}
+use Rattle.channels.specs.declared.Channels.{Channels}
+use Rattle.channels.specs.Channels.{channelAt, waits, waitingFrom, waitingOf}
 use Rattle.multiplex.specs.Pieces.{Piece, laid, total}
 use Rattle.multiplex.specs.Multiplexer.{left, gathered}
 use Rattle.multiplex.specs.Walks.{Sendable}

@@ -19,9 +19,9 @@ use native.Mathlib.Omega.{arith}
 use lib.ListN.{length, take, drop, length-set}
 use Rattle.octets.specs.Written.{written, written-length}
 use Rattle.adaptation.specs.Handed.{longest}
-use Rattle.multiplex.specs.declared.channels.Channel.{Channel}
-use Rattle.multiplex.specs.declared.channels.Channels.{Channels}
-use Rattle.multiplex.specs.Channels.{channelAt, put, holding}
+use Rattle.channels.specs.declared.Channel.{Channel}
+use Rattle.channels.specs.declared.Channels.{Channels}
+use Rattle.channels.specs.Channels.{channelAt, put, holding}
 use Rattle.multiplex.specs.Claims.{Orderly}
 use Rattle.multiplex.proofs.Seats.{put-there, put-elsewhere}
 use Rattle.multiplex.proofs.Parts.{apart, part-elsewhere, part-grown}

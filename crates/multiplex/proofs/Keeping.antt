@@ -26,9 +26,9 @@ use lib.Seq.{length-take-le}
 use Rattle.octets.specs.Tests.{both-true}
 use Rattle.adaptation.specs.Handed.{longest}
 use Rattle.table.specs.Slots.{Slot, copies, octetsOf, channelsOf}
-use Rattle.multiplex.specs.declared.channels.Channel.{Channel}
-use Rattle.multiplex.specs.declared.channels.Channels.{Channels}
-use Rattle.multiplex.specs.Channels.{placeOf, isIn, channelAt, put, holding, heldOf}
+use Rattle.channels.specs.declared.Channel.{Channel}
+use Rattle.channels.specs.declared.Channels.{Channels}
+use Rattle.channels.specs.Channels.{placeOf, isIn, channelAt, put, holding, heldOf}
 use Rattle.multiplex.specs.Pieces.{placed, allOpen, lastPlace}
 use Rattle.multiplex.specs.Demultiplexer.{Delivery, finished, joined, took, tookAll, closed, counted, hasRoom, fits}
 use Rattle.multiplex.specs.Runs.{UnitOn, unitsOn}

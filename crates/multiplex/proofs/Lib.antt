@@ -1,5 +1,4 @@
 pub mod Deciding
-pub mod Search
 pub mod Seats
 pub mod Parts
 pub mod Records
@@ -19,8 +18,6 @@ pub mod Slotting
 pub mod Steps
 pub mod Gathering
 pub mod Packing
-pub mod Layering
-pub mod Placing
 pub mod Tallying
 pub mod Pouring
 pub mod Delivering

@@ -23,9 +23,9 @@ use lib.Dec.{leb}
 use lib.ListN.{length, take, drop}
 use Rattle.octets.specs.Written.{written, written-length, written-part}
 use Rattle.adaptation.specs.Handed.{longest}
-use Rattle.multiplex.specs.declared.channels.Channel.{Channel}
-use Rattle.multiplex.specs.declared.channels.Channels.{Channels}
-use Rattle.multiplex.specs.Channels.{placeOf, channelAt, put, waiting, waits, waitingFrom}
+use Rattle.channels.specs.declared.Channel.{Channel}
+use Rattle.channels.specs.declared.Channels.{Channels}
+use Rattle.channels.specs.Channels.{placeOf, channelAt, put, waiting, waits, waitingFrom}
 use Rattle.multiplex.specs.Runs.{UnitOn, unitsOn}
 use Rattle.multiplex.proofs.Seats.{seat, seats, place-seats, seats-put, seats-length, place-unique, vacant-behind, put-there, put-elsewhere}
 use Rattle.multiplex.proofs.Parts.{apart, part-elsewhere}

@@ -14,8 +14,8 @@ use native.Mathlib.Decide.{ℕ-discrete}
 use native.Mathlib.Omega.{arith}
 use borrow.Author.Tests.{ne-eqb, eq-eqb, not-true}
 use lib.ListN.{length, getD, set, length-set, replicate}
-use Rattle.multiplex.specs.declared.channels.Channels.{Channels}
-use Rattle.multiplex.specs.Channels.{vacant, fresh, start, isChannel, isFree, placeOf, freePlace, channelAt, put}
+use Rattle.channels.specs.declared.Channels.{Channels}
+use Rattle.channels.specs.Channels.{vacant, fresh, start, isChannel, isFree, placeOf, freePlace, channelAt, put}
 use Rattle.multiplex.specs.Runs.{UnitOn, unitsOn}
 use Rattle.multiplex.proofs.Seats.{Seat, seat, first-found, first-set, first-put, vacant-behind, put-there, put-elsewhere}
 use Rattle.multiplex.proofs.Matching.{way, Twin, Matched, full-there}

@@ -25,7 +25,7 @@ use Rattle.table.specs.declared.walk.Laid.{Laid}
 use Rattle.table.specs.Slots.{Slot, pieces}
 use Rattle.table.specs.Laws.{pieces-most}
 use Rattle.table.specs.Lays.{Lays}
-use Rattle.multiplex.specs.declared.channels.Channels.{Channels}
+use Rattle.channels.specs.declared.Channels.{Channels}
 use Rattle.multiplex.specs.declared.multiplexer.Walked.{Walked}
 use Rattle.multiplex.specs.Pieces.{laid, total}
 use Rattle.multiplex.specs.Multiplexer.{Lent, Walk, walked, gathered, packed}

@@ -26,9 +26,9 @@ use lib.ListN.{length, take, drop, length-take, length-drop, length-set, take-ap
 use lib.Seq.{length-take-le, take-all}
 use Rattle.octets.specs.Written.{written}
 use Rattle.adaptation.specs.Handed.{longest}
-use Rattle.multiplex.specs.declared.channels.Channel.{Channel}
-use Rattle.multiplex.specs.declared.channels.Channels.{Channels}
-use Rattle.multiplex.specs.Channels.{placeOf, channelAt, put, waiting, holding, waits, waitingFrom, waitingOf}
+use Rattle.channels.specs.declared.Channel.{Channel}
+use Rattle.channels.specs.declared.Channels.{Channels}
+use Rattle.channels.specs.Channels.{placeOf, channelAt, put, waiting, holding, waits, waitingFrom, waitingOf}
 use Rattle.multiplex.specs.Demultiplexer.{Delivery, finished, joined, closed}
 use Rattle.multiplex.specs.Multiplexer.{left}
 use Rattle.multiplex.specs.Runs.{UnitOn, unitsOn}

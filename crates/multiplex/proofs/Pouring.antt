@@ -20,9 +20,9 @@ use lib.ListN.{length, getD, take, drop, length-drop}
 use lib.Seq.{length-take-le, drop-drop}
 use Rattle.octets.specs.Written.{written}
 use Rattle.adaptation.specs.Handed.{longest}
-use Rattle.multiplex.specs.declared.channels.Channel.{Channel}
+use Rattle.channels.specs.declared.Channel.{Channel}
 use Rattle.multiplex.specs.declared.demultiplexer.Tally.{Tally}
-use Rattle.multiplex.specs.Channels.{channelAt, heldOf}
+use Rattle.channels.specs.Channels.{channelAt, heldOf}
 use Rattle.multiplex.specs.Pieces.{Piece, laid}
 use Rattle.multiplex.specs.Tally.{counts, closing, closes, Draft, entry, gained, noted, heldWith, outputWith, unitsWith, puts, putsAll, ends}
 use Rattle.multiplex.proofs.Tallying.{laid-at, laid-end}

@@ -23,7 +23,7 @@ use lib.Dec.{eqb}
 use lib.ListN.{length, take, drop, length-append}
 use lib.Seq.{take-append-seam, drop-append-seam, drop-drop}
 use Rattle.octets.specs.Written.{written}
-use Rattle.multiplex.specs.declared.channels.Channels.{Channels}
+use Rattle.channels.specs.declared.Channels.{Channels}
 use Rattle.multiplex.specs.Demultiplexer.{Delivery, nothing, finished}
 use Rattle.multiplex.specs.Runs.{UnitOn, unitsOn, unitsIn}
 

@@ -22,8 +22,8 @@ use Rattle.octets.specs.Written.{written}
 use Rattle.adaptation.specs.Refusal.{Ended, leaving, refusing}
 use Rattle.table.specs.Slots.{pieces}
 use Rattle.table.specs.Table.{entryOf, isDefined, replaced}
-use Rattle.multiplex.specs.declared.channels.Channels.{Channels}
-use Rattle.multiplex.specs.Channels.{placeOf, freePlace, channelAt, put, fresh, isIn, isUnit, opened, postTests, posted, Post, waiting}
+use Rattle.channels.specs.declared.Channels.{Channels}
+use Rattle.channels.specs.Channels.{placeOf, freePlace, channelAt, put, fresh, isIn, isUnit, opened, postTests, posted, Post, waiting}
 use Rattle.multiplex.specs.Pieces.{total}
 use Rattle.multiplex.specs.Demultiplexer.{Lent, demultiplexed}
 use Rattle.multiplex.specs.Multiplexer as sending

@@ -29,10 +29,10 @@ use borrow.Author.Tests.{eqb-true}
 use lib.Dec.{eqb}
 use lib.ListN.{length, getD, set, List·getD-map, List·getD-eq-default}
 use lib.Seq.{map-set-same, getD-set-same, getD-set-other}
-use Rattle.multiplex.specs.declared.channels.Channel.{Channel}
-use Rattle.multiplex.specs.declared.channels.Channels.{Channels}
-use Rattle.multiplex.specs.Search.{first}
-use Rattle.multiplex.specs.Channels.{vacant, isChannel, placeOf, freePlace, channelAt, put}
+use Rattle.channels.specs.declared.Channel.{Channel}
+use Rattle.channels.specs.declared.Channels.{Channels}
+use Rattle.channels.specs.Search.{first}
+use Rattle.channels.specs.Channels.{vacant, isChannel, placeOf, freePlace, channelAt, put}
 
 pub record Seat : Type 0 where
   pub taken : Bool

@@ -23,11 +23,11 @@ use Rattle.adaptation.specs.Refusal.{refusing}
 use Rattle.table.specs.declared.walk.Laid.{Laid}
 use Rattle.table.specs.Slots.{Slot, endless, pieces, octetsOf}
 use Rattle.table.specs.Table.{entryOf, isDefined, highestCode}
-use Rattle.multiplex.specs.declared.channels.Channels.{Channels}
-use Rattle.multiplex.specs.Channels.{placeOf, isIn}
-use Rattle.multiplex.specs.Pieces.{laid, placed, allOpen, allIn, total}
+use Rattle.channels.specs.declared.Channels.{Channels}
+use Rattle.channels.specs.Channels.{placeOf, isIn, allIn}
+use Rattle.multiplex.specs.Pieces.{laid, placed, allOpen, total}
 use Rattle.multiplex.specs.Tally.{Within}
-use Rattle.multiplex.proofs.Placing.{in-placed}
+use Rattle.channels.proofs.Placing.{in-placed}
 use Rattle.multiplex.proofs.Laying.{numbersOf, lengthsOf, Slotted}
 use Rattle.multiplex.specs.Demultiplexer.{Lent, delivered, sorted, demultiplexed}
 

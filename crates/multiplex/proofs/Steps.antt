@@ -20,10 +20,10 @@ use native.Mathlib.Omega.{arith}
 use lib.ListN.{length, take, drop, getD, set, length-set}
 use lib.Seq.{length-take-le, take-suc-set, getD-take, getD-set-other}
 use Rattle.table.specs.Slots.{Slot}
-use Rattle.multiplex.specs.declared.channels.Channels.{Channels}
+use Rattle.channels.specs.declared.Channels.{Channels}
 use Rattle.multiplex.specs.declared.multiplexer.Turn.{Turn}
 use Rattle.multiplex.specs.declared.multiplexer.Turn.the-variants.{Stop, On, Last}
-use Rattle.multiplex.specs.Channels.{placeOf, channelAt}
+use Rattle.channels.specs.Channels.{placeOf, channelAt}
 use Rattle.multiplex.specs.Pieces.{Piece, laid, total}
 use Rattle.multiplex.specs.Multiplexer.{left, Walk, stopped, walked}
 use Rattle.multiplex.specs.Walks.{turned, slotted, WalkIs}

@@ -29,10 +29,10 @@ use lib.ListN.{length, getD, drop, drop-of-length-le}
 use lib.Seq.{drop-cons, set-getD}
 use Rattle.octets.specs.Tests.{both-true}
 use Rattle.adaptation.specs.Handed.{longest}
-use Rattle.multiplex.specs.declared.channels.Channel.{Channel}
-use Rattle.multiplex.specs.declared.channels.Channels.{Channels}
+use Rattle.channels.specs.declared.Channel.{Channel}
+use Rattle.channels.specs.declared.Channels.{Channels}
 use Rattle.multiplex.specs.declared.demultiplexer.Tally.{Tally}
-use Rattle.multiplex.specs.Channels.{vacant, channelAt, put}
+use Rattle.channels.specs.Channels.{vacant, channelAt, put}
 use Rattle.multiplex.specs.Pieces.{Piece, laid, total}
 use Rattle.multiplex.specs.Demultiplexer.{counted, roomIn, hasRoom, fits}
 use Rattle.multiplex.specs.Tally.{heldMore, oneUnit, counts, joins, atOnce, tallied}

@@ -17,8 +17,8 @@ use Rattle.adaptation.specs.Refusal.{Told, refused, told, Ended, leaving, refus
 use Rattle.table.specs.Slots.{Slot, pieces, octetsOf, channelsOf}
 use Rattle.table.specs.Laws.{pieces-most}
 use Rattle.table.specs.Table.{entryOf}
-use Rattle.multiplex.specs.declared.channels.Channels.{Channels}
-use Rattle.multiplex.specs.Channels.{placeOf, channelAt, heldOf}
+use Rattle.channels.specs.declared.Channels.{Channels}
+use Rattle.channels.specs.Channels.{placeOf, channelAt, heldOf}
 use Rattle.multiplex.specs.Pieces.{Piece, placed, allOpen, lastPlace}
 use Rattle.multiplex.specs.Demultiplexer.{Lent, Delivery, nothing, fits, tookAll, delivery, writes, callTests, slotTests, pieceTests, delivered, sorted, demultiplexed}
 use Rattle.multiplex.specs.Runs.{UnitOn, unitsOn, unitsIn}

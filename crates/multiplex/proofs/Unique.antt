@@ -28,23 +28,23 @@ use Rattle.adaptation.proofs.Unique.{badge-once, ended-once}
 use Rattle.table.specs.declared.Outcome.{Outcome}
 use Rattle.table.specs.declared.Outcome.the-variants as outcome
 use Rattle.table.specs.Table as table
-use Rattle.multiplex.specs.declared.channels.Channels.{Channels}
-use Rattle.multiplex.specs.declared.channels.After.{After}
+use Rattle.channels.specs.declared.Channels.{Channels}
+use Rattle.channels.specs.declared.After.{After}
 use Rattle.multiplex.specs.declared.multiplexer.Sent.{Sent}
 use Rattle.multiplex.specs.declared.multiplexer.Sent.the-variants as sent
 use Rattle.multiplex.specs.declared.multiplexer.Sending.{Sending}
 use Rattle.multiplex.specs.declared.demultiplexer.Finished.{Finished}
 use Rattle.multiplex.specs.declared.demultiplexer.Finished.the-variants as finished
 use Rattle.multiplex.specs.declared.demultiplexer.Delivered.{Delivered}
-use Rattle.multiplex.specs.declared.layers.Sent as layer
-use Rattle.multiplex.specs.declared.layers.Taken.{Taken}
-use Rattle.multiplex.specs.Channels.{Post, placeOf, channelAt, opened, closed, reset, posted}
+use Rattle.channels.specs.declared.layers.Sent as layer
+use Rattle.channels.specs.declared.layers.Taken.{Taken}
+use Rattle.channels.specs.Channels.{Post, placeOf, channelAt, opened, closed, reset, posted}
 use Rattle.multiplex.specs.Multiplexer as multiplexer
 use Rattle.multiplex.specs.Multiplexer.{Payload, multiplexed}
 use Rattle.multiplex.specs.Demultiplexer as demultiplexer
 use Rattle.multiplex.specs.Demultiplexer.{demultiplexed}
-use Rattle.multiplex.specs.Layers as layers
-use Rattle.multiplex.specs.Layers.{sending, taking, endsTaking}
+use Rattle.channels.specs.Layers as layers
+use Rattle.channels.specs.Layers.{sending, taking, endsTaking}
 
 -- ---- an answer, and what it leaves
 

@@ -16,11 +16,11 @@ use Prim.Native.Nat.{ℕ, _+_, _≤_, _<_, min}
 use native.Mathlib.Omega.{arith}
 use borrow.Author.Tests.{lt-ltb, le-ltb, eq-eqb, ne-eqb, ltb-true, ltb-false}
 use Rattle.table.specs.Slots.{Slot, octetsOf}
-use Rattle.multiplex.specs.declared.channels.Channel.{Channel}
-use Rattle.multiplex.specs.declared.channels.Channels.{Channels}
+use Rattle.channels.specs.declared.Channel.{Channel}
+use Rattle.channels.specs.declared.Channels.{Channels}
 use Rattle.multiplex.specs.declared.multiplexer.Turn.{Turn}
 use Rattle.multiplex.specs.declared.multiplexer.Turn.the-variants.{Stop, On, Last}
-use Rattle.multiplex.specs.Channels.{placeOf, isIn, channelAt, waits}
+use Rattle.channels.specs.Channels.{placeOf, isIn, channelAt, waits}
 use Rattle.multiplex.specs.Pieces.{total}
 use Rattle.multiplex.specs.Multiplexer.{isBlocked, goesOn, moved, left, Walk, stopped, sending, ending, visit, walked}
 use Rattle.multiplex.specs.Walks.{turned, Sendable}

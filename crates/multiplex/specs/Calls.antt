@@ -18,11 +18,11 @@ use Prim.Native.Nat.{ℕ, _≤_}
 use lib.ListN.{length, replicate}
 use Rattle.adaptation.specs.Handed.{longest}
 use Rattle.table.specs.Table.{replaced}
-use Rattle.multiplex.specs.declared.channels.Channels.{Channels}
-use Rattle.multiplex.specs.Channels.{start, channelAt, opened, closed, reset, posted}
+use Rattle.channels.specs.declared.Channels.{Channels}
+use Rattle.channels.specs.Channels.{start, channelAt, opened, closed, reset, posted}
 use Rattle.multiplex.specs.Demultiplexer as demux
 use Rattle.multiplex.specs.Multiplexer as mux
-use Rattle.multiplex.specs.Layers as layers
+use Rattle.channels.specs.Layers as layers
 use Rattle.multiplex.specs.Claims.{Orderly}
 
 pub record Link : Type 0 where

@@ -20,8 +20,8 @@ use Rattle.adaptation.specs.Handed.{longest}
 use Rattle.adaptation.specs.Refusal.{leaving}
 use Rattle.table.specs.Slots.{pieces, channelsOf}
 use Rattle.table.specs.Table.{entryOf}
-use Rattle.multiplex.specs.declared.channels.Channels.{Channels}
-use Rattle.multiplex.specs.Channels.{placeOf, channelAt, heldOf}
+use Rattle.channels.specs.declared.Channels.{Channels}
+use Rattle.channels.specs.Channels.{placeOf, channelAt, heldOf}
 use Rattle.multiplex.specs.Demultiplexer.{Lent, demultiplexed}
 use Rattle.multiplex.specs.Runs.{unitsOn, unitsIn, Demand2, idle, refuser}
 

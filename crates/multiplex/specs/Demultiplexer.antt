@@ -27,11 +27,11 @@ use Rattle.adaptation.specs.Refusal.{Ended, leaving, refusing, Test, _when_, ch
 use Rattle.adaptation.specs.Handed.{longest}
 use Rattle.table.specs.Slots.{Slot, endless, pieces, octetsOf}
 use Rattle.table.specs.Table.{entryOf, isDefined}
-use Rattle.multiplex.specs.declared.channels.Channel.{Channel}
-use Rattle.multiplex.specs.declared.channels.Channels.{Channels}
+use Rattle.channels.specs.declared.Channel.{Channel}
+use Rattle.channels.specs.declared.Channels.{Channels}
 use Rattle.multiplex.specs.declared.demultiplexer.Finished.{Finished}
 use Rattle.multiplex.specs.declared.demultiplexer.Finished.the-variants.{Units, Refused}
-use Rattle.multiplex.specs.Channels.{channelAt, put, holding, heldOf}
+use Rattle.channels.specs.Channels.{channelAt, put, holding, heldOf}
 use Rattle.multiplex.specs.Pieces.{Piece, placed, allOpen, lastPlace}
 
 pub record Delivery : Type 0 where

@@ -1,7 +1,3 @@
-pub mod Search
-pub mod Channels
-pub mod Layers
-pub mod Parts
 pub mod Pieces
 pub mod Demultiplexer
 pub mod Tally

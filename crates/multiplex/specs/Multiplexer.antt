@@ -24,11 +24,11 @@ use Rattle.octets.specs.Written.{written}
 use Rattle.adaptation.specs.Refusal.{Ended, leaving, refusing, _when_, checked}
 use Rattle.table.specs.Slots.{Slot, endless, pieces}
 use Rattle.table.specs.Table.{entryOf, isDefined}
-use Rattle.multiplex.specs.declared.channels.Channel.{Channel}
-use Rattle.multiplex.specs.declared.channels.Channels.{Channels}
+use Rattle.channels.specs.declared.Channel.{Channel}
+use Rattle.channels.specs.declared.Channels.{Channels}
 use Rattle.multiplex.specs.declared.multiplexer.Sent.{Sent}
 use Rattle.multiplex.specs.declared.multiplexer.Sent.the-variants as says
-use Rattle.multiplex.specs.Channels.{channelAt, put, placeOf, isIn, waits, waiting, waitingOf}
+use Rattle.channels.specs.Channels.{channelAt, put, placeOf, isIn, waits, waiting, waitingOf}
 use Rattle.multiplex.specs.Pieces.{Piece, total}
 
 abbrev pub isBlocked : Channel → ℕ → Bool

@@ -12,8 +12,8 @@ use mathlib.Core.Bool.{Bool, true, _&&_}
 use mathlib.Core.List.{List, [], _∷_}
 use Prim.Native.Nat.{ℕ, _+_}
 use Rattle.table.specs.Slots.{Slot}
-use Rattle.multiplex.specs.declared.channels.Channels.{Channels}
-use Rattle.multiplex.specs.Channels.{places, placeOf, isIn}
+use Rattle.channels.specs.declared.Channels.{Channels}
+use Rattle.channels.specs.Channels.{places, placeOf, isIn}
 
 pub record Piece : Type 0 where
   pub place : ℕ
@@ -31,11 +31,6 @@ placed s (x ∷ l) = record { place = placeOf s (x .channel); octets = x .octets
 unfoldable pub allOpen : Channels → List Slot → Bool
 allOpen s [] = true
 allOpen s (x ∷ l) = isIn s (x .channel) && allOpen s l
-
--- .. and of channels given by their numbers
-unfoldable pub allIn : Channels → List ℕ → Bool
-allIn s [] = true
-allIn s (n ∷ l) = isIn s n && allIn s l
 
 unfoldable pub lastPlace : List Piece → ℕ
 lastPlace [] = places

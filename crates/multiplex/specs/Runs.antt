@@ -34,8 +34,8 @@ use lib.Dec.{leb, eqb}
 use lib.ListN.{length, getD, take, drop, replicate}
 use Rattle.adaptation.specs.Refusal.{Told, refused, told, Ended, leaving, refusing}
 use Rattle.table.specs.Table.{replaced}
-use Rattle.multiplex.specs.declared.channels.Channels.{Channels}
-use Rattle.multiplex.specs.Channels.{start, placeOf, channelAt, opened, posted, Post}
+use Rattle.channels.specs.declared.Channels.{Channels}
+use Rattle.channels.specs.Channels.{start, placeOf, channelAt, opened, posted, Post}
 use Rattle.multiplex.specs.Demultiplexer.{Lent, demultiplexed}
 use Rattle.multiplex.specs.Multiplexer as sending
 use Rattle.multiplex.specs.Multiplexer.{Payload, multiplexed}

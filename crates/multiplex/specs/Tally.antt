@@ -23,10 +23,10 @@ use Prim.Native.Nat.{ℕ, _+_, _*_, _<_}
 use lib.ListN.{length, getD, take, drop}
 use Rattle.octets.specs.Written.{written}
 use Rattle.adaptation.specs.Handed.{longest}
-use Rattle.multiplex.specs.declared.channels.Channel.{Channel}
-use Rattle.multiplex.specs.declared.channels.Channels.{Channels}
+use Rattle.channels.specs.declared.Channel.{Channel}
+use Rattle.channels.specs.declared.Channels.{Channels}
 use Rattle.multiplex.specs.declared.demultiplexer.Tally.{Tally}
-use Rattle.multiplex.specs.Channels.{places, channelAt, put, holding, heldOf}
+use Rattle.channels.specs.Channels.{places, channelAt, put, holding, heldOf}
 use Rattle.multiplex.specs.Pieces.{Piece}
 use Rattle.multiplex.specs.Demultiplexer.{grown}
 

@@ -13,12 +13,12 @@ use mathlib.Core.List.{List, [], _∷_}
 use Prim.Native.Nat.{ℕ, _≤_, _<_}
 use lib.ListN.{take}
 use Rattle.table.specs.Slots.{Slot}
-use Rattle.multiplex.specs.declared.channels.Channel.{Channel}
-use Rattle.multiplex.specs.declared.channels.Channels.{Channels}
+use Rattle.channels.specs.declared.Channel.{Channel}
+use Rattle.channels.specs.declared.Channels.{Channels}
 use Rattle.multiplex.specs.declared.multiplexer.Turn.{Turn}
 use Rattle.multiplex.specs.declared.multiplexer.Turn.the-variants.{Stop, On, Last}
 use Rattle.multiplex.specs.declared.multiplexer.Walked.{Walked}
-use Rattle.multiplex.specs.Channels.{places, channelAt, waits}
+use Rattle.channels.specs.Channels.{places, channelAt, waits}
 use Rattle.multiplex.specs.Pieces.{Piece, laid, total}
 use Rattle.multiplex.specs.Multiplexer.{isBlocked, goesOn, moved, left, Walk}
 

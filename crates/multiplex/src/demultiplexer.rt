@@ -1,8 +1,8 @@
 // The demultiplexer: every check first, by value; then the writes.
-use crate::channels::Channel;
-use crate::channels::Channels;
-use crate::places::find;
 use adaptation::LONGEST;
+use channels::Channel;
+use channels::Channels;
+use channels::places::find;
 use table::Code;
 use table::PAYLOAD;
 ghost use mathlib.Core.Path.{_≡_};
@@ -12,7 +12,7 @@ ghost use lib.ListN.{length, getD};
 ghost use Rattle.octets.specs.Written.{written};
 ghost use Rattle.table.specs.Slots.{pieces};
 ghost use Rattle.table.specs.Table.{entryOf};
-ghost use Rattle.multiplex.specs.Channels.{channelAt};
+ghost use Rattle.channels.specs.Channels.{channelAt};
 ghost use Rattle.multiplex.specs.Pieces.{laid, total};
 ghost use Rattle.multiplex.specs.Demultiplexer as the;
 ghost use Rattle.multiplex.specs.Demultiplexer.{roomIn, delivered, sorted, demultiplexed};

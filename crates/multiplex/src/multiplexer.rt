@@ -1,16 +1,16 @@
 // The multiplexer: the walk first, by value; then the writes.
-use crate::channels::Channel;
-use crate::channels::Channels;
-use crate::places::numbers_of;
-use crate::places::seek;
 use adaptation::LONGEST;
+use channels::Channel;
+use channels::Channels;
+use channels::places::numbers_of;
+use channels::places::seek;
 use table::Code;
 use table::PAYLOAD;
 ghost use mathlib.Core.Path.{_≡_};
 ghost use Prim.Native.Nat.{_-_, _≤_};
 ghost use lib.ListN.{length, take};
 ghost use Rattle.octets.specs.Written.{written};
-ghost use Rattle.multiplex.specs.Channels as the;
+ghost use Rattle.channels.specs.Channels as the;
 ghost use Rattle.multiplex.specs.Pieces.{laid, total};
 ghost use Rattle.table.specs.Slots.{pieces};
 ghost use Rattle.table.specs.Table.{entryOf};

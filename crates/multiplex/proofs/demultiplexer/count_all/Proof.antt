@@ -8,7 +8,7 @@ use native.Mathlib.Omega.{arith}
 use lib.ListN.{length, drop, getD}
 use denote.Ref.{now}
 use Rattle.multiplex.specs.declared.demultiplexer.Tally.{Tally}
-use Rattle.multiplex.specs.Channels.{channelAt}
+use Rattle.channels.specs.Channels.{channelAt}
 use Rattle.multiplex.specs.Pieces.{laid}
 use Rattle.multiplex.specs.Demultiplexer.{fits}
 use Rattle.multiplex.specs.Tally.{noTally, tallied}

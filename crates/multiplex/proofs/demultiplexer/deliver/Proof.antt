@@ -1,5 +1,5 @@
 -- The checks come first, by value, so that a refusal finds everything as it came. Assumes nothing.
-use borrow.Author.Needs.{needs}
+use borrow.Author.Needs.{needs, needs}
 use mathlib.Core.Path.{_≡_, sym, ap, ap₂, subst, _∙_}
 use mathlib.Core.List.{List}
 use mathlib.Core.Bool.{true, false, not, _&&_}
@@ -9,7 +9,7 @@ use lib.ListN.{length, length-map}
 use denote.Ref.{now}
 use Rattle.adaptation.specs.Refusal.{leaving}
 use Rattle.multiplex.specs.declared.demultiplexer.Tally.{Tally}
-use Rattle.multiplex.specs.Channels.{channelAt}
+use Rattle.channels.specs.Channels.{channelAt}
 use Rattle.multiplex.specs.Pieces.{Piece, laid, lastPlace}
 use Rattle.multiplex.specs.Demultiplexer.{Delivery, Lent, fits, delivery}
 use Rattle.multiplex.specs.Tally.{noTally, tallied, closes, Draft, ends}
@@ -17,7 +17,6 @@ use Rattle.multiplex.proofs.Pouring.{closes-least, closes-most}
 use Rattle.multiplex.proofs.Delivering.{tallyOf, Even, Room}
 use Rattle.multiplex.proofs.Closing.{within-laid, last-laid, tallied-most, Accepted, held-most, same-tally, poured, delivery-tally, delivery-even, delivery-shown}
 use Rattle.multiplex.proofs.Refusing.{small-octets, small-units, small-not, delivered-mark, delivered-full, delivered-small, delivered-all}
-use borrow.Author.Needs.{needs}
 use Rattle.multiplex.proofs.demultiplexer.deliver.Statement.{statement}
 use Rattle.multiplex.proofs.demultiplexer.deliver.Tie as tie
 

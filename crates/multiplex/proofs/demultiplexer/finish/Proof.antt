@@ -6,7 +6,7 @@ use native.Mathlib.Omega.{arith}
 use lib.ListN.{length, take, drop}
 use denote.Ref.{now}
 use Rattle.multiplex.specs.declared.demultiplexer.Tally.{Tally}
-use Rattle.multiplex.specs.Channels.{channelAt}
+use Rattle.channels.specs.Channels.{channelAt}
 use Rattle.multiplex.specs.Tally.{closing, closes}
 use Rattle.multiplex.proofs.Pouring.{closes-marked, ends-marked, ends-plain, part-exact, part-length}
 use Rattle.multiplex.proofs.demultiplexer.finish.Statement.{statement}

@@ -2,7 +2,7 @@
 use borrow.Author.Needs.{needs}
 use mathlib.Core.Path.{_≡_, sym, _∙_}
 use lib.ListN.{length, length-map, List·getD-eq-default}
-use Rattle.multiplex.specs.Channels.{vacant}
+use Rattle.channels.specs.Channels.{vacant}
 use Rattle.multiplex.proofs.demultiplexer.has_wrong_mark.Statement.{statement}
 use Rattle.multiplex.proofs.demultiplexer.has_wrong_mark.Tie as tie
 

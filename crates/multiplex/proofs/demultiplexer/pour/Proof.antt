@@ -7,9 +7,9 @@ use Prim.Native.Nat.{ℕ, _+_, _*_, _-_, _≤_, _<_}
 use native.Mathlib.Omega.{arith}
 use lib.ListN.{length, take, drop, getD}
 use denote.Ref.{now}
-use Rattle.multiplex.specs.declared.channels.Channel.{Channel}
+use Rattle.channels.specs.declared.Channel.{Channel}
 use Rattle.multiplex.specs.declared.demultiplexer.Tally.{Tally}
-use Rattle.multiplex.specs.Channels.{channelAt, put}
+use Rattle.channels.specs.Channels.{channelAt, put}
 use Rattle.multiplex.specs.Pieces.{laid, total}
 use Rattle.multiplex.specs.Demultiplexer.{roomIn, fits}
 use Rattle.multiplex.specs.Tally.{noTally, joins, atOnce, counts, tallied, Draft, heldWith, outputWith, unitsWith, puts, putsAll}

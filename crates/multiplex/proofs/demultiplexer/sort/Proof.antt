@@ -10,8 +10,8 @@ use lib.Seq.{length-take-le, take-at}
 use denote.Ref.{now}
 use Rattle.table.specs.Slots.{Slot, pieces, octetsOf}
 use Rattle.table.specs.Table.{entryOf}
-use Rattle.multiplex.specs.Channels.{placeOf}
-use Rattle.multiplex.specs.Pieces.{Piece, allIn, allOpen}
+use Rattle.channels.specs.Channels.{placeOf, allIn}
+use Rattle.multiplex.specs.Pieces.{Piece, allOpen}
 use Rattle.multiplex.specs.Demultiplexer.{Lent, delivered}
 use Rattle.multiplex.proofs.Laying.{numbersOf, Slotted, lays-slotted}
 use Rattle.multiplex.proofs.Sorting.{all-open, Found, slotted-found, sorted-long, sorted-closed, sorted-all}

@@ -6,7 +6,7 @@ use native.Mathlib.Omega.{arith}
 use denote.Ref.{now}
 use mathlib.Core.List.{List, _∷_}
 use lib.ListN.{length, take, drop, length-take}
-use Rattle.multiplex.specs.Channels.{channelAt, waits}
+use Rattle.channels.specs.Channels.{channelAt, waits}
 use Rattle.multiplex.specs.Pieces.{Piece, laid}
 use Rattle.multiplex.proofs.Gathering.{Gathering, pieceAt, gathers-at, first-moves, gathers-next, gathers-end}
 use Rattle.multiplex.proofs.multiplexer.gather.Statement.{statement}

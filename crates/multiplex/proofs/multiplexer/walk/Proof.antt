@@ -5,9 +5,9 @@ use Prim.Native.Nat.{_-_, _≤_}
 use native.Mathlib.Omega.{arith}
 use lib.Dec.{eqb}
 use lib.ListN.{getD}
-use Rattle.multiplex.specs.Search.{first}
-use Rattle.multiplex.specs.Channels.{placeOf}
-use Rattle.multiplex.proofs.Placing.{sought-place}
+use Rattle.channels.specs.Search.{first}
+use Rattle.channels.specs.Channels.{placeOf}
+use Rattle.channels.proofs.Placing.{sought-place}
 use Rattle.multiplex.proofs.Seats.{seats, place-seats, seats-put}
 use Rattle.multiplex.proofs.Walking.{turn-on, turn-last}
 use Rattle.multiplex.proofs.Steps.{Walking, begun, ended, closed, blocked, goes, last}

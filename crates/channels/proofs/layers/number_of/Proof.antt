@@ -1,0 +1,13 @@
+-- By whether units have numbers. Assumes nothing.
+use borrow.Author.Needs.{needs}
+use Rattle.channels.proofs.layers.number_of.Statement.{statement}
+use Rattle.channels.proofs.layers.number_of.Tie as tie
+
+returns : tie.Need-returns
+returns c = rw (c .if1 .taken)
+
+returns-2 : tie.Need-returns-2
+returns-2 c = search needs
+
+pub number-of-spec : {M : Type 1} → statement M
+number-of-spec = tie.close (tie.spec returns returns-2)

@@ -1,0 +1,77 @@
+-- Place by place. Assumes nothing.
+use borrow.Author.Needs.{needs}
+use mathlib.Core.Path.{_≡_, sym, _∙_}
+use mathlib.Core.List.{map, _++_, append-nil}
+use Prim.Native.Nat.{_-_, _≤_}
+use lib.ListN.{length, take, drop, length-set, length-map, drop-of-length-le}
+use lib.Seq.{take-all}
+use Rattle.channels.specs.Channels.{numberOf, vacant}
+use Rattle.channels.proofs.Placing.{mapped-at}
+use Rattle.channels.proofs.places.numbers_of.Statement.{statement}
+use Rattle.channels.proofs.places.numbers_of.Tie as tie
+
+abbrev Inv-loop : tie.InvT-loop
+Inv-loop s all₀ i₀ all i = (i ≤ 16) × (length all ≡ 16) × (map numberOf (s .at) ≡ take i all ++ map numberOf (drop i (s .at)))
+
+abbrev μ-loop : tie.MeasureT-loop
+μ-loop s all₀ i₀ all i = 16 - i
+
+len : (c : tie.Start Inv-loop μ-loop) → length (c .args .t1 .at) ≡ 16
+len c = sym (length-map (c .args .t1 .at) _) ∙ c .good .0 .1 .1 .0 .1 .0 .1
+
+loop-holds : tie.Need-loop-holds Inv-loop μ-loop
+loop-holds c = search needs
+
+mul-c : tie.Need-mul-c Inv-loop μ-loop
+mul-c c = search needs
+
+element-copy-out-c : tie.Need-element-copy-out-c Inv-loop μ-loop
+element-copy-out-c c = search needs
+
+number-of-requires : tie.Need-number-of-requires Inv-loop μ-loop
+number-of-requires c κs = search needs
+
+mul-all : tie.Need-mul-all Inv-loop μ-loop
+mul-all c = search needs
+
+array-write-all : tie.Need-array-write-all Inv-loop μ-loop
+array-write-all c = search needs
+
+add-i : tie.Need-add-i Inv-loop μ-loop
+add-i c = search needs
+
+loop-less : tie.Need-loop-less Inv-loop μ-loop
+loop-less c = search needs
+
+loop-again : tie.Need-loop-again Inv-loop μ-loop
+loop-again c =
+    let l = c .before .before .before in
+    let s = l .before .args .t1 in
+    let h = c .before .before .loop-test .taken in (
+      search needs,
+      length-set (l .loop .all) (l .loop .i) (c .number-of .result) ∙ l .loop .inv .1,
+      l .loop .inv .2 ∙ mapped-at numberOf (s .at) vacant (l .loop .all) (l .loop .i) (rw (len (l .before)) h) (rw (l .loop .inv .1) h) ∙ rw (c .number-of .ensures),
+    )
+
+returns : tie.Need-returns Inv-loop μ-loop
+returns c =
+    let l = c .before in
+    let h = c .loop-test .left in
+    sym (l .loop .inv .2 ∙ rw (take-all (l .loop .i) (l .loop .all) (rw (l .loop .inv .1) h), drop-of-length-le (l .before .args .t1 .at) {i = l .loop .i} (rw (len (l .before)) h)) (append-nil (l .loop .all)))
+
+pub numbers-of-spec : {M : Type 1} → statement M
+numbers-of-spec =
+    tie.close
+    (tie.spec
+    Inv-loop
+    μ-loop
+    loop-holds
+    mul-c
+    element-copy-out-c
+    number-of-requires
+    mul-all
+    array-write-all
+    add-i
+    loop-less
+    loop-again
+    returns)

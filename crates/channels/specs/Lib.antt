@@ -1,0 +1,4 @@
+pub mod Search
+pub mod Channels
+pub mod Layers
+pub mod Parts

@@ -1,0 +1,194 @@
+// AL2 by channel, and a finished unit read by its adaptation layer where it lies.
+use crate::Channel;
+use crate::ChannelNumber;
+use crate::Channels;
+use crate::places::place_of;
+use adaptation::Length;
+use adaptation::al1;
+use adaptation::al1m;
+use adaptation::al2;
+use adaptation::al2::Number;
+use adaptation::al2::Received;
+ghost use mathlib.Core.Path.{_≡_};
+ghost use Prim.Native.Nat.{_<_};
+ghost use Rattle.adaptation.specs.Refusal.{ends};
+ghost use Rattle.adaptation.specs.AL1 as passing;
+ghost use Rattle.adaptation.specs.AL2.{unitOf};
+ghost use Rattle.adaptation.specs.Receiving.{Receives};
+ghost use Rattle.channels.specs.Channels as the;
+ghost use Rattle.channels.specs.Channels.{placeOf, channelAt, put};
+ghost use Rattle.channels.specs.Layers.{numberAs, risen, sending, taking, endsTaking};
+ghost use Rattle.channels.specs.Parts.{partAt};
+
+// How many octets an AL2 unit was sent in, or document 01's refusal number; and the channels behind it.
+pub struct Sent {
+    pub length: Length,
+    pub channels: Channels,
+}
+
+// What became of a received AL2 unit, and the channels behind it.
+pub struct Taken {
+    pub received: al2::Received,
+    pub channels: Channels,
+}
+
+// The number that a unit is sent with, where units have one.
+fn number_of(numbered: bool, c: Channel) -> Number
+    ensures { λ r. ⌜ r ≡ numberAs numbered c ⌝ }
+{
+    if numbered {
+        let n = c.sent;
+        return Number::Numbered(n);
+    }
+    Number::Plain
+}
+
+// The channel behind it: the number rises modulo 256.
+fn rise(numbered: bool, c: Channel) -> Channel
+    ensures { λ r. ⌜ r ≡ risen numbered c ⌝ }
+{
+    if numbered {
+        let mut next = c;
+        next.sent = ((c.sent as u16 + 1) % 256) as u8;
+        return next;
+    }
+    c
+}
+
+fn unsent(s: Channels, k: u8) -> Sent
+    ensures { λ r. ⌜ r ≡ record { length = Length.Refused k; channels = s } ⌝ }
+{
+    let length = Length::Refused(k);
+    Sent {
+        length,
+        channels: s,
+    }
+}
+
+// Puts a unit into the front of out, as AL2 sends it on a channel: refusals 5, 2, 3.
+pub fn send(s: Channels, number: ChannelNumber, numbered: bool, unit: &[u8], out: &mut [u8]) -> Sent
+    ensures { λ r. ⌜ ends (r .length) (record { channels = r .channels; output = now (out .exit) })
+        ≡ sending (record { channels = s; output = now (out .entry) }) (number .0) numbered (now (unit .entry)) ⌝ }
+{
+    let n = number.0;
+    let p = place_of(s, n);
+    if 16 <= p {
+        return unsent(s, 5);
+    }
+    let c = s.at[p];
+    match al2::send(number_of(numbered, c), unit, out) {
+        Length::Refused(k) => unsent(s, k),
+        Length::Octets(octets) => {
+            let mut next = s;
+            next.at[p] = rise(numbered, c);
+            let length = Length::Octets(octets);
+            Sent {
+                length,
+                channels: next,
+            }
+        }
+    }
+}
+
+// The channels where the channel at place p expects the number e next.
+fn expect(s: Channels, p: usize, e: u8) -> Channels
+    requires { ⌜ p < 16 ⌝ }
+    ensures { λ r. ⌜ r ≡ put s p (the.numbered (channelAt s p) (channelAt s p .sent) e) ⌝ }
+{
+    let mut c = s.at[p];
+    c.expected = e;
+    let mut next = s;
+    next.at[p] = c;
+    next
+}
+
+fn untaken(s: Channels, k: u8) -> Taken
+    ensures { λ r. ⌜ r ≡ record { received = Received.Refused k; channels = s } ⌝ }
+{
+    let received = Received::Refused(k);
+    Taken {
+        received,
+        channels: s,
+    }
+}
+
+// Receives an AL2 unit on a channel: refusals 5, 2. The unit that is handed up is what al2's `unit` returns.
+pub fn take(s: Channels, number: ChannelNumber, numbered: bool, whole: &[u8]) -> Taken
+    ensures { λ r. ⌜ endsTaking (r .received) (unitOf numbered (now (whole .entry))) (channelAt s (placeOf s (number .0)) .expected) (r .channels)
+        ≡ taking s (number .0) numbered (now (whole .entry)) ⌝ }
+{
+    let n = number.0;
+    let p = place_of(s, n);
+    if 16 <= p {
+        return untaken(s, 5);
+    }
+    let c = s.at[p];
+    let expected = c.expected;
+    let received = al2::receive(whole, numbered, expected);
+    match received {
+        Received::Refused(k) => untaken(s, k),
+        Received::Discarded => Taken {
+            received,
+            channels: expect(s, p, expected),
+        },
+        Received::Unit {
+            badge: _,
+            missing: _,
+            expected: next,
+        } => Taken {
+            received,
+            channels: expect(s, p, next),
+        },
+    }
+}
+
+// The part of output with a finished unit, where the demultiplexer says it lies; an empty part, where that is not within output.
+pub fn unit_at(output: &[u8], start: usize, length: usize) -> &[u8]
+    ensures { λ r. ⌜ now r ≡ partAt (now (output .entry)) start length ⌝ }
+{
+    let n = output.len();
+    if n < start {
+        return &output[..0];
+    }
+    if n - start < length {
+        return &output[..0];
+    }
+    let end = start + length;
+    &output[start..end]
+}
+
+// A finished unit passed by AL1: refusal 2.
+pub fn al1_at(output: &[u8], start: usize, length: usize) -> al1::Passed
+    ensures { λ r. ⌜ passing.says r (partAt (now (output .entry)) start length) ≡ passing.passed (partAt (now (output .entry)) start length) ⌝ }
+{
+    al1::pass(unit_at(output, start, length))
+}
+
+// A finished unit received by AL1M: refusals 1, 2, 3.
+pub fn al1m_at(
+    output: &[u8],
+    start: usize,
+    length: usize,
+    width: u32,
+    e: u32,
+    repair: &mut [u8],
+) -> al1m::Received
+    ensures { λ r. ⌜ Receives width e (partAt (now (output .entry)) start length) (now (repair .entry)) r (now (repair .exit)) ⌝ }
+{
+    al1m::receive(unit_at(output, start, length), width, e, repair)
+}
+
+// A finished unit received by AL2 on its channel: refusals 5, 2.
+pub fn al2_at(
+    s: Channels,
+    number: ChannelNumber,
+    numbered: bool,
+    output: &[u8],
+    start: usize,
+    length: usize,
+) -> Taken
+    ensures { λ r. ⌜ endsTaking (r .received) (unitOf numbered (partAt (now (output .entry)) start length)) (channelAt s (placeOf s (number .0)) .expected) (r .channels)
+        ≡ taking s (number .0) numbered (partAt (now (output .entry)) start length) ⌝ }
+{
+    take(s, number, numbered, unit_at(output, start, length))
+}

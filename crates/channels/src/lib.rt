@@ -1,0 +1,190 @@
+// The channels: small state by value, and beside it, lent, the octets that are held and those that wait.
+pub mod layers; // layers.rt: AL2 by channel, and a finished unit read where it lies
+pub mod places; // places.rt: where channels are
+
+use crate::places::place_of;
+use adaptation::LONGEST;
+use table::Outcome;
+ghost use mathlib.Core.Path.{_≡_};
+ghost use Rattle.table.specs.Table.{ends};
+ghost use Rattle.channels.specs.Channels as the;
+ghost use Rattle.channels.specs.Channels.{freePlace, start, opened, closed, reset, posted};
+
+// A channel's number. It is no multiplex code.
+pub struct ChannelNumber(pub u16);
+
+// One place: whether a channel is open there, and what the calls have to know of it.
+pub struct Channel {
+    pub open: bool,
+    pub segmentable: bool,
+    pub number: u16,
+    pub held: u16,
+    pub waiting: u16,
+    pub sent: u8,
+    pub expected: u8,
+}
+
+pub struct Channels {
+    pub at: [Channel; 16],
+}
+
+// What a call answers, and the channels behind it. (An enum cannot hold an array.)
+pub struct After {
+    pub outcome: Outcome,
+    pub channels: Channels,
+}
+
+// A place that is free.
+fn vacant() -> Channel
+    ensures { λ r. ⌜ r ≡ the.vacant ⌝ }
+{
+    Channel {
+        open: false,
+        segmentable: false,
+        number: 0,
+        held: 0,
+        waiting: 0,
+        sent: 0,
+        expected: 0,
+    }
+}
+
+// A channel just opened.
+fn fresh(number: u16, segmentable: bool) -> Channel
+    ensures { λ r. ⌜ r ≡ the.fresh number segmentable ⌝ }
+{
+    Channel {
+        open: true,
+        segmentable,
+        number,
+        held: 0,
+        waiting: 0,
+        sent: 0,
+        expected: 0,
+    }
+}
+
+// The channels at first: channel 0 is open.
+pub fn new() -> Channels
+    ensures { λ r. ⌜ r ≡ start ⌝ }
+{
+    let free = vacant();
+    let mut at = [free; 16];
+    at[0] = fresh(0, true);
+    Channels { at }
+}
+
+// The first free place, or 16.
+fn free_place(s: Channels) -> usize
+    ensures { λ r. ⌜ r ≡ freePlace s ⌝ }
+{
+    let mut i = 0;
+    while i < 16 {
+        let c = s.at[i];
+        if c.open {
+            i += 1;
+        } else {
+            return i;
+        }
+    }
+    16
+}
+
+fn refused(s: Channels, k: u8) -> After
+    ensures { λ r. ⌜ r ≡ record { outcome = Outcome.Refused k; channels = s } ⌝ }
+{
+    let outcome = Outcome::Refused(k);
+    After {
+        outcome,
+        channels: s,
+    }
+}
+
+fn done(s: Channels) -> After
+    ensures { λ r. ⌜ r ≡ record { outcome = Outcome.Done; channels = s } ⌝ }
+{
+    let outcome = Outcome::Done;
+    After {
+        outcome,
+        channels: s,
+    }
+}
+
+// Opens a channel: refusals 13, 12.
+pub fn open(s: Channels, number: ChannelNumber, segmentable: bool) -> After
+    ensures { λ r. ⌜ ends (r .outcome) (r .channels) ≡ opened s (number .0) segmentable ⌝ }
+{
+    let n = number.0;
+    if place_of(s, n) < 16 {
+        return refused(s, 13);
+    }
+    let p = free_place(s);
+    if 16 <= p {
+        return refused(s, 12);
+    }
+    let mut next = s;
+    next.at[p] = fresh(n, segmentable);
+    done(next)
+}
+
+// Closes a channel, and drops what it holds and what waits there: refusals 5, 14.
+pub fn close(s: Channels, number: ChannelNumber) -> After
+    ensures { λ r. ⌜ ends (r .outcome) (r .channels) ≡ closed s (number .0) ⌝ }
+{
+    let n = number.0;
+    let p = place_of(s, n);
+    if 16 <= p {
+        return refused(s, 5);
+    }
+    if n == 0 {
+        return refused(s, 14);
+    }
+    let mut next = s;
+    next.at[p] = vacant();
+    done(next)
+}
+
+// Drops what a channel holds and starts its AL2 numbers again; what waits stays: refusal 5.
+pub fn restart(s: Channels, number: ChannelNumber) -> After
+    ensures { λ r. ⌜ ends (r .outcome) (r .channels) ≡ reset s (number .0) ⌝ }
+{
+    let n = number.0;
+    let p = place_of(s, n);
+    if 16 <= p {
+        return refused(s, 5);
+    }
+    let mut c = s.at[p];
+    c.held = 0;
+    c.sent = 0;
+    c.expected = 0;
+    let mut next = s;
+    next.at[p] = c;
+    done(next)
+}
+
+// Lets a unit wait on a channel to be sent: refusals 2, 5, 11.
+pub fn post(s: Channels, waiting: &mut [u8; 16384], number: ChannelNumber, unit: &[u8]) -> After
+    ensures { λ r. ⌜ ends (r .outcome) (record { channels = r .channels; octets = now (waiting .exit) })
+        ≡ posted s (now (waiting .entry)) (number .0) (now (unit .entry)) ⌝ }
+{
+    let t = unit.len();
+    if t == 0 {
+        return refused(s, 2);
+    }
+    if LONGEST < t {
+        return refused(s, 2);
+    }
+    let p = place_of(s, number.0);
+    if 16 <= p {
+        return refused(s, 5);
+    }
+    let mut c = s.at[p];
+    if 0 < c.waiting {
+        return refused(s, 11);
+    }
+    octets::write(waiting, LONGEST * p + (LONGEST - t), unit);
+    c.waiting = t as u16;
+    let mut next = s;
+    next.at[p] = c;
+    done(next)
+}

@@ -1,0 +1,70 @@
+// Where channels are: searches by number, for one and for all slots of a payload.
+use crate::Channel;
+use crate::Channels;
+ghost use mathlib.Core.Path.{_≡_};
+ghost use mathlib.Core.List.{map};
+ghost use lib.Dec.{eqb};
+ghost use Rattle.channels.specs.Search.{first};
+ghost use Rattle.channels.specs.Channels.{numberOf, placeOf, allIn};
+
+// A channel's number as a search knows it; 65,536, which is no number, where none is open.
+fn number_of(c: Channel) -> u32
+    ensures { λ r. ⌜ r ≡ numberOf c ⌝ }
+{
+    if c.open { c.number as u32 } else { 65536 }
+}
+
+// The numbers by place: a search then takes no copy of the channels.
+pub fn numbers_of(s: Channels) -> [u32; 16]
+    ensures { λ r. ⌜ r ≡ map numberOf (s .at) ⌝ }
+{
+    let mut all = [0u32; 16];
+    let mut i = 0;
+    while i < 16 {
+        let c = s.at[i];
+        all[i] = number_of(c);
+        i += 1;
+    }
+    all
+}
+
+// The first place of a number, or how many places there are.
+pub fn seek(numbers: &[u32], n: u32) -> usize
+    ensures { λ r. ⌜ r ≡ first (λ m. eqb m n) (now (numbers .entry)) ⌝ }
+{
+    let mut i = 0;
+    while i < numbers.len() {
+        if numbers[i] == n {
+            return i;
+        }
+        i += 1;
+    }
+    i
+}
+
+// The place of an open channel, or 16.
+pub fn place_of(s: Channels, n: u16) -> usize
+    ensures { λ r. ⌜ r ≡ placeOf s n ⌝ }
+{
+    let numbers = numbers_of(s);
+    seek(&numbers, n as u32)
+}
+
+// Puts each channel's place instead of its number, and tells whether all of them are open.
+pub fn find(s: Channels, numbers: &mut [u16]) -> bool
+    ensures { λ r. ⌜ (r ≡ allIn s (now (numbers .entry))) × (now (numbers .exit) ≡ map (placeOf s) (now (numbers .entry))) ⌝ }
+{
+    let seats = numbers_of(s);
+    let mut all = true;
+    let mut j = 0;
+    while j < numbers.len() {
+        let n = numbers[j];
+        let p = seek(&seats, n as u32);
+        if 16 <= p {
+            all = false;
+        }
+        numbers[j] = p as u16;
+        j += 1;
+    }
+    all
+}
