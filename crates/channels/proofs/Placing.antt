@@ -23,7 +23,8 @@ use Rattle.octets.specs.Tests.{both-true}
 use Rattle.channels.specs.declared.Channel.{Channel}
 use Rattle.channels.specs.declared.Channels.{Channels}
 use Rattle.channels.specs.Search.{first}
-use Rattle.channels.specs.Channels.{places, placeOf, isIn, isChannel, numberOf, allIn}
+use Rattle.channels.specs.Channels.{places, placeOf, isIn, isChannel}
+use Rattle.channels.specs.Places.{numberOf, allIn}
 use Rattle.channels.proofs.Search.{first-most}
 
 pub place-most : (s : Channels) (n : ℕ) → length (s .at) ≡ 16 → placeOf s n ≤ 16

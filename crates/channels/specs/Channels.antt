@@ -5,9 +5,7 @@
 --   fresh n g         channel n just opened, segmentable or not
 --   start             the channels at first: channel 0 is open and segmentable
 --   placeOf s n       the place of the open channel n, or 16
---   numberOf c        c's number for a search; where c is not open, one that no channel has
 --   isIn s n          channel n is open
---   allIn s l         .. and so is every one of l
 --   freePlace s       the first free place, or 16
 --   channelAt s p     the channel at place p
 --   put s p c         the channels with c at place p
@@ -55,19 +53,11 @@ isFree c = not (c .«open»)
 unfoldable pub placeOf : Channels → ℕ → ℕ
 placeOf s n = first (isChannel n) (s .at)
 
-abbrev pub numberOf : Channel → ℕ
-numberOf c = cond (c .«open») (c .number) 65536
-
 unfoldable pub freePlace : Channels → ℕ
 freePlace s = first isFree (s .at)
 
 abbrev pub isIn : Channels → ℕ → Bool
 isIn s n = ltb (placeOf s n) places
-
--- every channel of these numbers is open
-unfoldable pub allIn : Channels → List ℕ → Bool
-allIn s [] = true
-allIn s (n ∷ l) = isIn s n && allIn s l
 
 abbrev pub channelAt : Channels → ℕ → Channel
 channelAt s p = getD (s .at) p vacant

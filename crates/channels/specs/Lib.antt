@@ -1,4 +1,5 @@
 pub mod Search
 pub mod Channels
+pub mod Places
 pub mod Layers
 pub mod Parts

@@ -5,7 +5,8 @@ ghost use mathlib.Core.Path.{_≡_};
 ghost use mathlib.Core.List.{map};
 ghost use lib.Dec.{eqb};
 ghost use Rattle.channels.specs.Search.{first};
-ghost use Rattle.channels.specs.Channels.{numberOf, placeOf, allIn};
+ghost use Rattle.channels.specs.Channels.{placeOf};
+ghost use Rattle.channels.specs.Places.{numberOf, allIn};
 
 // A channel's number as a search knows it; 65,536, which is no number, where none is open.
 fn number_of(c: Channel) -> u32

@@ -6,7 +6,7 @@ ghost use Rattle.field.specs.Octet.Table.{Tables};
 ghost use Rattle.codeword.specs.Register.{GeneratorIs, RegisterIs, Turned};
 
 // The coefficients of (x - α) .. (x - α^m), highest first, each from the one above it; zero where unused.
-pub fn generator(m: usize, t: &[u8; 511]) -> [u8; 255]
+pub(crate) fn generator(m: usize, t: &[u8; 511]) -> [u8; 255]
     requires { ⌜ m < 255 ⌝ }
     requires { ⌜ Tables (now t) ⌝ }
     ensures { λ r. ⌜ GeneratorIs m r ⌝ }
@@ -41,7 +41,7 @@ fn turn(p: &mut [u8], g: &[u8], m: usize, a: u8, t: &[u8; 511])
 }
 
 // The remainder of x^m times the message by (x - α) .. (x - α^m), highest coefficient first; zero where unused.
-pub fn parity(message: &[u8], m: usize, t: &[u8; 511]) -> [u8; 255]
+pub(crate) fn parity(message: &[u8], m: usize, t: &[u8; 511]) -> [u8; 255]
     requires { ⌜ m < 255 ⌝ }
     requires { ⌜ Tables (now t) ⌝ }
     ensures { λ r. ⌜ RegisterIs m (now (message .entry)) r ⌝ }

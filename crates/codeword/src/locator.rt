@@ -20,7 +20,7 @@ pub struct Recurrence {
 }
 
 // c[0] s[r] + c[1] s[r - 1] + .. + c[l] s[r - l]: what the recurrence c of length l fails by at r.
-pub fn discrepancy(c: &[u8], s: &[u8], r: usize, l: usize, t: &[u8; 511]) -> u8
+pub(crate) fn discrepancy(c: &[u8], s: &[u8], r: usize, l: usize, t: &[u8; 511]) -> u8
     requires { ⌜ (l ≤ r) × (r < length (now s)) × (l < length (now c)) ⌝ }
     requires { ⌜ Tables (now t) ⌝ }
     ensures { λ d. ⌜ d ≡ discrepancyOf (now (c .entry)) (now (s .entry)) r l ⌝ }
@@ -93,7 +93,7 @@ fn step(
 }
 
 // The shortest recurrence for the first m syndromes.
-pub fn locator(s: &[u8], m: usize, t: &[u8; 511]) -> Recurrence
+pub(crate) fn locator(s: &[u8], m: usize, t: &[u8; 511]) -> Recurrence
     requires { ⌜ (m < 255) × (length (now s) ≡ 255) ⌝ }
     requires { ⌜ Tables (now t) ⌝ }
     ensures { λ r. ⌜ LocatorIs m (now (s .entry)) (r .coefficients) (r .degree) ⌝ }

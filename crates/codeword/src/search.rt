@@ -14,7 +14,7 @@ pub struct Places {
 }
 
 // c[0] + c[1] x + .. + c[n - 1] x^(n - 1), by Horner's rule.
-pub fn horner(c: &[u8], n: usize, x: u8, t: &[u8; 511]) -> u8
+pub(crate) fn horner(c: &[u8], n: usize, x: u8, t: &[u8; 511]) -> u8
     requires { ⌜ n ≤ length (now c) ⌝ }
     requires { ⌜ Tables (now t) ⌝ }
     ensures { λ r. ⌜ r ≡ valueOf (now (c .entry)) n x ⌝ }
@@ -29,7 +29,7 @@ pub fn horner(c: &[u8], n: usize, x: u8, t: &[u8; 511]) -> u8
 }
 
 // The inverse of the locator of place p of n.
-pub fn inverse_locator(n: usize, p: usize, t: &[u8; 511]) -> u8
+pub(crate) fn inverse_locator(n: usize, p: usize, t: &[u8; 511]) -> u8
     requires { ⌜ (p < n) × (n ≤ 255) ⌝ }
     requires { ⌜ Tables (now t) ⌝ }
     ensures { λ r. ⌜ r ≡ octet (inverses n p) ⌝ }
@@ -38,7 +38,7 @@ pub fn inverse_locator(n: usize, p: usize, t: &[u8; 511]) -> u8
 }
 
 // All places of n at the inverse of whose locator the polynomial c, of degree at most l, is zero.
-pub fn search(c: &[u8], l: usize, n: usize, t: &[u8; 511]) -> Places
+pub(crate) fn search(c: &[u8], l: usize, n: usize, t: &[u8; 511]) -> Places
     requires { ⌜ (l < length (now c)) × (n ≤ 255) ⌝ }
     requires { ⌜ Tables (now t) ⌝ }
     ensures { λ r. ⌜ SearchIs n n l (now (c .entry)) (r .at) (r .count) ⌝ }

@@ -34,7 +34,7 @@ fn absorb(s: &mut [u8], x: &[u8], m: usize, a: u8, t: &[u8; 511])
 }
 
 // The m syndromes of a word; zero where unused.
-pub fn syndromes(word: &[u8], m: usize, t: &[u8; 511]) -> [u8; 255]
+pub(crate) fn syndromes(word: &[u8], m: usize, t: &[u8; 511]) -> [u8; 255]
     requires { ⌜ m < 255 ⌝ }
     requires { ⌜ Tables (now t) ⌝ }
     ensures { λ r. ⌜ SyndromesAre m (now (word .entry)) r ⌝ }
@@ -50,7 +50,7 @@ pub fn syndromes(word: &[u8], m: usize, t: &[u8; 511]) -> [u8; 255]
 }
 
 // Whether the first m octets are zero: the word is a code word.
-pub fn clean(s: &[u8], m: usize) -> bool
+pub(crate) fn clean(s: &[u8], m: usize) -> bool
     requires { ⌜ m ≤ length (now s) ⌝ }
     ensures { λ r. ⌜ r ≡ allZero m (now (s .entry)) ⌝ }
 {

@@ -8,7 +8,7 @@ ghost use Rattle.field.specs.Octet.Table.{Tables};
 ghost use Rattle.codeword.specs.Values.{EvaluatorIs, DerivativeIs, errorOf, Corrected};
 
 // The error evaluator: the first l coefficients of the product of the locator c and the syndromes s; zero where unused.
-pub fn evaluator(c: &[u8], s: &[u8], l: usize, t: &[u8; 511]) -> [u8; 255]
+pub(crate) fn evaluator(c: &[u8], s: &[u8], l: usize, t: &[u8; 511]) -> [u8; 255]
     requires { ⌜ (l < 255) × (length (now c) ≡ 255) × (length (now s) ≡ 255) ⌝ }
     requires { ⌜ Tables (now t) ⌝ }
     ensures { λ r. ⌜ EvaluatorIs l (now (c .entry)) (now (s .entry)) r ⌝ }
@@ -23,7 +23,7 @@ pub fn evaluator(c: &[u8], s: &[u8], l: usize, t: &[u8; 511]) -> [u8; 255]
 }
 
 // The first l coefficients of the locator's derivative: c[1], 0, c[3], 0, ..; zero where unused.
-pub fn derivative(c: &[u8], l: usize) -> [u8; 255]
+pub(crate) fn derivative(c: &[u8], l: usize) -> [u8; 255]
     requires { ⌜ (l < 254) × (length (now c) ≡ 255) ⌝ }
     ensures { λ r. ⌜ DerivativeIs l (now (c .entry)) r ⌝ }
 {
@@ -50,7 +50,15 @@ fn error(o: &[u8], d: &[u8], l: usize, x: u8, t: &[u8; 511]) -> u8
 }
 
 // Adds the error value to the word of n octets at each of the l places.
-pub fn correct(w: &mut [u8], n: usize, at: &[u8], l: usize, o: &[u8], d: &[u8], t: &[u8; 511])
+pub(crate) fn correct(
+    w: &mut [u8],
+    n: usize,
+    at: &[u8],
+    l: usize,
+    o: &[u8],
+    d: &[u8],
+    t: &[u8; 511],
+)
     requires { ⌜ (n ≤ 255) × (n ≤ length (now w)) × (l ≤ length (now at)) × (l ≤ length (now o)) × (l ≤ length (now d)) ⌝ }
     requires { ⌜ ((j : ℕ) → j < l → getD (now at) j 0 < n) ⌝ }
     requires { ⌜ ((i j : ℕ) → i < j → j < l → getD (now at) i 0 < getD (now at) j 0) ⌝ }

@@ -24,7 +24,8 @@ use Rattle.table.specs.declared.walk.Laid.{Laid}
 use Rattle.table.specs.Slots.{Slot, endless, pieces, octetsOf}
 use Rattle.table.specs.Table.{entryOf, isDefined, highestCode}
 use Rattle.channels.specs.declared.Channels.{Channels}
-use Rattle.channels.specs.Channels.{placeOf, isIn, allIn}
+use Rattle.channels.specs.Channels.{placeOf, isIn}
+use Rattle.channels.specs.Places.{allIn}
 use Rattle.multiplex.specs.Pieces.{laid, placed, allOpen, total}
 use Rattle.multiplex.specs.Tally.{Within}
 use Rattle.channels.proofs.Placing.{in-placed}

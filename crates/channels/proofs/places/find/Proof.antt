@@ -11,7 +11,8 @@ use lib.ListN.{length, getD, take, drop, length-set, length-map, drop-of-length-
 use lib.Seq.{take-all, drop-set-lt}
 use Rattle.channels.specs.declared.Channels.{Channels}
 use Rattle.channels.specs.Search.{first}
-use Rattle.channels.specs.Channels.{placeOf, numberOf, allIn}
+use Rattle.channels.specs.Channels.{placeOf}
+use Rattle.channels.specs.Places.{numberOf, allIn}
 use Rattle.channels.proofs.Placing.{place-most, in-met, in-missed, in-end, mapped-at, sought-place}
 use Rattle.channels.proofs.places.find.Statement.{statement}
 use Rattle.channels.proofs.places.find.Tie as tie

@@ -5,7 +5,8 @@ use mathlib.Core.List.{map, _++_, append-nil}
 use Prim.Native.Nat.{_-_, _≤_}
 use lib.ListN.{length, take, drop, length-set, length-map, drop-of-length-le}
 use lib.Seq.{take-all}
-use Rattle.channels.specs.Channels.{numberOf, vacant}
+use Rattle.channels.specs.Channels.{vacant}
+use Rattle.channels.specs.Places.{numberOf}
 use Rattle.channels.proofs.Placing.{mapped-at}
 use Rattle.channels.proofs.places.numbers_of.Statement.{statement}
 use Rattle.channels.proofs.places.numbers_of.Tie as tie

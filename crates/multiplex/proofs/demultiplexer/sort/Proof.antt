@@ -10,7 +10,8 @@ use lib.Seq.{length-take-le, take-at}
 use denote.Ref.{now}
 use Rattle.table.specs.Slots.{Slot, pieces, octetsOf}
 use Rattle.table.specs.Table.{entryOf}
-use Rattle.channels.specs.Channels.{placeOf, allIn}
+use Rattle.channels.specs.Channels.{placeOf}
+use Rattle.channels.specs.Places.{allIn}
 use Rattle.multiplex.specs.Pieces.{Piece, allOpen}
 use Rattle.multiplex.specs.Demultiplexer.{Lent, delivered}
 use Rattle.multiplex.proofs.Laying.{numbersOf, Slotted, lays-slotted}
