@@ -1,3 +1,4 @@
+pub mod Deciding
 pub mod Octets
 pub mod Remainders
 pub mod Residue

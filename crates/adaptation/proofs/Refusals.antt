@@ -12,30 +12,24 @@
 --
 -- Assumes nothing.
 use mathlib.Core.Path.{_≡_, refl, sym, ap, _∙_}
-use mathlib.Core.Bool.{Bool, true, false, cond}
-use mathlib.Core.List.{List, [], _∷_}
+use mathlib.Core.Bool.{Bool, true, false}
+use mathlib.Core.List.{List}
 use Prim.Native.Nat.{ℕ}
 use native.Mathlib.Omega.{arith}
 use lib.ListN.{length}
 use Rattle.octets.specs.Written.{written}
-use Rattle.adaptation.specs.Refusal.{refused, told, Ended, leaving, refusing, Test, _when_, checked, refusal, ends}
+use Rattle.adaptation.specs.Refusal.{refused, told, Ended, leaving, refusing, Test, checked, refusal, ends}
 use Rattle.adaptation.specs.AL1M.{tests}
 use Rattle.adaptation.specs.AL2.{whole, refusals, sent}
 use Rattle.adaptation.specs.declared.al2.Number.{Number}
 use Rattle.adaptation.specs.declared.Length.the-variants.{Refused}
+use Rattle.adaptation.proofs.Deciding.{by-tests}
 
-module _ {A X : Type 0} (x : X) (a : A) (y : X) (k : ℕ) where
-  abbrev end : List Test → Ended A X
-  end l = checked (refusing x) l (leaving a y)
-
-  pub checked-leaves : (l : List Test) → end l .answer ≡ refused k → end l .left ≡ x
-  checked-leaves [] e = absurd (let z : _≡_ {A = ℕ} 0 1 = cc in omega arith)
-  checked-leaves ((i when b) ∷ l) e = by b (checked-leaves l) e
-    where
-      by : (b : Bool) → (end l .answer ≡ refused k → end l .left ≡ x)
-          → cond b (refusing x i) (end l) .answer ≡ refused k → cond b (refusing x i) (end l) .left ≡ x
-      by true ih e = refl
-      by false ih e = ih e
+pub checked-leaves : {A X : Type 0} (x : X) (a : A) (y : X) (k : ℕ) (l : List Test)
+    → checked (refusing x) l (leaving a y) .answer ≡ refused k → checked (refusing x) l (leaving a y) .left ≡ x
+checked-leaves {A = A} {X = X} x a y k l =
+    by-tests (λ (r : Ended A X). r .answer ≡ refused k → r .left ≡ x) (refusing x) l (leaving a y) (λ i e. refl)
+    (λ none e. absurd (let z : _≡_ {A = ℕ} 0 1 = cc in omega arith))
 
 pub sent-leaves : (n : Number) (u out : List ℕ) (k : ℕ) (x : List ℕ) → ends (Refused k) x ≡ sent n u out → x ≡ out
 unfolding sent

@@ -34,7 +34,7 @@ use Rattle.multiplex.specs.Multiplexer as mux
 use Rattle.multiplex.specs.Claims.{Orderly}
 use Rattle.multiplex.specs.Calls as calls
 use Rattle.multiplex.specs.Calls.{Link, Call, lentTo, after, led, begun, Sound, AlwaysSound}
-use Rattle.multiplex.proofs.Deciding.{None, by-tests}
+use Rattle.adaptation.proofs.Deciding.{None, by-tests}
 use Rattle.multiplex.proofs.Holding.{orderly-put}
 use Rattle.multiplex.proofs.Theorems.{order-kept}
 

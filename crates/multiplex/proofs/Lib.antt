@@ -1,4 +1,3 @@
-pub mod Deciding
 pub mod Seats
 pub mod Parts
 pub mod Records

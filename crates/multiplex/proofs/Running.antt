@@ -32,7 +32,7 @@ use Rattle.multiplex.specs.Runs.{UnitOn, unitsOn, withoutLast, World, be
 use Rattle.multiplex.proofs.Seats.{free-seats, place-seats}
 use Rattle.multiplex.proofs.Matching.{Matched, posted-matched}
 use Rattle.multiplex.proofs.Opening.{opened-matched, start-matched}
-use Rattle.multiplex.proofs.Deciding.{by-test, by-tests}
+use Rattle.adaptation.proofs.Deciding.{by-test, by-tests}
 use Rattle.multiplex.proofs.Accepting.{accepted, carried-over, payload-front}
 
 pub record Kept (x : World) : Type 0 where

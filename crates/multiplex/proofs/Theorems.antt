@@ -23,7 +23,7 @@ use Rattle.multiplex.specs.Pieces.{Piece, placed, allOpen, lastPlace}
 use Rattle.multiplex.specs.Demultiplexer.{Lent, Delivery, nothing, fits, tookAll, delivery, writes, callTests, slotTests, pieceTests, delivered, sorted, demultiplexed}
 use Rattle.multiplex.specs.Runs.{UnitOn, unitsOn, unitsIn}
 use Rattle.multiplex.specs.Claims.{DemandMet, IdleFails, RefuserFails, goingTo, Orderly, OctetsOnce, OrderKept}
-use Rattle.multiplex.proofs.Deciding.{by-tests}
+use Rattle.adaptation.proofs.Deciding.{by-tests}
 use Rattle.multiplex.proofs.Seats.{place-seats, vacant-behind}
 use Rattle.multiplex.proofs.Records.{tells-nothing, tells-read}
 use Rattle.multiplex.proofs.Keeping.{Holds, slots-hold, closed-holds, last-known}
