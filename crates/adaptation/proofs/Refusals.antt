@@ -15,8 +15,8 @@ use mathlib.Core.Path.{_≡_, refl, sym, ap, _∙_}
 use mathlib.Core.Bool.{Bool, true, false}
 use mathlib.Core.List.{List}
 use Prim.Native.Nat.{ℕ}
-use native.Mathlib.Omega.{arith}
 use lib.ListN.{length}
+use Rattle.octets.specs.Tests.{never}
 use Rattle.octets.specs.Written.{written}
 use Rattle.adaptation.specs.Refusal.{refused, told, Ended, leaving, refusing, Test, checked, refusal, ends}
 use Rattle.adaptation.specs.AL1M.{tests}
@@ -29,7 +29,7 @@ pub checked-leaves : {A X : Type 0} (x : X) (a : A) (y : X) (k : ℕ) (l : List 
     → checked (refusing x) l (leaving a y) .answer ≡ refused k → checked (refusing x) l (leaving a y) .left ≡ x
 checked-leaves {A = A} {X = X} x a y k l =
     by-tests (λ (r : Ended A X). r .answer ≡ refused k → r .left ≡ x) (refusing x) l (leaving a y) (λ i e. refl)
-    (λ none e. absurd (let z : _≡_ {A = ℕ} 0 1 = cc in omega arith))
+    (λ none e. never (cc))
 
 pub sent-leaves : (n : Number) (u out : List ℕ) (k : ℕ) (x : List ℕ) → ends (Refused k) x ≡ sent n u out → x ≡ out
 unfolding sent
@@ -53,18 +53,18 @@ module _ (s r x : Bool) where
   refused-not h l o = rw (h, l, o)
 
 pub refused-none : (s r x : Bool) → refusal (tests s r x) ≡ told tt → (s ≡ true) × (r ≡ true) × (x ≡ false)
-refused-none true true true h = absurd (let z : _≡_ {A = ℕ} 0 1 = cc in omega arith)
+refused-none true true true h = never (cc)
 refused-none true true false h = (refl, refl, refl)
-refused-none true false x h = absurd (let z : _≡_ {A = ℕ} 0 1 = cc in omega arith)
-refused-none false r x h = absurd (let z : _≡_ {A = ℕ} 0 1 = cc in omega arith)
+refused-none true false x h = never (cc)
+refused-none false r x h = never (cc)
 
 module _ {A : Type 0} (a : A) where
   pub refused-sooner : (s r x : Bool) (k : ℕ) → refused k ≡ checked refused (tests s r false) (told a) → refusal (tests s r x) ≡ refused k
-  refused-sooner true true x k h = absurd (let z : _≡_ {A = ℕ} 0 1 = cc in omega arith)
+  refused-sooner true true x k h = never (cc)
   refused-sooner true false x k h = cc
   refused-sooner false r x k h = cc
 
   pub refused-later : (s r : Bool) (b : A) → told b ≡ checked refused (tests s r false) (told a) → (s ≡ true) × (r ≡ true) × (b ≡ a)
   refused-later true true b h = (refl, refl, cc)
-  refused-later true false b h = absurd (let z : _≡_ {A = ℕ} 0 1 = cc in omega arith)
-  refused-later false r b h = absurd (let z : _≡_ {A = ℕ} 0 1 = cc in omega arith)
+  refused-later true false b h = never (cc)
+  refused-later false r b h = never (cc)

@@ -13,7 +13,7 @@ use borrow.Author.Tests.{ltb-false, eqb-true, leb-true, le-ltb}
 use lib.Dec.{eqb, leb, ltb}
 use lib.ListN.{length, take}
 use lib.Seq.{take-take, take-append-seam}
-use Rattle.octets.specs.Tests.{both-true}
+use Rattle.octets.specs.Tests.{both-true, never}
 use Rattle.octets.specs.Written.{written, written-front}
 use Rattle.codeword.specs.CodeWord.{CodeWord, distance, Within}
 use Rattle.codeword.specs.Repair.{reads, Repaired, FoundIs}
@@ -44,7 +44,7 @@ use Rattle.adaptation.proofs.Settings.{word-true, word-all}
 
 -- a call is not answered in two ways
 apart : {A : Type 0} (t : Told A) (k : ℕ) (a : A) → t ≡ told a → t ≡ refused k → ⊥
-apart t k a p q = let z : _≡_ {A = ℕ} 0 1 = cc in omega arith
+apart t k a p q = never (cc)
 
 -- ---- what is known of a word that is not refused
 
@@ -77,8 +77,8 @@ module _ (e : ℕ) (w before after c : List ℕ) (short : length w ≤ 255) (roo
 -- ---- the badge, undone
 
 faultless : (b : Bool) (r : Reach) (a : Bool) → isFaulty (badgeOf b r a) ≡ false → (k : ℕ) × (r ≡ reach.Found k) × (a ≡ true)
-faultless b reach.OutOfReach a h = absurd (let z : _≡_ {A = ℕ} 0 1 = cc in omega arith)
-faultless b (reach.Found k) false h = absurd (let z : _≡_ {A = ℕ} 0 1 = cc in omega arith)
+faultless b reach.OutOfReach a h = never (cc)
+faultless b (reach.Found k) false h = never (cc)
 faultless b (reach.Found k) true h = (k, refl, refl)
 
 -- what each badge tells

@@ -18,6 +18,7 @@ use borrow.Author.Tests.{eqb-true, eq-eqb}
 use lib.Dec.{eqb}
 use lib.ListN.{length, getD, set, take, length-set}
 use lib.Seq.{getD-set-same, getD-set-other, take-suc}
+use Rattle.octets.specs.Tests.{never}
 use Rattle.algebra.specs.Field.{Field}
 use Rattle.algebra.specs.Power.{pow}
 use Rattle.field.specs.Octet as Octet
@@ -109,7 +110,7 @@ allZero-all (suc m) s e i l = go (eqb (getD s m 0) 0) refl e (allZero-all m s) (
         → Dec (i ≡ m) → getD s i 0 ≡ 0
     go true t e ih (yes p) = rw p (eqb-true _ _ t)
     go true t e ih (no n) = ih e i (omega arith)
-    go false t e ih d = let z : _≡_ {A = ℕ} 0 1 = cc in absurd (omega arith)
+    go false t e ih d = never (cc)
 
 pub allZero-none : (s : List ℕ) → allZero 0 s ≡ true
 unfolding allZero

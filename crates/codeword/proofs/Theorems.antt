@@ -8,6 +8,7 @@ use Prim.Native.Nat.{ℕ, _+_}
 use native.Mathlib.Omega.{arith}
 use lib.ListN.{length, take, drop, length-append}
 use lib.Seq.{take-take}
+use Rattle.octets.specs.Tests.{never}
 use Rattle.octets.specs.Written.{written, written-part, written-behind}
 use Rattle.codeword.specs.CodeWord.{distance}
 use Rattle.codeword.specs.Encoding.{encodes, Done, Encoded}
@@ -76,7 +77,7 @@ neverSecond = within-unique
 pub foundExactly : FoundExactly
 foundExactly e w before after (Found k) fits p = (λ t. (p .found, p .within), λ c. refl)
 foundExactly e w before after OutOfReach fits p = (
-  (λ t. let z : _≡_ {A = ℕ} 0 1 = cc in absurd (omega arith)),
+  (λ t. never (cc)),
   (λ c. absurd (p .none fits (c .0) (c .1))),
 )
 

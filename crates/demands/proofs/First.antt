@@ -8,9 +8,9 @@ use mathlib.Core.Path.{_≡_, refl, sym, ap, subst, _∙_}
 use mathlib.Core.Bool.{Bool, true, false, cond, not}
 use mathlib.Core.List.{List, [], _∷_}
 use Prim.Native.Nat.{ℕ}
-use native.Mathlib.Omega.{arith}
 use lib.Dec.{ltb}
 use lib.ListN.{length}
+use Rattle.octets.specs.Tests.{never}
 use Rattle.octets.specs.Written.{written}
 use Rattle.adaptation.specs.Refusal.{Told, refused, told, Ended, leaving, refusing, Test, _when_, checked, refusal, ends}
 use Rattle.adaptation.specs.Sending as sent
@@ -37,7 +37,7 @@ use Rattle.channels.specs.Layers as layers
 use Rattle.demands.specs.Answers.{Refuses, alone, judged, Demand1}
 
 told-refused : {A : Type 0} (a : A) (k : ℕ) → _≡_ {A = Told A} (told a) (refused k) → ⊥
-told-refused a k e = let z : _≡_ {A = ℕ} 0 1 = cc in omega arith
+told-refused a k e = never (cc)
 
 refused-same : {A B : Type 0} (i k : ℕ) → _≡_ {A = Told A} (refused i) (refused k) → _≡_ {A = Told B} (refused i) (refused k)
 refused-same i k e = cc

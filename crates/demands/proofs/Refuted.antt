@@ -9,6 +9,7 @@ use Prim.Native.Nat.{ℕ}
 use native.Mathlib.Nat.{le-refl}
 use native.Mathlib.Omega.{arith}
 use lib.ListN.{length}
+use Rattle.octets.specs.Tests.{never}
 use Rattle.adaptation.specs.Receiving.{Receives, unitOf}
 use Rattle.adaptation.specs.declared.Badge.{Badge}
 use Rattle.adaptation.specs.declared.Badge.the-variants.{Clean, Corrected}
@@ -38,10 +39,10 @@ module _ (R : Receiver) (keeps : Keeps R) where
   sixth = answers R keeps 0 1 w6 Corrected 1 (0x01 ∷ []) (small .5)
 
   refuses : RefusesAll R → ⊥
-  refuses h = let f = fifth in let r = h 0 1 c5 c5 in let z : _≡_ {A = ℕ} 0 1 = cc in omega arith
+  refuses h = let f = fifth in let r = h 0 1 c5 c5 in never (cc)
 
   nothing : FindsNothing R → ⊥
-  nothing h = let e = h 0 1 c5 c5 _ fifth in let z : _≡_ {A = ℕ} 0 1 = cc in omega arith
+  nothing h = let e = h 0 1 c5 c5 _ fifth in never (cc)
 
   unit : SameUnit R → ⊥
   unit (u, h) =
@@ -51,7 +52,7 @@ module _ (R : Receiver) (keeps : Keeps R) where
       omega arith
 
   clean : SaysClean R → ⊥
-  clean h = let e = h 0 1 w6 w6 _ sixth .0 in let z : _≡_ {A = ℕ} 0 1 = cc in omega arith
+  clean h = let e = h 0 1 w6 w6 _ sixth .0 in never (cc)
 
   counts : Miscounts R → ⊥
   counts m =

@@ -18,6 +18,7 @@ use native.Mathlib.Omega.{arith}
 use borrow.Author.Tests.{eq-eqb}
 use lib.Dec.{T, eqb, eqb→eq, lit<}
 use lib.ListN.{length, getD, set}
+use Rattle.octets.specs.Tests.{never}
 use Rattle.octets.specs.Every.{every, every-at}
 use Rattle.algebra.specs.Power.{pow}
 use Rattle.field.specs.Octet.Table.{powers, powers-at}
@@ -58,7 +59,7 @@ unfolding isCode isZeroAt
 isCode-false e w h f c =
     let all : every (isZeroAt w) (2 * e) ≡ true
     = all-every (isZeroAt w) (2 * e) λ i l. eq-eqb _ 0 (worked w (c .octets) i (omega arith) ∙ ap octet (codeWord-zero e w c i l) ∙ octet-nil) in
-    let z : _≡_ {A = ℕ} 0 1 = cc in omega arith
+    never (cc)
 
 -- ---- within one octet
 

@@ -19,6 +19,7 @@ use native.Mathlib.Omega.{arith}
 use borrow.Author.Tests.{eqb-true, eqb-false, ltb-true, ne-eqb}
 use lib.Dec.{eqb, ltb}
 use lib.ListN.{length}
+use Rattle.octets.specs.Tests.{never}
 use Rattle.table.specs.Slots.{Slot, cut, octetsOf}
 use Rattle.table.specs.Laws.{Filled, cut-none}
 use Rattle.channels.specs.declared.Channel.{Channel}
@@ -43,7 +44,7 @@ agrees-stopped r s l b = record {
   opened = rw (cut-none l);
   within = omega arith;
   many = omega arith;
-  last = λ e. absurd (let z : _≡_ {A = ℕ} 0 1 = cc in omega arith);
+  last = λ e. never (cc);
 }
 
 -- ---- the cut of a slot of which k octets are sent
@@ -79,7 +80,7 @@ module _ (r s : Channels) (y : Slot) (l : List Slot) (alike : seats s ≡ seats 
     opened = rw (cut-ending k y l some h, known-there);
     within = omega arith;
     many = omega arith;
-    last = λ e f. absurd (let z : _≡_ {A = ℕ} 0 1 = cc in omega arith);
+    last = λ e f. never (cc);
   }
 
   agrees-sending : (x : Walk) → k ≡ y .octets → Agrees r l x → Agrees r (y ∷ l) (sending first x)
@@ -89,13 +90,13 @@ module _ (r s : Channels) (y : Slot) (l : List Slot) (alike : seats s ≡ seats 
     opened = rw (cut-sending k (total (x .pieces)) y l some h, known-there) (a .opened);
     within = omega (arith, a .within);
     many = omega (arith, a .many);
-    last = λ e f. absurd (let z : _≡_ {A = ℕ} 0 1 = cc in omega arith);
+    last = λ e f. never (cc);
   }
 
 -- ---- what lets a walk go on
 
 pub neither : (a b : Bool) → (a || b) ≡ false → (a ≡ false) × (b ≡ false)
-neither true b e = absurd (let z : _≡_ {A = ℕ} 0 1 = cc in omega arith)
+neither true b e = never (cc)
 neither false b e = (refl, e)
 
 pub waits-some : (c : Channel) (n : ℕ) → isBlocked c n ≡ false → 1 ≤ waits c

@@ -13,7 +13,7 @@ use native.Mathlib.Omega.{arith}
 use borrow.Author.Tests.{ltb-true, ltb-false, leb-true, leb-false, not-false}
 use lib.Dec.{leb, ltb, eqb}
 use lib.ListN.{length, getD, set, take, replicate}
-use Rattle.octets.specs.Tests.{both-true}
+use Rattle.octets.specs.Tests.{both-true, never}
 use Rattle.octets.specs.Written.{written, written-length}
 use Rattle.adaptation.specs.Refusal.{Told, refused, told, Ended, leaving, refusing, Test, _when_, checked}
 use Rattle.adaptation.specs.Handed.{longest}
@@ -60,7 +60,7 @@ unfolding isEntry
 entry-length e q = by (ltb longestEntry (length e)) refl _ q
   where
     by : (b : Bool) → ltb longestEntry (length e) ≡ b → (r : Bool) → cond b false r ≡ true → length e ≤ longestEntry
-    by true p r q = absurd (let z : _≡_ {A = ℕ} 0 1 = cc in omega arith)
+    by true p r q = never (cc)
     by false p r q = ltb-false longestEntry (length e) p
 
 -- ---- the channels alone

@@ -19,6 +19,7 @@ use borrow.Author.Tests.{le-leb, ltb-true, ltb-false, eqb-true}
 use lib.Dec.{leb, ltb, eqb}
 use lib.ListN.{length, take, drop, length-append, length-take}
 use lib.Seq.{take-at, drop-at}
+use Rattle.octets.specs.Tests.{never}
 use Rattle.adaptation.specs.Handed.{longest}
 use Rattle.table.specs.Slots.{Slot}
 use Rattle.table.specs.Laws.{Filled}
@@ -137,7 +138,7 @@ module _ {w : List ℕ} {sent base : List UnitOn} {s : Channels} {r : Delivery} 
     fitting = refl;
     octets = rw (carried-none r []) (omega arith);
     count = rw (carried-none r []) (omega arith);
-    marked = λ e. absurd (let z : _≡_ {A = ℕ} 0 1 = cc in omega arith);
+    marked = λ e. never (cc);
   }
 
   module _ (p k : ℕ) (r′ : Delivery) (t : Step s w r p k r′) where
@@ -164,14 +165,14 @@ module _ {w : List ℕ} {sent base : List UnitOn} {s : Channels} {r : Delivery} 
     ending-carried o =
         let y = take k (waitingOf s w p) in
         let e : carried r false (of p k ∷ []) (y ++ []) ≡ r′
-        = carried-next r false p k [] y [] (t .size) (λ f. absurd (let z : _≡_ {A = ℕ} 0 1 = cc in omega arith)) ∙ carried-none (took r p y) [] ∙ t .taken in
+        = carried-next r false p k [] y [] (t .size) (λ f. never (cc)) ∙ carried-none (took r p y) [] ∙ t .taken in
         record {
           sound = subst (Sound (left s p k) w sent base) (sym e) o;
           size = omega (arith, length-append y [], t .size);
           fitting = ap (λ (a : Bool). a && true) (t .room);
           octets = omega (arith, ap (λ (a : Delivery). length (a .octets)) e, t .octets);
           count = omega (arith, ap (λ (a : Delivery). a .count) e, t .count);
-          marked = λ f. absurd (let z : _≡_ {A = ℕ} 0 1 = cc in omega arith);
+          marked = λ f. never (cc);
         }
 
     closing-carried : Sound (left s p k) w sent base (closed r′ p) → channelAt (r .channels) p .segmentable ≡ true
@@ -250,4 +251,4 @@ walk-carried w sent base (y ∷ l) s r f o =
     (walk-agrees l (left s p (moved c n)) (left s p (moved c n)) (f .1) refl .last)
     (λ a q. walk-carried w sent base l (left s p (moved c n)) a (f .1) q e))
     (λ g e. stopping o (y .channel) p refl (ltb-true p 16 i) n b (c .segmentable) refl g)))
-    (λ i e. absurd (let z : _≡_ {A = ℕ} 0 1 = cc in omega arith))
+    (λ i e. never (cc))

@@ -26,7 +26,7 @@ use lib.Dec.{ltb}
 use lib.ListN.{length, getD, set, take, drop, length-set, length-drop, List·getD-eq-default}
 use lib.Seq.{length-take-le, getD-set-same}
 use Rattle.octets.specs.Written.{written-length, written-nothing}
-use Rattle.octets.specs.Tests.{both-true}
+use Rattle.octets.specs.Tests.{both-true, never}
 use Rattle.adaptation.specs.Handed.{longest}
 use Rattle.channels.specs.declared.Channel.{Channel}
 use Rattle.channels.specs.declared.Channels.{Channels}
@@ -143,8 +143,8 @@ last-held t (q ∷ r ∷ l) f w e g =
 
 mark-not : (m g : Bool) → (m && not g) ≡ false → m ≡ true → g ≡ true
 mark-not true true e f = refl
-mark-not true false e f = absurd (let z : _≡_ {A = ℕ} 0 1 = cc in omega arith)
-mark-not false g e f = absurd (let z : _≡_ {A = ℕ} 0 1 = cc in omega arith)
+mark-not true false e f = never (cc)
+mark-not false g e f = never (cc)
 
 segmentable-place : (s : Channels) (p : ℕ) → length (s .at) ≡ 16 → channelAt s p .segmentable ≡ true → p < 16
 segmentable-place s p e g = by (ltb p 16) refl
@@ -153,7 +153,7 @@ segmentable-place s p e g = by (ltb p 16) refl
     by true h = ltb-true p 16 h
     by false h =
         let v : channelAt s p ≡ vacant = List·getD-eq-default (s .at) vacant {n = p} (omega (arith, ltb-false p 16 h)) in
-        absurd (let z : _≡_ {A = ℕ} 0 1 = cc in omega arith)
+        never (cc)
 
 pub mark-right : (s : Channels) (m : Bool) (p : ℕ) → length (s .at) ≡ 16 → (m && not (channelAt s p .segmentable)) ≡ false
     → m ≡ true → (channelAt s p .segmentable ≡ true) × (p < 16)

@@ -17,6 +17,7 @@ use Prim.Native.Nat.{ℕ, _+_, _*_, _≤_, _<_}
 use native.Mathlib.Decide.{ℕ-discrete}
 use native.Mathlib.Omega.{arith}
 use lib.ListN.{length, take, drop, length-set}
+use Rattle.octets.specs.Tests.{never}
 use Rattle.octets.specs.Written.{written, written-length}
 use Rattle.adaptation.specs.Handed.{longest}
 use Rattle.channels.specs.declared.Channel.{Channel}
@@ -74,4 +75,4 @@ module _ {r : Channels} {h : List ℕ} (o : Orderly r h) {p : ℕ} (inside : p <
 
     pub orderly-joined : there .segmentable ≡ true → Orderly (put r p more) filled
     orderly-joined g =
-        orderly-put more filled fits (λ e. absurd (let z : _≡_ {A = ℕ} 0 1 = cc in omega arith)) filled-room
+        orderly-put more filled fits (λ e. never (cc)) filled-room

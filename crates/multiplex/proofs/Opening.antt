@@ -14,6 +14,7 @@ use native.Mathlib.Decide.{ℕ-discrete}
 use native.Mathlib.Omega.{arith}
 use borrow.Author.Tests.{ne-eqb, eq-eqb, not-true}
 use lib.ListN.{length, getD, set, length-set, replicate}
+use Rattle.octets.specs.Tests.{never}
 use Rattle.channels.specs.declared.Channels.{Channels}
 use Rattle.channels.specs.Channels.{vacant, fresh, start, isChannel, isFree, placeOf, freePlace, channelAt, put}
 use Rattle.multiplex.specs.Runs.{UnitOn, unitsOn}
@@ -50,7 +51,7 @@ module _ {s : Channels} {w : List ℕ} {r : Channels} {h : List ℕ} {sent got :
   not-there k e =
       let z : isChannel k (channelAt s p) ≡ true = ap (λ (q : ℕ). isChannel k (channelAt s q)) (sym e) ∙ first-found (isChannel k) vacant (s .at) (rw (m .full, e) inside) in
       let f : false ≡ true = rw is-free at z in
-      let o : _≡_ {A = ℕ} 0 1 = cc in omega arith
+      never (cc)
 
   twins : (q : ℕ) → Dec (q ≡ p) → Twin (channelAt (put s p (fresh n g)) q) (channelAt (put r p (fresh n g)) q)
   twins q (yes e) = rw (e, put-there s (m .full) p (fresh n g) inside, put-there r (full-there m) p (fresh n g) inside) (twin-fresh n g)

@@ -24,6 +24,7 @@ use borrow.Author.Tests.{le-leb}
 use lib.Dec.{leb}
 use lib.ListN.{length, take, drop, length-take, length-drop, length-set, take-append-drop}
 use lib.Seq.{length-take-le, take-all}
+use Rattle.octets.specs.Tests.{never}
 use Rattle.octets.specs.Written.{written}
 use Rattle.adaptation.specs.Handed.{longest}
 use Rattle.channels.specs.declared.Channel.{Channel}
@@ -118,7 +119,7 @@ module _ {s : Channels} {w : List ℕ} {r : Channels} {h : List ℕ} {sent got :
       twin-joined g = record {
         bounded = omega (arith, m .each p .bounded, piece-length k most);
         ended = λ e. absurd (omega arith);
-        whole = λ e. absurd (let z : _≡_ {A = ℕ} 0 1 = cc in omega arith);
+        whole = λ e. never (cc);
       }
 
       pub joined-matched : there .segmentable ≡ true → Matched (left s p k) w (put r p more) filled sent got

@@ -24,11 +24,11 @@ use mathlib.Core.Bool.{Bool, true, false, cond, not}
 use mathlib.Core.List.{List, [], _∷_, map}
 use Prim.Native.Nat.{ℕ, zero, suc, _≤_, _<_}
 use native.Mathlib.Nat.{not-suc-le-zero, le-of-suc-le-suc}
-use native.Mathlib.Omega.{arith}
 use borrow.Author.Tests.{eqb-true}
 use lib.Dec.{eqb}
 use lib.ListN.{length, getD, set, List·getD-map, List·getD-eq-default}
 use lib.Seq.{map-set-same, getD-set-same, getD-set-other}
+use Rattle.octets.specs.Tests.{never}
 use Rattle.channels.specs.declared.Channel.{Channel}
 use Rattle.channels.specs.declared.Channels.{Channels}
 use Rattle.channels.specs.Search.{first}
@@ -108,7 +108,7 @@ seats-put s p c e = map-set-same seat (s .at) p c vacant e
 
 is-number : (b : Bool) (m n : ℕ) → cond b (eqb m n) false ≡ true → m ≡ n
 is-number true m n e = eqb-true m n e
-is-number false m n e = absurd (let z : _≡_ {A = ℕ} 0 1 = cc in omega arith)
+is-number false m n e = never (cc)
 
 module _ (s : Channels) (full : length (s .at) ≡ 16) where
   pub place-number : (n : ℕ) → placeOf s n < 16 → channelAt s (placeOf s n) .number ≡ n

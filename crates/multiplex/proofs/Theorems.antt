@@ -13,6 +13,7 @@ use native.Mathlib.Decide.{decLt}
 use native.Mathlib.Omega.{arith}
 use borrow.Author.Tests.{not-false}
 use lib.ListN.{length}
+use Rattle.octets.specs.Tests.{never}
 use Rattle.adaptation.specs.Refusal.{Told, refused, told, Ended, leaving, refusing}
 use Rattle.table.specs.Slots.{Slot, pieces, octetsOf, channelsOf}
 use Rattle.table.specs.Laws.{pieces-most}
@@ -44,7 +45,7 @@ refuser-fails = failing.refuser-fails
 not-refused : {A : Type 0} (x y : Lent) (i k : ℕ) → _≡_ {A = Ended ℕ Lent} (refusing x i) (leaving k y) → A
 not-refused x y i k e =
     let f : _≡_ {A = Told ℕ} (refused i) (told k) = ap (λ (z : Ended ℕ Lent). z .answer) e in
-    absurd (let z : _≡_ {A = ℕ} 0 1 = cc in omega arith)
+    never (cc)
 
 -- what was accepted met none of the refusals, and leaves its delivery
 record Accepted (x y : Lent) (mark : Bool) (l : List Slot) (xs : List ℕ) (k : ℕ) : Type 0 where
@@ -108,7 +109,7 @@ module _ (x y : Lent) (mark : Bool) (l : List Slot) (xs : List ℕ) (k n : ℕ) 
   inside g (yes h) = h
   inside g (no h) =
       let v = vacant-behind s (o .full) (lastPlace (placed s l)) (omega arith) in
-      absurd (let z : _≡_ {A = ℕ} 0 1 = cc in omega arith)
+      never (cc)
 
   payload-holds : Holds s n all (delivery s (x .held) mark (placed s l) xs)
   unfolding delivery

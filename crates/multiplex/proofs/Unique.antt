@@ -16,7 +16,7 @@ use mathlib.Core.Path.{_≡_, refl, sym, ap, ap₂, _∙_}
 use mathlib.Core.Bool.{Bool}
 use mathlib.Core.List.{List}
 use Prim.Native.Nat.{ℕ}
-use native.Mathlib.Omega.{arith}
+use Rattle.octets.specs.Tests.{never}
 use Rattle.adaptation.specs.Refusal as refusal
 use Rattle.adaptation.specs.Refusal.{Told, refused, told, Ended}
 use Rattle.adaptation.specs.Handed.{badgeNumber, Handed, handed}
@@ -176,12 +176,12 @@ says-once u e (receive.Unit c d x) (receive.Unit c′ d′ x′) h =
     cc
 says-once u e receive.Discarded receive.Discarded h = refl
 says-once u e (receive.Refused k) (receive.Refused j) h = cc
-says-once u e (receive.Unit c d x) receive.Discarded h = absurd (let z : _≡_ {A = ℕ} 0 1 = cc in omega arith)
-says-once u e (receive.Unit c d x) (receive.Refused j) h = absurd (let z : _≡_ {A = ℕ} 0 1 = cc in omega arith)
-says-once u e receive.Discarded (receive.Unit c d x) h = absurd (let z : _≡_ {A = ℕ} 0 1 = cc in omega arith)
-says-once u e receive.Discarded (receive.Refused j) h = absurd (let z : _≡_ {A = ℕ} 0 1 = cc in omega arith)
-says-once u e (receive.Refused k) (receive.Unit c d x) h = absurd (let z : _≡_ {A = ℕ} 0 1 = cc in omega arith)
-says-once u e (receive.Refused k) receive.Discarded h = absurd (let z : _≡_ {A = ℕ} 0 1 = cc in omega arith)
+says-once u e (receive.Unit c d x) receive.Discarded h = never (cc)
+says-once u e (receive.Unit c d x) (receive.Refused j) h = never (cc)
+says-once u e receive.Discarded (receive.Unit c d x) h = never (cc)
+says-once u e receive.Discarded (receive.Refused j) h = never (cc)
+says-once u e (receive.Refused k) (receive.Unit c d x) h = never (cc)
+says-once u e (receive.Refused k) receive.Discarded h = never (cc)
 
 pub taking-once : (s : Channels) (n : ℕ) (has : Bool) (w : List ℕ) (a b : Taken)
     → endsTaking (a .received) (unitOf has w) (channelAt s (placeOf s n) .expected) (a .channels) ≡ taking s n has w

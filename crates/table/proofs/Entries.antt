@@ -18,6 +18,7 @@ use borrow.Author.Tests.{lt-ltb, le-ltb, le-leb, lt-leb, ne-eqb}
 use lib.Dec.{eqb}
 use lib.ListN.{length, getD, take, drop}
 use lib.Seq.{getD-take, getD-drop}
+use Rattle.octets.specs.Tests.{never}
 use Rattle.adaptation.specs.Refusal.{leaving, refusing}
 use Rattle.table.specs.Form.{isEntry}
 use Rattle.table.specs.Table.{fixedEntry, entryOf, isDefined, placed, replaced}
@@ -71,7 +72,7 @@ entry-short s e = go (decLe (length s) 97)
   where
     go : Dec (length s ≤ 97) → length s ≤ 97
     go (yes h) = h
-    go (no h) = let u = entry-long s (omega arith) in let z : _≡_ {A = ℕ} 0 1 = cc in absurd (omega arith)
+    go (no h) = let u = entry-long s (omega arith) in never (cc)
 
 pub entry-some : (s : List ℕ) → isEntry s ≡ true → getD s 0 0 ≡ 0 → ⊥
-entry-some s e z = let u = entry-empty s (entry-short s e) z in let o : _≡_ {A = ℕ} 0 1 = cc in omega arith
+entry-some s e z = let u = entry-empty s (entry-short s e) z in never (cc)

@@ -20,6 +20,7 @@ use native.Mathlib.Decide.{decLe}
 use borrow.Author.Tests.{eq-eqb, ne-eqb}
 use lib.Dec.{eqb, ltb}
 use lib.ListN.{length, getD, List·getD-eq-default}
+use Rattle.octets.specs.Tests.{never}
 use Rattle.table.specs.declared.form.Head.{Head}
 use Rattle.table.specs.declared.form.Head.the-variants.{Inner, Malformed}
 use Rattle.table.specs.declared.form.Read.{Read}
@@ -134,7 +135,7 @@ module _ (s : List ℕ) where
   no-channel : (d at : ℕ) → elementSlots s d at ≡ [] → getD s (at + 1) 0 ≡ 0 → ⊥
   no-channel d at e z =
       let u = element-channel s at d z in
-      let v : _≡_ {A = ℕ} 0 1 = cc in omega arith
+      never (cc)
 
   first-empty : (d at : ℕ) → elementSlots s (suc d) at ≡ [] → elementSlots s d (at + 2) ≡ []
   first-empty d at e =

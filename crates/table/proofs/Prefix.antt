@@ -16,6 +16,7 @@ use native.Mathlib.Omega.{arith}
 use borrow.Author.Tests.{le-ltb, eq-eqb, ne-eqb, ltb-false, eqb-true, eqb-false}
 use lib.Dec.{eqb, ltb}
 use lib.ListN.{length, getD}
+use Rattle.octets.specs.Tests.{never}
 use Rattle.table.specs.declared.form.Head.{Head}
 use Rattle.table.specs.declared.form.Head.the-variants.{Channel, Inner, Malformed}
 use Rattle.table.specs.declared.form.Read.{Read}
@@ -109,7 +110,7 @@ module _ (s u : List ℕ) (alike : Alike s u) where
       where
         go : ((x y : ℕ) → many (λ p b. one p b 1) n x y ≡ Next a l → Again (λ b low. many (λ p c. other p c 1) n x b) y 1 a l)
             → (r : Read) → one at left 1 ≡ r → andThen r (many (λ p b. one p b 1) n) ≡ Next a l → Again (λ b low. many (λ p c. other p c 1) (suc n) at b) left 1 a l
-        go rest Bad p q = let z : _≡_ {A = ℕ} 0 1 = cc in absurd (omega arith)
+        go rest Bad p q = never (cc)
         go rest (Next x y) p q =
             let f = each at left x y p in
             let r = rest x y q in (
@@ -135,14 +136,14 @@ module _ (s u : List ℕ) (alike : Alike s u) where
   element-alike zero at left least a l e = go (headAt s at left least) (head-is s at left least) e
     where
       go : (h : Head) → HeadIs s at left least h → onHead (λ n a l. Bad) h ≡ Next a l → Again (elementAt u zero at) left least a l
-      go Malformed is-malformed q = let z : _≡_ {A = ℕ} 0 1 = cc in absurd (omega arith)
+      go Malformed is-malformed q = never (cc)
       go (Channel b c) (is-channel p k) q = channel-alike (λ n a l. Bad) at left least a l p k q
-      go (Inner n b c) (is-inner p k) q = let z : _≡_ {A = ℕ} 0 1 = cc in absurd (omega arith)
+      go (Inner n b c) (is-inner p k) q = never (cc)
   element-alike (suc d) at left least a l e = go (λ p b x y. element-alike d p b 1 x y) (headAt s at left least) (head-is s at left least) e
     where
       go : ((p b x y : ℕ) → elementAt s d p b 1 ≡ Next x y → Again (elementAt u d p) b 1 x y)
           → (h : Head) → HeadIs s at left least h → onHead (many (λ a l. elementAt s d a l 1)) h ≡ Next a l → Again (elementAt u (suc d) at) left least a l
-      go deeper Malformed is-malformed q = let z : _≡_ {A = ℕ} 0 1 = cc in absurd (omega arith)
+      go deeper Malformed is-malformed q = never (cc)
       go deeper (Channel b c) (is-channel p k) q = channel-alike (many (λ a l. elementAt u d a l 1)) at left least a l p k q
       go deeper (Inner n b c) (is-inner p k) q =
           let m = many-alike (elementAt s d) (elementAt u d) deeper (getD s (at + 1) 0) (at + 2) (left - 1) a l q in (
@@ -185,7 +186,7 @@ module _ (s u : List ℕ) (alike : Alike s u) where
         go : ((x y : ℕ) → y ≤ 32 → many (λ p b. elementAt s d p b 1) n x y ≡ Next a l → inTurn (elementSlots u d) (skip u d) (n + k) x ≡ inTurn (elementSlots s d) (skip s d) (n + k) x)
             → (o : Read) → elementAt s d at left 1 ≡ o → andThen o (many (λ p b. elementAt s d p b 1) n) ≡ Next a l
             → inTurn (elementSlots u d) (skip u d) (suc n + k) at ≡ inTurn (elementSlots s d) (skip s d) (suc n + k) at
-        go rest Bad p q = let z : _≡_ {A = ℕ} 0 1 = cc in absurd (omega arith)
+        go rest Bad p q = never (cc)
         go rest (Next x y) p q =
             let z : suc n + k ≡ suc (n + k) = omega arith in
             let f = element-alike s s (self s) d at left 1 x y p .0 in
@@ -196,14 +197,14 @@ module _ (s u : List ℕ) (alike : Alike s u) where
   slots-alike zero at left least a l h e = go (headAt s at left least) (head-is s at left least) e
     where
       go : (o : Head) → HeadIs s at left least o → onHead (λ n a l. Bad) o ≡ Next a l → elementSlots u zero at ≡ elementSlots s zero at
-      go Malformed is-malformed q = let z : _≡_ {A = ℕ} 0 1 = cc in absurd (omega arith)
+      go Malformed is-malformed q = never (cc)
       go (Channel b c) (is-channel p k) q = with-alike s u alike [] [] at (p .inside) refl
-      go (Inner n b c) (is-inner p k) q = let z : _≡_ {A = ℕ} 0 1 = cc in absurd (omega arith)
+      go (Inner n b c) (is-inner p k) q = never (cc)
   slots-alike (suc d) at left least a l h e = go (slots-alike d) (headAt s at left least) (head-is s at left least) e
     where
       go : ((at left least a l : ℕ) → left ≤ 32 → elementAt s d at left least ≡ Next a l → elementSlots u d at ≡ elementSlots s d at)
           → (o : Head) → HeadIs s at left least o → onHead (many (λ a l. elementAt s d a l 1)) o ≡ Next a l → elementSlots u (suc d) at ≡ elementSlots s (suc d) at
-      go each Malformed is-malformed q = let z : _≡_ {A = ℕ} 0 1 = cc in absurd (omega arith)
+      go each Malformed is-malformed q = never (cc)
       go each (Channel b c) (is-channel p k) q = with-alike s u alike _ _ at (p .inside) (rw (second-alike s u alike at left least p, k))
       go each (Inner n b c) (is-inner p k) q =
           let z : getD s (at + 1) 0 + 0 ≡ getD s (at + 1) 0 = omega arith in
@@ -225,7 +226,7 @@ module _ (s u : List ℕ) (alike : Alike s u) where
 
       last : (a l : ℕ) → many (λ p b. elementAt s 2 p b 1) (n - 1) 1 32 ≡ Next a l → (r : Read) → elementAt s 2 a l 0 ≡ r → endsAt (length s) r ≡ true
           → inTurn (elementSlots u 2) (skip u 2) (getD u 0 0) 1 ≡ inTurn (elementSlots s 2) (skip s 2) n 1
-      last a l p Bad q o = let z : _≡_ {A = ℕ} 0 1 = cc in absurd (omega arith)
+      last a l p Bad q o = never (cc)
       last a l p (Next x y) q o =
           let f = many-alike s s (self s) (elementAt s 2) (elementAt s 2) (λ p b. element-alike s s (self s) 2 p b 1) (n - 1) 1 32 a l p .0 in
           let z : n - 1 + 1 ≡ n = omega (arith, some) in
@@ -234,5 +235,5 @@ module _ (s u : List ℕ) (alike : Alike s u) where
 
       go : (r : Read) → many (λ p b. elementAt s 2 p b 1) (n - 1) 1 32 ≡ r → endsAt (length s) (andThen r (λ a l. elementAt s 2 a l 0)) ≡ true
           → inTurn (elementSlots u 2) (skip u 2) (getD u 0 0) 1 ≡ inTurn (elementSlots s 2) (skip s 2) n 1
-      go Bad p q = let z : _≡_ {A = ℕ} 0 1 = cc in absurd (omega arith)
+      go Bad p q = never (cc)
       go (Next a l) p q = last a l p (elementAt s 2 a l 0) refl q

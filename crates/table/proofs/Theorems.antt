@@ -8,6 +8,7 @@ use native.Mathlib.Decide.{decLe}
 use borrow.Author.Tests.{le-leb, eq-eqb, ne-eqb}
 use lib.Dec.{eqb}
 use lib.ListN.{length, getD, drop, replicate}
+use Rattle.octets.specs.Tests.{never}
 use Rattle.adaptation.specs.Refusal.{Told, refused, told, Ended, leaving, refusing, Test, _when_, checked}
 use Rattle.table.specs.declared.Outcome.{Outcome}
 use Rattle.table.specs.declared.Outcome.the-variants.{Done, Refused}
@@ -80,7 +81,7 @@ refused-leaves : {X : Type 0} (x y z : X) (k : ℕ) (l : List Test) → ends (Re
 unfolding outcomeBack
 refused-leaves x y z k [] e =
     let a : Refused k ≡ Done = ap outcomeBack e in
-    let o : _≡_ {A = ℕ} 0 1 = cc in absurd (omega arith)
+    never (cc)
 refused-leaves x y z k ((j when true) ∷ l) e = ap (λ o. o .left) e
 refused-leaves x y z k ((j when false) ∷ l) e = refused-leaves x y z k l e
 

@@ -20,6 +20,7 @@ use native.Mathlib.Nat.{mul-comm}
 use native.Mathlib.Omega.{arith}
 use lib.Dec.{lit<}
 use lib.ListN.{getD}
+use Rattle.octets.specs.Tests.{never}
 use Rattle.field.specs.Octet.{product, α, power, inverse}
 use Rattle.field.specs.Octet.Ring.{product-assoc, product-comm, product-zero, zero-product, one-product}
 use Rattle.field.specs.Octet.Power.{power-suc, power-octet, power-add, power-mul, one-power}
@@ -79,7 +80,7 @@ pub inverse-power : (k : ℕ) → k ≤ 255 → power α (255 - k) ≡ inverse (
 inverse-power k h = go (power α k) (power-octet α k) (sym (power-add α k (255 - k)) ∙ ap (power α) (omega arith) ∙ alpha-around)
   where
     go : (a : ℕ) → a < 256 → product a (power α (255 - k)) ≡ 1 → power α (255 - k) ≡ inverse a
-    go zero l e = let z : _≡_ {A = ℕ} 0 1 = sym (zero-product (power α (255 - k))) ∙ e in absurd (omega arith)
+    go zero l e = never (sym (zero-product (power α (255 - k))) ∙ e)
     go (suc a) l e =
         product-cancel (suc a) (power α (255 - k)) (inverse (suc a)) (omega arith) l (power-octet α (255 - k)) (inverse-octet (suc a))
         (e ∙ sym (product-inverse (suc a) (omega arith) l))

@@ -7,6 +7,7 @@ use Prim.Native.Nat.{ℕ, _+_, _*_, _-_, _≤_, _<_}
 use native.Mathlib.Omega.{arith}
 use lib.ListN.{length, drop, getD}
 use denote.Ref.{now}
+use Rattle.octets.specs.Tests.{never}
 use Rattle.multiplex.specs.declared.demultiplexer.Tally.{Tally}
 use Rattle.channels.specs.Channels.{channelAt}
 use Rattle.multiplex.specs.Pieces.{laid}
@@ -47,7 +48,7 @@ module _ (c : tie.In-loop Inv-loop μ-loop) where
   in-ls = omega (arith, c .loop-test .taken, c .before .before .before .before .pre .1)
 
 never : {A : Type 0} → false ≡ true → A
-never e = absurd (let z : _≡_ {A = ℕ} 0 1 = cc in omega arith)
+never e = never (cc)
 
 loop-holds : tie.Need-loop-holds Inv-loop μ-loop
 loop-holds c = (refl, refl, search needs, search needs, search needs)
