@@ -25,11 +25,11 @@ use Rattle.octets.specs.Written.{written, written-front}
 use Rattle.codeword.specs.CodeWord.{Octets}
 use Rattle.codeword.specs.Encoding.{Encoded}
 use Rattle.codeword.proofs.Systematic.{octets-append, parity-codeWord, encodes-true, encoded-is}
-use Rattle.adaptation.specs.Refusal.{refused, told, refusal}
+use Rattle.calls.specs.Refusal.{refused, told, refusal}
 use Rattle.adaptation.specs.Check.{Kind, checkOf}
 use Rattle.adaptation.specs.Width.{kindAt}
 use Rattle.adaptation.specs.AL1M.{longestWord, isSetting, isSendable, sentOctets, sentLength}
-use Rattle.adaptation.specs.Sending.{message, refusals, SentIs}
+use Rattle.adaptation.specs.Sending.{message, encodeTests, SentIs}
 use Rattle.adaptation.proofs.Behind.{check-length, check-octets, sealed-front}
 use Rattle.adaptation.proofs.Refusals.{refused-room, refused-not, refused-sooner, refused-later}
 
@@ -65,7 +65,7 @@ module _ (κ : Kind) (u : List ℕ) where
       }
 
 module _ (t n e : ℕ) where
-  pub coding-refused : (k room : ℕ) → refused k ≡ sentLength t n e → refusal (refusals t n e room) ≡ refused k
+  pub coding-refused : (k room : ℕ) → refused k ≡ sentLength t n e → refusal (encodeTests t n e room) ≡ refused k
   unfolding sentLength
   coding-refused k room h = refused-sooner (sentOctets t n e) (isSetting n e) (isSendable t n e) (ltb room (sentOctets t n e)) k h
 
@@ -74,11 +74,11 @@ module _ (t n e : ℕ) where
     unfolding sentLength
     known = refused-later (sentOctets t n e) (isSetting n e) (isSendable t n e) m h
 
-    pub coding-short : (room : ℕ) → room < m → refusal (refusals t n e room) ≡ refused 3
+    pub coding-short : (room : ℕ) → room < m → refusal (encodeTests t n e room) ≡ refused 3
     coding-short room l =
         refused-room (isSetting n e) (isSendable t n e) (ltb room (sentOctets t n e)) (known .0) (known .1) (lt-ltb room (sentOctets t n e) (omega (arith, known .2)))
 
-    pub coding-allowed : (room : ℕ) → m ≤ room → refusal (refusals t n e room) ≡ told tt
+    pub coding-allowed : (room : ℕ) → m ≤ room → refusal (encodeTests t n e room) ≡ told tt
     coding-allowed room l =
         refused-not (isSetting n e) (isSendable t n e) (ltb room (sentOctets t n e)) (known .0) (known .1) (le-ltb room (sentOctets t n e) (omega (arith, known .2)))
 

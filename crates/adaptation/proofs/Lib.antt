@@ -1,4 +1,3 @@
-pub mod Deciding
 pub mod Octets
 pub mod Remainders
 pub mod Residue

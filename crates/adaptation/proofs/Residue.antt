@@ -6,7 +6,7 @@
 --   residues κ u     what it holds, as octets, once it has taken the octets u
 --   check-is         the check is what it holds, added to what it started with
 --   residues-none    no content
---   residues-step    one octet more: its sum with the first octet held chooses an entry, and the other octets move up
+--   residues-step    one octet more: its sum with the first octet held chooses a remainder, and the other octets move up
 --   residues-turn    .. as a loop over the content has it
 --   residues-end     .. and where the loop ends
 --
@@ -25,7 +25,7 @@ use Rattle.algebra.proofs.Register.{register, register-length, register-none, r
 use Rattle.adaptation.specs.Binary.{𝔹}
 use Rattle.adaptation.specs.Bits.{bitsOf, bits, number, octetsOf}
 use Rattle.adaptation.specs.Check.{Kind, width, generator, plain, preset, checkBits, checkOf}
-use Rattle.adaptation.specs.Table.{entry}
+use Rattle.adaptation.specs.Columns.{remainderOf}
 use Rattle.adaptation.proofs.Remainders.{generator-length}
 use Rattle.adaptation.proofs.Octets.{bitsOf-length, sum-bitsOf, bits-snoc, octetsOf-cons, octetsOf-snoc, octetsOf-sum, not-sum, sum-zeros, xors}
 
@@ -129,20 +129,20 @@ module _ (κ : Kind) where
     moved-length : length (b ++ zeros 8) ≡ length (plain κ (bitsOf 8 (bitXor (number a) o)))
     moved-length = length-append b (zeros 8) ∙ (omega (arith, b-length, p-length, residue-length (bits u), plain-length (bitsOf 8 (bitXor (number a) o))))
 
-    stepped : residues (u ++ o ∷ []) ≡ xors (octetsOf l b ++ 0 ∷ []) (entry κ (bitXor (number a) o))
-    unfolding residues entry
+    stepped : residues (u ++ o ∷ []) ≡ xors (octetsOf l b ++ 0 ∷ []) (remainderOf κ (bitXor (number a) o))
+    unfolding residues remainderOf
     stepped =
         ap (octetsOf (κ .octets)) moved ∙ octetsOf-sum (κ .octets) (b ++ zeros 8) (plain κ (bitsOf 8 (bitXor (number a) o))) moved-length
-        ∙ ap (λ (v : List ℕ). xors v (entry κ (bitXor (number a) o))) (ap (λ (n : ℕ). octetsOf n (b ++ zeros 8)) some ∙ octetsOf-snoc l b b-length)
+        ∙ ap (λ (v : List ℕ). xors v (remainderOf κ (bitXor (number a) o))) (ap (λ (n : ℕ). octetsOf n (b ++ zeros 8)) some ∙ octetsOf-snoc l b b-length)
 
-    pub residues-step : (h : ℕ) (r : List ℕ) → residues u ≡ h ∷ r → residues (u ++ o ∷ []) ≡ xors (r ++ 0 ∷ []) (entry κ (bitXor h o))
+    pub residues-step : (h : ℕ) (r : List ℕ) → residues u ≡ h ∷ r → residues (u ++ o ∷ []) ≡ xors (r ++ 0 ∷ []) (remainderOf κ (bitXor h o))
     residues-step h r e =
-        stepped ∙ ap₂ (λ (x : ℕ) (v : List ℕ). xors (v ++ 0 ∷ []) (entry κ (bitXor x o))) (head-eq-of-cons-eq (sym held ∙ e)) (tail-eq-of-cons-eq (sym held ∙ e))
+        stepped ∙ ap₂ (λ (x : ℕ) (v : List ℕ). xors (v ++ 0 ∷ []) (remainderOf κ (bitXor x o))) (head-eq-of-cons-eq (sym held ∙ e)) (tail-eq-of-cons-eq (sym held ∙ e))
 
   -- ---- a loop over the content
 
   pub residues-turn : (l : ℕ) → κ .octets ≡ suc l → (content : List ℕ) (i h : ℕ) (r : List ℕ) → i < length content → getD content i 0 < 256
-      → h ∷ r ≡ residues (take i content) → xors (r ++ 0 ∷ []) (entry κ (bitXor h (getD content i 0))) ≡ residues (take (suc i) content)
+      → h ∷ r ≡ residues (take i content) → xors (r ++ 0 ∷ []) (remainderOf κ (bitXor h (getD content i 0))) ≡ residues (take (suc i) content)
   residues-turn l some content i h r within octet e =
       sym (ap residues (take-suc content i 0 within) ∙ residues-step l some (take i content) (getD content i 0) octet h r (sym e))
 

@@ -1,6 +1,6 @@
 -- The rule of the checks' tables.
 --
---   worked κ x     `entry κ x`; who unfolds this computes it
+--   worked κ x     `remainderOf κ x`; who unfolds this computes it
 --   column κ j t   the test of all 256 entries: is the table t column j of the check κ?
 --   column-of      .. if so, it is
 --
@@ -15,13 +15,13 @@ use Rattle.algebra.specs.Division.{sum, lowered, divided, remainder}
 use Rattle.octets.specs.Every.{every, every-at}
 use Rattle.adaptation.specs.Bits.{isOdd, bitsOf, number, octetsOf}
 use Rattle.adaptation.specs.Check.{Kind, generator, plain, eight, sixteen}
-use Rattle.adaptation.specs.Table.{entry, Column}
+use Rattle.adaptation.specs.Columns.{remainderOf, Column}
 
 unfoldable pub worked : Kind → ℕ → List ℕ
-unfolding isOdd bitsOf number octetsOf sum lowered divided remainder generator plain entry eight sixteen
-worked κ x = entry κ x
+unfolding isOdd bitsOf number octetsOf sum lowered divided remainder generator plain remainderOf eight sixteen
+worked κ x = remainderOf κ x
 
-worked-is : (κ : Kind) (x : ℕ) → worked κ x ≡ entry κ x
+worked-is : (κ : Kind) (x : ℕ) → worked κ x ≡ remainderOf κ x
 unfolding worked
 worked-is κ x = refl
 

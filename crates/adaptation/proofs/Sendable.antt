@@ -14,10 +14,10 @@ use Prim.Native.Nat.{ℕ, _+_, _*_, _≤_, _<_}
 use native.Mathlib.Omega.{arith}
 use borrow.Author.Tests.{le-leb, lt-leb}
 use lib.Dec.{leb}
-use Rattle.adaptation.specs.Refusal.{Told, refused, told, checked}
+use Rattle.calls.specs.Refusal.{Told, refused, told, checked}
 use Rattle.adaptation.specs.Check.{none, eight, sixteen}
 use Rattle.adaptation.specs.Width.{kindOf, widthOf, isKnown, kindAsked}
-use Rattle.adaptation.specs.AL1M.{isSetting, isSendable, mostRepairs, longestWord, tests, sentLength}
+use Rattle.adaptation.specs.AL1M.{isSetting, isSendable, mostRepairs, longestWord, al1mTests, sentLength}
 use Rattle.adaptation.specs.declared.checks.Width.{Width}
 use Rattle.adaptation.specs.declared.checks.Width.the-variants.{Zero, Eight, Sixteen}
 use Rattle.adaptation.specs.declared.checks.Asked.{Asked}
@@ -34,7 +34,7 @@ module _ (t n e : ℕ) where
   abbrev by : Asked → Told ℕ
   by a =
       checked refused
-      (tests (isKnown a && leb e mostRepairs) (leb 1 t && leb (t + kindAsked a .octets + 2 * e) longestWord) false)
+      (al1mTests (isKnown a && leb e mostRepairs) (leb 1 t && leb (t + kindAsked a .octets + 2 * e) longestWord) false)
       (told (t + kindAsked a .octets + 2 * e))
 
   pub length-unknown : widthOf n ≡ Unknown → sentLength t n e ≡ refused 1

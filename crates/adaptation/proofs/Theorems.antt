@@ -23,15 +23,16 @@ use Rattle.codeword.proofs.Distance.{distance-self, distance-zero}
 use Rattle.codeword.proofs.Systematic.{codeWord-only}
 use Rattle.codeword.proofs.Repairing.{reads-true}
 use Rattle.codeword.proofs.Theorems.{neverSecond, zeroSyndromes, repairedUnique}
-use Rattle.adaptation.specs.Refusal.{Told, refused, told, refusal}
+use Rattle.calls.specs.Refusal.{Told, refused, told, refusal}
+use Rattle.calls.proofs.Laws.{told-refused}
 use Rattle.adaptation.specs.Check.{none, agrees}
 use Rattle.adaptation.specs.Width.{isWidth, kindAt}
 use Rattle.adaptation.specs.AL1M.{longestWord, isSetting, isSendable, sentOctets}
 use Rattle.adaptation.specs.Sending as sending
-use Rattle.adaptation.specs.Sending.{message, Coded, Encoded}
-use Rattle.adaptation.specs.Receiving.{isWord, refusals, isBare, badgeOf, changedOf, unitOf, HandedIs, Receives}
+use Rattle.adaptation.specs.Sending.{message, Coded, Sends}
+use Rattle.adaptation.specs.Receiving.{isWord, receiveTests, isBare, badgeOf, changedOf, handedUnit, HandedIs, Receives}
 use Rattle.adaptation.specs.Claims.{isFaulty, SentIsHandedUp, FaultlessIsCodeWord, OutOfReachExactly, CheckFailedExactly, UncheckedExactly, NoCheckAgrees, EncodedUnique, ReceivedUnique, RefusalLeaves}
-use Rattle.adaptation.specs.declared.Length.the-variants as length
+use Rattle.calls.specs.declared.Length.the-variants as sends
 use Rattle.adaptation.specs.declared.Badge.{Badge}
 use Rattle.adaptation.specs.declared.Badge.the-variants.{Clean, Corrected, OutOfReach, CheckFailed, Unchecked}
 use Rattle.adaptation.specs.declared.al1m.Judgement.{Judgement}
@@ -42,13 +43,9 @@ use Rattle.adaptation.proofs.Coding.{message-length}
 use Rattle.adaptation.proofs.Refusals.{refused-none, refused-not}
 use Rattle.adaptation.proofs.Settings.{word-true, word-all}
 
--- a call is not answered in two ways
-apart : {A : Type 0} (t : Told A) (k : ℕ) (a : A) → t ≡ told a → t ≡ refused k → ⊥
-apart t k a p q = never (cc)
-
 -- ---- what is known of a word that is not refused
 
-module _ (n e : ℕ) (w before : List ℕ) (allowed : refusal (refusals (length w) n e (length before)) ≡ told tt) where
+module _ (n e : ℕ) (w before : List ℕ) (allowed : refusal (receiveTests (length w) n e (length before)) ≡ told tt) where
   passed : (isSetting n e ≡ true) × (isWord (length w) n e ≡ true) × (ltb (length before) (length w) ≡ false)
   passed = refused-none (isSetting n e) (isWord (length w) n e) (ltb (length before) (length w)) allowed
 
@@ -102,14 +99,14 @@ faultless-found false zero = refl
 faultless-found b (suc k) = refl
 
 -- the part that the badge chooses
-chosen : (b : Bool) (k t : ℕ) (w after c : List ℕ) → (k ≡ 0 → w ≡ c) → take t after ≡ take t c → unitOf (badgeOf b (reach.Found k) true) w after t ≡ take t c
+chosen : (b : Bool) (k t : ℕ) (w after c : List ℕ) → (k ≡ 0 → w ≡ c) → take t after ≡ take t c → handedUnit (badgeOf b (reach.Found k) true) w after t ≡ take t c
 chosen true zero t w after c z h = ap (take t) (z refl)
 chosen false zero t w after c z h = ap (take t) (z refl)
 chosen b (suc k) t w after c z h = h
 
 -- ---- what is handed up
 
-module _ (n e : ℕ) (w before after : List ℕ) (j : Judgement) (allowed : refusal (refusals (length w) n e (length before)) ≡ told tt)
+module _ (n e : ℕ) (w before after : List ℕ) (j : Judgement) (allowed : refusal (receiveTests (length w) n e (length before)) ≡ told tt)
     (h : HandedIs (kindAt n) e w before j after) where
   known : (length w ≤ 255) × (1 + kindAt n .octets + 2 * e ≤ length w) × (length w ≤ length before)
   known = word-is n e w before allowed
@@ -148,9 +145,9 @@ module _ (n e : ℕ) (w before after : List ℕ) (j : Judgement) (allowed : refu
     unfolding count
     changed-found = h .changed-is ∙ ap changedOf (has-found c near .1) ∙ changed-is
 
-    unit-found : agrees (kindAt n) (take (length w - 2 * e) c) ≡ true → unitOf (j .badge) w after (j .length) ≡ take (j .length) c
+    unit-found : agrees (kindAt n) (take (length w - 2 * e) c) ≡ true → handedUnit (j .badge) w after (j .length) ≡ take (j .length) c
     unit-found a =
-        ap (λ (b : Badge). unitOf b w after (j .length)) (badge-found ∙ ap (badgeOf (isBare (kindAt n) e) (reach.Found (distance w c))) a)
+        ap (λ (b : Badge). handedUnit b w after (j .length)) (badge-found ∙ ap (badgeOf (isBare (kindAt n) e) (reach.Found (distance w c))) a)
         ∙ chosen (isBare (kindAt n) e) (distance w c) (j .length) w after c (λ z. distance-zero w c (sym (near .long)) z) (front (j .length) (omega (arith, h .length-is)))
 
 pub faultlessIsCodeWord : FaultlessIsCodeWord
@@ -182,10 +179,10 @@ outOfReachExactly n e w before after j (allowed, h) = ((none, lost), λ b. let o
     none b = is-lost b .none (fits n e w before allowed)
 
     lost : ((c : List ℕ) → Within e w c → ⊥) → j .badge ≡ OutOfReach
-    lost never = h .badge-is ∙ go (h .reach) (h .repaired)
+    lost far = h .badge-is ∙ go (h .reach) (h .repaired)
       where
         go : (x : Reach) → Repaired e w before x after → badgeOf (isBare (kindAt n) e) x (agrees (kindAt n) (take (length w - 2 * e) after)) ≡ OutOfReach
-        go (reach.Found k) p = absurd (never (p .found) (p .within))
+        go (reach.Found k) p = absurd (far (p .found) (p .within))
         go reach.OutOfReach p = refl
 
 pub checkFailedExactly : CheckFailedExactly
@@ -228,7 +225,7 @@ unfolding judgement
 judgement-same j b k t p q r =
     ap (λ (x : Badge). judgement x (j .changed) (j .length)) p ∙ ap₂ (judgement b) q r
 
-module _ (n e m : ℕ) (u room sent : List ℕ) (s : Encoded n e u room (length.Octets m) sent) where
+module _ (n e m : ℕ) (u room sent : List ℕ) (s : Sends n e u room (sends.Octets m) sent) where
   coded : Coded (kindAt n) e u (s .1 .sent)
   coded = s .1 .coded
 
@@ -264,22 +261,22 @@ module _ (n e m : ℕ) (u room sent : List ℕ) (s : Encoded n e u room (length.
         sym (take-take (length u) (length (message (kindAt n) u)) (s .1 .sent) (omega (arith, message-length (kindAt n) u))) ∙ ap (take (length u)) (coded .begins)
         ∙ take-append-seam u _
 
-    allowed : refusal (refusals (length w) n e (length before)) ≡ told tt
+    allowed : refusal (receiveTests (length w) n e (length before)) ≡ told tt
     allowed =
         refused-not (isSetting n e) (isWord (length w) n e) (ltb (length before) (length w)) (sendable .0)
         (word-true (length w) n e (omega (arith, sizes)) (omega (arith, sizes, long))) (le-ltb (length before) (length w) (omega arith))
 
     handed : (r : Received) → Receives n e w before r after
-        → (b : Badge) × (r ≡ receive.Unit (judgement b (distance w (take m sent)) (length u))) × (unitOf b w after (length u) ≡ u) × (isFaulty b ≡ false)
-    handed (receive.Refused k) p = absurd (apart (refusal (refusals (length w) n e (length before))) k tt allowed (p .first))
+        → (b : Badge) × (r ≡ receive.Unit (judgement b (distance w (take m sent)) (length u))) × (handedUnit b w after (length u) ≡ u) × (isFaulty b ≡ false)
+    handed (receive.Refused k) p = told-refused allowed (p .first)
     handed (receive.Unit j) (a, h) =
         let c = s .1 .sent in
         let t : j .length ≡ length u = h .length-is ∙ omega (arith, l, long) in
         let d : j .changed ≡ distance w (take m sent) = changed-found n e w before after j a h c within ∙ ap (distance w) (sym sent-front) in
         let good : isFaulty (j .badge) ≡ false =
         ap isFaulty (badge-found n e w before after j a h c within ∙ ap (badgeOf (isBare (kindAt n) e) (reach.Found (distance w c))) agrees-sent) ∙ faultless-found (isBare (kindAt n) e) (distance w c) in
-        let u-is : unitOf (j .badge) w after (length u) ≡ u =
-        ap (unitOf (j .badge) w after) (sym t) ∙ unit-found n e w before after j a h c within agrees-sent ∙ ap (λ (i : ℕ). take i c) t ∙ unit-sent in
+        let u-is : handedUnit (j .badge) w after (length u) ≡ u =
+        ap (handedUnit (j .badge) w after) (sym t) ∙ unit-found n e w before after j a h c within agrees-sent ∙ ap (λ (i : ℕ). take i c) t ∙ unit-sent in
         (j .badge, ap receive.Unit (judgement-same j (j .badge) (distance w (take m sent)) (length u) refl d t), u-is, good)
 
 pub sentIsHandedUp : SentIsHandedUp
@@ -288,7 +285,7 @@ sentIsHandedUp n e m u room sent w before after r s l near fits p = handed n e m
 
 -- ---- how large the numbers are
 
-pub sent-small : (n e m : ℕ) (u room sent : List ℕ) → Encoded n e u room (length.Octets m) sent → m ≤ 255
+pub sent-small : (n e m : ℕ) (u room sent : List ℕ) → Sends n e u room (sends.Octets m) sent → m ≤ 255
 sent-small n e m u room sent s = sizes n e m u room sent s .1
 
 pub handed-small : (n e : ℕ) (w before after : List ℕ) (j : Judgement) → Receives n e w before (receive.Unit j) after → (j .changed ≤ 127) × (j .length ≤ 255)
@@ -310,14 +307,14 @@ first-same : (t : Told (Unit {0})) (k i : ℕ) → t ≡ refused k → t ≡ ref
 first-same t k i p q = cc
 
 pub encodedUnique : EncodedUnique
-encodedUnique n e u before after left (length.Octets m) (length.Octets i) (a, p) (b, q) =
+encodedUnique n e u before after left (sends.Octets m) (sends.Octets i) (a, p) (b, q) =
     let same : p .sent ≡ q .sent =
     codeWord-only e (message (kindAt n) u) (p .sent) (q .sent) (p .coded .long) (q .coded .long) (p .coded .code) (q .coded .code) (p .coded .begins) (q .coded .begins) in
-    (ap length.Octets (p .count ∙ ap length same ∙ sym (q .count)), p .written-is ∙ ap (written before 0) same ∙ sym (q .written-is))
-encodedUnique n e u before after left (length.Octets m) (length.Refused k) (a, p) q = absurd (apart (refusal (sending.refusals (length u) n e (length before))) k tt a (q .first))
-encodedUnique n e u before after left (length.Refused k) (length.Octets m) p (b, q) = absurd (apart (refusal (sending.refusals (length u) n e (length before))) k tt b (p .first))
-encodedUnique n e u before after left (length.Refused k) (length.Refused i) p q =
-    (ap length.Refused (first-same _ k i (p .first) (q .first)), p .same ∙ sym (q .same))
+    (ap sends.Octets (p .count ∙ ap length same ∙ sym (q .count)), p .written-is ∙ ap (written before 0) same ∙ sym (q .written-is))
+encodedUnique n e u before after left (sends.Octets m) (sends.Refused k) (a, p) q = told-refused a (q .first)
+encodedUnique n e u before after left (sends.Refused k) (sends.Octets m) p (b, q) = told-refused b (p .first)
+encodedUnique n e u before after left (sends.Refused k) (sends.Refused i) p q =
+    (ap sends.Refused (first-same _ k i (p .first) (q .first)), p .same ∙ sym (q .same))
 
 pub receivedUnique : ReceivedUnique
 unfolding judgement
@@ -326,7 +323,7 @@ receivedUnique n e w before after left (receive.Unit j) (receive.Unit i) (a, p) 
     let badge : j .badge ≡ i .badge =
     p .badge-is ∙ ap₂ (λ (x : Reach) (y : List ℕ). badgeOf (isBare (kindAt n) e) x (agrees (kindAt n) (take (length w - 2 * e) y))) (both .0) (both .1) ∙ sym (q .badge-is) in
     (ap receive.Unit (judgement-same j (i .badge) (i .changed) (i .length) badge (p .changed-is ∙ ap changedOf (both .0) ∙ sym (q .changed-is)) (p .length-is ∙ sym (q .length-is))), both .1)
-receivedUnique n e w before after left (receive.Unit j) (receive.Refused k) (a, p) q = absurd (apart (refusal (refusals (length w) n e (length before))) k tt a (q .first))
-receivedUnique n e w before after left (receive.Refused k) (receive.Unit j) p (b, q) = absurd (apart (refusal (refusals (length w) n e (length before))) k tt b (p .first))
+receivedUnique n e w before after left (receive.Unit j) (receive.Refused k) (a, p) q = told-refused a (q .first)
+receivedUnique n e w before after left (receive.Refused k) (receive.Unit j) p (b, q) = told-refused b (p .first)
 receivedUnique n e w before after left (receive.Refused k) (receive.Refused i) p q =
     (ap receive.Refused (first-same _ k i (p .first) (q .first)), p .same ∙ sym (q .same))

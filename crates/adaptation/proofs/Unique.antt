@@ -1,11 +1,8 @@
 -- Any two answers that a promise allows are equal, and so is what they leave in a lent output.
 --
---   once             two things of which something says the same are equal, where the saying can be undone
 --   badge-once       of badges
 --   badge-most       their numbers go to 4
 --   passed-once      AL1's answers
---   length-once      the answers that are lengths
---   ended-once       .. and what is left beside them
 --   read-once        .. to reading
 --   received-once    .. and to receiving
 --   check8-once      the checks of 8 bits
@@ -17,7 +14,8 @@ use mathlib.Core.List.{List, [], _∷_, head-eq-of-cons-eq}
 use Prim.Native.Nat.{ℕ, _≤_}
 use native.Mathlib.Omega.{arith}
 use lib.Dec.{eqb}
-use Rattle.adaptation.specs.Refusal.{Told, refused, told, Ended, says, ends}
+use Rattle.calls.specs.Refusal.{Told, refused, told}
+use Rattle.calls.proofs.Laws.{once}
 use Rattle.adaptation.specs.Check.{checkOf, eight}
 use Rattle.adaptation.specs.Handed.{badgeNumber, Handed}
 use Rattle.adaptation.specs.AL1 as al1
@@ -26,15 +24,10 @@ use Rattle.adaptation.specs.declared.Badge.{Badge}
 use Rattle.adaptation.specs.declared.Badge.the-variants.{Clean, Corrected, OutOfReach, CheckFailed, Unchecked}
 use Rattle.adaptation.specs.declared.al1.Passed.{Passed}
 use Rattle.adaptation.specs.declared.al1.Passed.the-variants as pass
-use Rattle.adaptation.specs.declared.Length.{Length}
-use Rattle.adaptation.specs.declared.Length.the-variants.{Octets, Refused}
 use Rattle.adaptation.specs.declared.al2.Apart.{Apart}
 use Rattle.adaptation.specs.declared.al2.Apart.the-variants as read
 use Rattle.adaptation.specs.declared.al2.Received.{Received}
 use Rattle.adaptation.specs.declared.al2.Received.the-variants as receive
-
-pub once : {A B : Type 0} (says : A → B) (undo : B → A) → ((a : A) → undo (says a) ≡ a) → (a b : A) (x : B) → says a ≡ x → says b ≡ x → a ≡ b
-once says undo back a b x p q = sym (back a) ∙ ap undo (p ∙ sym q) ∙ back b
 
 -- ---- badges
 
@@ -65,41 +58,13 @@ passedBack : Told Handed → Passed
 passedBack (told h) = pass.Unit (badgeAt (h .badge))
 passedBack (refused k) = pass.Refused k
 
-pub passed-once : (u : List ℕ) (a b : Passed) → al1.says a u ≡ al1.passed u → al1.says b u ≡ al1.passed u → a ≡ b
+pub passed-once : (u : List ℕ) (a b : Passed) → al1.passedSays a u ≡ al1.passed u → al1.passedSays b u ≡ al1.passed u → a ≡ b
 unfolding passedBack
-passed-once u a b = once (λ (r : Passed). al1.says r u) passedBack back a b (al1.passed u)
+passed-once u a b = once (λ (r : Passed). al1.passedSays r u) passedBack back a b (al1.passed u)
   where
-    back : (r : Passed) → passedBack (al1.says r u) ≡ r
+    back : (r : Passed) → passedBack (al1.passedSays r u) ≡ r
     back (pass.Unit b) = ap pass.Unit (badge-back b)
     back (pass.Refused k) = refl
-
--- ---- lengths
-
-lengthBack : Told ℕ → Length
-lengthBack (told n) = Octets n
-lengthBack (refused k) = Refused k
-
-length-back : (r : Length) → lengthBack (says r) ≡ r
-unfolding lengthBack
-length-back (Octets n) = refl
-length-back (Refused k) = refl
-
-pub length-once : (a b : Length) (x : Told ℕ) → says a ≡ x → says b ≡ x → a ≡ b
-length-once = once says lengthBack length-back
-
-pub ended-once : {X : Type 0} (a b : Length) (x y : X) (z : Ended ℕ X) → ends a x ≡ z → ends b y ≡ z → (a ≡ b) × (x ≡ y)
-ended-once {X = X} a b x y z p q = (
-  length-once a b (z .answer) (answer a x ∙ ap (λ (e : Ended ℕ X). e .answer) p) (answer b y ∙ ap (λ (e : Ended ℕ X). e .answer) q),
-  (sym (left a x) ∙ ap (λ (e : Ended ℕ X). e .left) (p ∙ sym q) ∙ left b y),
-)
-  where
-    answer : (r : Length) (u : X) → says r ≡ ends r u .answer
-    answer (Octets n) u = refl
-    answer (Refused k) u = refl
-
-    left : (r : Length) (u : X) → ends r u .left ≡ u
-    left (Octets n) u = refl
-    left (Refused k) u = refl
 
 -- ---- AL2
 

@@ -7,6 +7,8 @@
 --   sent-parts                     else the whole is written, part after part
 --   apart-short, apart-long        refusal 2: a whole that is too short, or too long
 --   apart-read                     else it is read
+--   judged t e                     receiving, by what reading told
+--   received-apart                 .. is that
 --   isNumbered n                   there is a number
 --   whole-apart                    a whole that was put together is read as what it was put together from, and its check agrees
 --   whole-received                 so its unit is handed up as it was, clean, or discarded for its number
@@ -23,10 +25,11 @@ use lib.Dec.{leb}
 use lib.ListN.{length, take, length-append}
 use lib.Seq.{take-at}
 use Rattle.octets.specs.Written.{written, written-next}
-use Rattle.adaptation.specs.Refusal.{Told, refused, told, leaving, refusing}
+use Rattle.calls.specs.Refusal.{Told, refused, told, leaving, refusing}
+use Rattle.calls.proofs.Laws.{checked-through}
 use Rattle.adaptation.specs.Check.{checkOf, agrees, eight}
-use Rattle.adaptation.specs.Handed.{longest, handed}
-use Rattle.adaptation.specs.AL2.{field, whole, isSendable, sent, fieldLength, numberOf, unitOf, Parts, apart, handedUp, settled, delivered, judged, received}
+use Rattle.adaptation.specs.Handed.{longestUnit, handed}
+use Rattle.adaptation.specs.AL2.{field, whole, isSendable, sent, fieldLength, numberOf, unitOf, Parts, readTests, partsOf, apart, Receipt, handedUp, settled, delivered, received}
 use Rattle.adaptation.specs.declared.al2.Number.{Number}
 use Rattle.adaptation.specs.declared.al2.Number.the-variants.{Numbered, Plain}
 use Rattle.adaptation.specs.declared.al2.Arrival.{Arrival}
@@ -55,13 +58,13 @@ module _ (n : Number) (u : List ℕ) (m : ℕ) (e : m ≡ length (field n)) wher
     unfolding sent
     sent-empty z = rw z
 
-    pub sent-long : longest < m + length u + 1 → sent n u out ≡ refusing out 2
+    pub sent-long : longestUnit < m + length u + 1 → sent n u out ≡ refusing out 2
     unfolding sent
-    sent-long l = rw (lt-leb (length (whole n u)) longest (rw whole-length l), and-false (leb 1 (length u)))
+    sent-long l = rw (lt-leb (length (whole n u)) longestUnit (rw whole-length l), and-false (leb 1 (length u)))
 
-    module _ (p : 0 < length u) (fits : m + length u + 1 ≤ longest) where
+    module _ (p : 0 < length u) (fits : m + length u + 1 ≤ longestUnit) where
       allowed : isSendable n u ≡ true
-      allowed = rw (le-leb 1 (length u) p, le-leb (length (whole n u)) longest (rw whole-length fits))
+      allowed = rw (le-leb 1 (length u) p, le-leb (length (whole n u)) longestUnit (rw whole-length fits))
 
       pub sent-room : length out < m + length u + 1 → sent n u out ≡ refusing out 3
       unfolding sent
@@ -90,14 +93,23 @@ module _ (s : Bool) (w : List ℕ) where
   unfolding apart
   apart-short l = rw (lt-leb (fieldLength s + 1 + 1) (length w) l)
 
-  pub apart-long : longest < length w → apart s w ≡ refused 2
+  pub apart-long : longestUnit < length w → apart s w ≡ refused 2
   unfolding apart
-  apart-long l = rw (lt-leb (length w) longest l, and-false (leb (fieldLength s + 1 + 1) (length w)))
+  apart-long l = rw (lt-leb (length w) longestUnit l, and-false (leb (fieldLength s + 1 + 1) (length w)))
 
-  pub apart-read : (n : Number) (t : Bool) → fieldLength s + 1 + 1 ≤ length w → length w ≤ longest → numberOf s w ≡ n → agrees eight w ≡ t
+  pub apart-read : (n : Number) (t : Bool) → fieldLength s + 1 + 1 ≤ length w → length w ≤ longestUnit → numberOf s w ≡ n → agrees eight w ≡ t
       → apart s w ≡ told (record { number = n; agreeing = t; unit = unitOf s w })
   unfolding apart
-  apart-read n t l m e a = rw (le-leb (fieldLength s + 1 + 1) (length w) l, le-leb (length w) longest m, e, a)
+  apart-read n t l m e a = rw (le-leb (fieldLength s + 1 + 1) (length w) l, le-leb (length w) longestUnit m, e, a)
+
+-- receiving, by what reading told
+abbrev pub judged : Told Parts → ℕ → Told Receipt
+judged (refused k) e = refused k
+judged (told p) e = told (settled (p .number) (p .agreeing) (p .unit) e)
+
+pub received-apart : (s : Bool) (w : List ℕ) (e : ℕ) → received s w e ≡ judged (apart s w) e
+unfolding received apart
+received-apart s w e = sym (checked-through (λ (t : Told Parts). judged t e) refused (readTests s w) (told (partsOf s w)))
 
 -- ---- both
 
@@ -121,18 +133,18 @@ fieldLength-is : (n : Number) → fieldLength (isNumbered n) ≡ length (field n
 fieldLength-is (Numbered n) = refl
 fieldLength-is Plain = refl
 
-pub whole-apart : (n : Number) (u : List ℕ) → 0 < length u → length (whole n u) ≤ longest
+pub whole-apart : (n : Number) (u : List ℕ) → 0 < length u → length (whole n u) ≤ longestUnit
     → apart (isNumbered n) (whole n u) ≡ told (record { number = n; agreeing = true; unit = u })
 whole-apart n u p l =
     apart-read (isNumbered n) (whole n u) n true (omega (arith, whole-length n u (length (field n)) refl, fieldLength-is n)) l (number-whole n u) (agrees-own eight (field n ++ u))
     ∙ ap (λ (v : List ℕ). told (record { number = n; agreeing = true; unit = v })) (unit-whole n u)
 
-pub whole-received : (n : Number) (u : List ℕ) (e : ℕ) → 0 < length u → length (whole n u) ≤ longest
+pub whole-received : (n : Number) (u : List ℕ) (e : ℕ) → 0 < length u → length (whole n u) ≤ longestUnit
     → received (isNumbered n) (whole n u) e ≡ told (settled n true u e)
 unfolding received
-whole-received n u e p l = ap (λ (t : Told Parts). judged t e) (whole-apart n u p l)
+whole-received n u e p l = received-apart (isNumbered n) (whole n u) e ∙ ap (λ (t : Told Parts). judged t e) (whole-apart n u p l)
 
-pub whole-ordered : (u : List ℕ) (e : ℕ) → e < 256 → 0 < length u → length (whole (Numbered e) u) ≤ longest
+pub whole-ordered : (u : List ℕ) (e : ℕ) → e < 256 → 0 < length u → length (whole (Numbered e) u) ≤ longestUnit
     → received true (whole (Numbered e) u) e ≡ told (handedUp (handed Clean u) 0 ((e + 1) % 256))
 whole-ordered u e h p l =
     whole-received (Numbered e) u e p l ∙ ap (λ (a : Arrival). told (delivered a u e)) (arrival-next e h)

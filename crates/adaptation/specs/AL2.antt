@@ -4,12 +4,14 @@
 --   fieldLength s   how many octets that is, by whether units have numbers
 --   whole n u       a unit u with its number, and the check of 8 bits over both (7.3.3.2.3)
 --   isSendable n u  u has an octet, and the whole at most 1,024
---   refusals        what refuses to put it into a lent output, in this order
+--   sendTests n u out   what refuses to put it into a lent output, in this order
 --   sent n u out    how that ends: with the octets written, or a refusal
 --   isWhole s w     w is no shorter than a number if there is one, a unit and a check, and no longer than 1,024 octets
 --   numberOf s w    the number and the unit that w is made of
 --   unitOf s w
 --   Parts           a unit that was read: its number, whether its check agrees, and the unit
+--   readTests s w   what refuses to read w
+--   partsOf s w     the parts of w
 --   apart s w       how reading w ends
 --   distance n e    n - e modulo 256
 --   mostMissing     the largest that counts as missing units, and not as a misdelivered one
@@ -19,7 +21,7 @@
 --                   number that is expected next
 --   delivered       .. by what becomes of its number, where its check agrees
 --   settled         .. by its parts: the check first, then the number if there is one
---   judged          .. by what reading told
+--   receiptOf s w e .. by the octets w, where e is expected
 --   received s w e  how receiving w ends, where e is expected
 --   apartSays, receivedSays   what each answer of the functions says
 --
@@ -30,9 +32,9 @@ use Prim.Native.Nat.{ℕ, _+_, _-_, _%_}
 use lib.Dec.{leb, ltb}
 use lib.ListN.{length, getD, take, drop}
 use Rattle.octets.specs.Written.{written}
-use Rattle.adaptation.specs.Refusal.{Told, refused, told, Ended, leaving, refusing, Test, _when_, checked}
+use Rattle.calls.specs.Refusal.{Told, refused, told, Ended, leaving, refusing, Test, _when_, checked}
 use Rattle.adaptation.specs.Check.{checkOf, agrees, eight}
-use Rattle.adaptation.specs.Handed.{longest, Handed, handed}
+use Rattle.adaptation.specs.Handed.{longestUnit, Handed, handed}
 use Rattle.adaptation.specs.declared.Badge.the-variants.{Clean, CheckFailed}
 use Rattle.adaptation.specs.declared.al2.Number.{Number}
 use Rattle.adaptation.specs.declared.al2.Number.the-variants.{Numbered, Plain}
@@ -53,13 +55,13 @@ abbrev pub whole : Number → List ℕ → List ℕ
 whole n u = (field n ++ u) ++ checkOf eight (field n ++ u)
 
 abbrev pub isSendable : Number → List ℕ → Bool
-isSendable n u = leb 1 (length u) && leb (length (whole n u)) longest
+isSendable n u = leb 1 (length u) && leb (length (whole n u)) longestUnit
 
-abbrev pub refusals : Number → List ℕ → List ℕ → List Test
-refusals n u out = 2 when not (isSendable n u) ∷ 3 when ltb (length out) (length (whole n u)) ∷ []
+abbrev pub sendTests : Number → List ℕ → List ℕ → List Test
+sendTests n u out = 2 when not (isSendable n u) ∷ 3 when ltb (length out) (length (whole n u)) ∷ []
 
 unfoldable pub sent : Number → List ℕ → List ℕ → Ended ℕ (List ℕ)
-sent n u out = checked (refusing out) (refusals n u out) (leaving (length (whole n u)) (written out 0 (whole n u)))
+sent n u out = checked (refusing out) (sendTests n u out) (leaving (length (whole n u)) (written out 0 (whole n u)))
 
 -- ---- reading
 
@@ -67,7 +69,7 @@ abbrev pub fieldLength : Bool → ℕ
 fieldLength s = cond s 1 0
 
 abbrev pub isWhole : Bool → List ℕ → Bool
-isWhole s w = leb (fieldLength s + 1 + 1) (length w) && leb (length w) longest
+isWhole s w = leb (fieldLength s + 1 + 1) (length w) && leb (length w) longestUnit
 
 abbrev pub numberOf : Bool → List ℕ → Number
 numberOf s w = cond s (Numbered (getD w 0 0)) Plain
@@ -80,10 +82,14 @@ pub record Parts : Type 0 where
   pub agreeing : Bool
   pub unit : List ℕ
 
+abbrev pub readTests : Bool → List ℕ → List Test
+readTests s w = 2 when not (isWhole s w) ∷ []
+
+abbrev pub partsOf : Bool → List ℕ → Parts
+partsOf s w = record { number = numberOf s w; agreeing = agrees eight w; unit = unitOf s w }
+
 unfoldable pub apart : Bool → List ℕ → Told Parts
-apart s w =
-    checked refused (2 when not (isWhole s w) ∷ [])
-    (told (record { number = numberOf s w; agreeing = agrees eight w; unit = unitOf s w }))
+apart s w = checked refused (readTests s w) (told (partsOf s w))
 
 -- ---- receiving
 
@@ -109,12 +115,11 @@ settled n false u e = handedUp (handed CheckFailed u) 0 e
 settled (Numbered n) true u e = delivered (arrival n e) u e
 settled Plain true u e = handedUp (handed Clean u) 0 e
 
-abbrev pub judged : Told Parts → ℕ → Told Receipt
-judged (refused k) e = refused k
-judged (told p) e = told (settled (p .number) (p .agreeing) (p .unit) e)
+abbrev pub receiptOf : Bool → List ℕ → ℕ → Receipt
+receiptOf s w e = settled (numberOf s w) (agrees eight w) (unitOf s w) e
 
 unfoldable pub received : Bool → List ℕ → ℕ → Told Receipt
-received s w e = judged (apart s w) e
+received s w e = checked refused (readTests s w) (told (receiptOf s w e))
 
 -- ---- what each answer says
 

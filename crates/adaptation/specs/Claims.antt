@@ -23,10 +23,10 @@ use lib.ListN.{length, take}
 use Rattle.codeword.specs.CodeWord.{Octets, distance, Within}
 use Rattle.adaptation.specs.Check.{none, agrees}
 use Rattle.adaptation.specs.Width.{kindAt}
-use Rattle.adaptation.specs.Sending.{Encoded}
-use Rattle.adaptation.specs.Receiving.{isBare, unitOf, Receives}
-use Rattle.adaptation.specs.declared.Length.{Length}
-use Rattle.adaptation.specs.declared.Length.the-variants as length
+use Rattle.adaptation.specs.Sending.{Sends}
+use Rattle.adaptation.specs.Receiving.{isBare, handedUnit, Receives}
+use Rattle.calls.specs.declared.Length.{Length}
+use Rattle.calls.specs.declared.Length.the-variants as sent
 use Rattle.adaptation.specs.declared.Badge.{Badge}
 use Rattle.adaptation.specs.declared.Badge.the-variants.{Clean, Corrected, OutOfReach, CheckFailed, Unchecked}
 use Rattle.adaptation.specs.declared.al1m.Judgement.{Judgement}
@@ -42,16 +42,16 @@ isFaulty Unchecked = false
 
 abbrev pub SentIsHandedUp : Type 0
 SentIsHandedUp =
-    (n e m : ℕ) (u room sent w before after : List ℕ) (r : Received) → Encoded n e u room (length.Octets m) sent
-    → length w ≡ m → distance w (take m sent) ≤ e → m ≤ length before → Receives n e w before r after
-    → (b : Badge) × (r ≡ Unit (record { badge = b; changed = distance w (take m sent); length = length u })) × (unitOf b w after (length u) ≡ u) × (isFaulty b ≡ false)
+    (n e m : ℕ) (u room whole w before after : List ℕ) (r : Received) → Sends n e u room (sent.Octets m) whole
+    → length w ≡ m → distance w (take m whole) ≤ e → m ≤ length before → Receives n e w before r after
+    → (b : Badge) × (r ≡ Unit (record { badge = b; changed = distance w (take m whole); length = length u })) × (handedUnit b w after (length u) ≡ u) × (isFaulty b ≡ false)
 
 -- what such a badge is given to
 pub record Faultless (n e : ℕ) (w after c : List ℕ) (j : Judgement) : Type 0 where
   pub within : Within e w c
   pub agreeing : agrees (kindAt n) (take (length w - 2 * e) c) ≡ true
   pub changed : j .changed ≡ distance w c
-  pub unit : unitOf (j .badge) w after (j .length) ≡ take (j .length) c
+  pub unit : handedUnit (j .badge) w after (j .length) ≡ take (j .length) c
 
 abbrev pub FaultlessIsCodeWord : Type 0
 FaultlessIsCodeWord =
@@ -78,7 +78,7 @@ NoCheckAgrees = (w : List ℕ) → agrees none w ≡ true
 
 abbrev pub EncodedUnique : Type 0
 EncodedUnique =
-    (n e : ℕ) (u before after left : List ℕ) (r q : Length) → Encoded n e u before r after → Encoded n e u before q left → (r ≡ q) × (after ≡ left)
+    (n e : ℕ) (u before after left : List ℕ) (r q : Length) → Sends n e u before r after → Sends n e u before q left → (r ≡ q) × (after ≡ left)
 
 abbrev pub ReceivedUnique : Type 0
 ReceivedUnique =
@@ -86,5 +86,5 @@ ReceivedUnique =
 
 abbrev pub RefusalLeaves : Type 0
 RefusalLeaves =
-    ((n e k : ℕ) (u before after : List ℕ) → Encoded n e u before (length.Refused k) after → after ≡ before)
+    ((n e k : ℕ) (u before after : List ℕ) → Sends n e u before (sent.Refused k) after → after ≡ before)
     × ((n e k : ℕ) (w before after : List ℕ) → Receives n e w before (Refused k) after → after ≡ before)

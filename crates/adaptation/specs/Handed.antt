@@ -1,6 +1,6 @@
 -- What is handed up (document 01, "AL1M units", "AL1 and AL2").
 --
---   longest         the octets of the longest unit; in AL2 its number and its check count too
+--   longestUnit         the octets of the longestUnit unit; in AL2 its number and its check count too
 --   badgeNumber b   document 01's number for each badge
 --   Handed          a unit that is handed up: its badge's number, how many of its octets were changed, and its octets
 --   handed b u      .. with none changed
@@ -11,8 +11,8 @@ use Prim.Native.Nat.{ℕ}
 use Rattle.adaptation.specs.declared.Badge.{Badge}
 use Rattle.adaptation.specs.declared.Badge.the-variants.{Clean, Corrected, OutOfReach, CheckFailed, Unchecked}
 
-abbrev pub longest : ℕ
-longest = 1024
+abbrev pub longestUnit : ℕ
+longestUnit = 1024
 
 abbrev pub badgeNumber : Badge → ℕ
 badgeNumber Clean = 0

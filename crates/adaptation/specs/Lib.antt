@@ -1,8 +1,7 @@
-pub mod Refusal
 pub mod Binary
 pub mod Bits
 pub mod Check
-pub mod Table
+pub mod Columns
 pub mod Width
 pub mod Handed
 pub mod AL1

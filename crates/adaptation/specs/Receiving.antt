@@ -1,15 +1,17 @@
 -- AL1M's receiving (document 01, "AL1M units"; 003, D.4.1.9).
 --
---   isWord m n e                     m octets may be a sent unit with a check of n bits and e repairs
---   refusals m n e room              what refuses to receive m octets, with `room` lent ones for the repair, in this order
+--   isWord n b e                     n octets may be a sent unit with a check of b bits and e repairs
+--   receiveTests n b e room          what refuses to receive n octets, with `room` lent ones for the repair, in this order
 --   isBare κ e                       there is neither a check nor a code
---   badgeOf b r a                    the badge, from whether it is bare, what the repair answers, and whether the check of the word
+--   badgeOf x r a                    the badge, from whether it is bare, what the repair answers, and whether the check of the word
 --                                    found agrees
 --   changedOf r                      in how many octets the word found differs from the received one; 0 where none was found
---   unitLength κ e m                 how many octets of m are the unit
---   unitOf b w after t               the unit handed up: the first t octets of the repair buffer when corrected, and of the received
+--   unitLength κ e n                 how many octets of n are the unit
+--   isCorrected x                    badge 1
+--   handedUnit x w after t           the unit handed up: the first t octets of the repair buffer when corrected, and of the received
 --                                    word w otherwise (house)
---   Receives n e w before r after    what receiving the word w, with the lent octets `before` for the repair, answers and leaves: it is
+--   HandedIs κ e w before j after    what is told of the word w, and left of the lent octets, where it is handed up
+--   Receives b e w before r after    what receiving the word w, with the lent octets `before` for the repair, answers and leaves: it is
 --                                    handed up, and the code word found is at the front of the lent octets, which are unchanged where none
 --                                    was found; or it is refused, and nothing changes
 --
@@ -23,10 +25,10 @@ use lib.ListN.{length, take}
 use Rattle.codeword.specs.Repair.{Repaired}
 use Rattle.codeword.specs.declared.Reach.{Reach}
 use Rattle.codeword.specs.declared.Reach.the-variants as reach
-use Rattle.adaptation.specs.Refusal.{told, Test, refusal, RefusedIs}
+use Rattle.calls.specs.Refusal.{told, Test, refusal, RefusedIs}
 use Rattle.adaptation.specs.Check.{Kind, agrees}
 use Rattle.adaptation.specs.Width.{kindAt}
-use Rattle.adaptation.specs.AL1M.{longestWord, tests, isSetting}
+use Rattle.adaptation.specs.AL1M.{longestWord, al1mTests, isSetting}
 use Rattle.adaptation.specs.declared.Badge.{Badge}
 use Rattle.adaptation.specs.declared.Badge.the-variants.{Clean, Corrected, OutOfReach, CheckFailed, Unchecked}
 use Rattle.adaptation.specs.declared.al1m.Judgement.{Judgement}
@@ -34,26 +36,26 @@ use Rattle.adaptation.specs.declared.al1m.Received.{Received}
 use Rattle.adaptation.specs.declared.al1m.Received.the-variants.{Unit, Refused}
 
 unfoldable pub isWord : ℕ → ℕ → ℕ → Bool
-isWord m n e = leb m longestWord && leb (1 + kindAt n .octets + 2 * e) m
+isWord n b e = leb n longestWord && leb (1 + kindAt b .octets + 2 * e) n
 
-abbrev pub refusals : ℕ → ℕ → ℕ → ℕ → List Test
-refusals m n e room = tests (isSetting n e) (isWord m n e) (ltb room m)
+abbrev pub receiveTests : ℕ → ℕ → ℕ → ℕ → List Test
+receiveTests n b e room = al1mTests (isSetting b e) (isWord n b e) (ltb room n)
 
 abbrev pub isBare : Kind → ℕ → Bool
 isBare κ e = eqb e 0 && eqb (κ .octets) 0
 
 abbrev pub badgeOf : Bool → Reach → Bool → Badge
-badgeOf b reach.OutOfReach a = OutOfReach
-badgeOf b (reach.Found k) false = CheckFailed
-badgeOf b (reach.Found zero) true = cond b Unchecked Clean
-badgeOf b (reach.Found (suc k)) true = Corrected
+badgeOf x reach.OutOfReach a = OutOfReach
+badgeOf x (reach.Found k) false = CheckFailed
+badgeOf x (reach.Found zero) true = cond x Unchecked Clean
+badgeOf x (reach.Found (suc k)) true = Corrected
 
 abbrev pub changedOf : Reach → ℕ
 changedOf (reach.Found k) = k
 changedOf reach.OutOfReach = 0
 
 abbrev pub unitLength : Kind → ℕ → ℕ → ℕ
-unitLength κ e m = m - 2 * e - κ .octets
+unitLength κ e n = n - 2 * e - κ .octets
 
 abbrev pub isCorrected : Badge → Bool
 isCorrected Clean = false
@@ -62,8 +64,8 @@ isCorrected OutOfReach = false
 isCorrected CheckFailed = false
 isCorrected Unchecked = false
 
-abbrev pub unitOf : Badge → List ℕ → List ℕ → ℕ → List ℕ
-unitOf b w after t = take t (cond (isCorrected b) after w)
+abbrev pub handedUnit : Badge → List ℕ → List ℕ → ℕ → List ℕ
+handedUnit x w after t = take t (cond (isCorrected x) after w)
 
 pub record HandedIs (κ : Kind) (e : ℕ) (w before : List ℕ) (j : Judgement) (after : List ℕ) : Type 0 where
   pub reach : Reach
@@ -73,6 +75,6 @@ pub record HandedIs (κ : Kind) (e : ℕ) (w before : List ℕ) (j : Judgement) 
   pub length-is : j .length ≡ unitLength κ e (length w)
 
 abbrev pub Receives : ℕ → ℕ → List ℕ → List ℕ → Received → List ℕ → Type 0
-Receives n e w before (Unit j) after =
-    (refusal (refusals (length w) n e (length before)) ≡ told tt) × HandedIs (kindAt n) e w before j after
-Receives n e w before (Refused k) after = RefusedIs (refusals (length w) n e (length before)) k before after
+Receives b e w before (Unit j) after =
+    (refusal (receiveTests (length w) b e (length before)) ≡ told tt) × HandedIs (kindAt b) e w before j after
+Receives b e w before (Refused k) after = RefusedIs (receiveTests (length w) b e (length before)) k before after

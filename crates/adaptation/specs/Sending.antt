@@ -3,8 +3,9 @@
 --   message κ u                     the unit u and its check of kind κ
 --   Coded κ e u c                   c is what u is sent as: the code word that begins with the message and has the 2e octets of parity
 --                                   behind it
---   refusals t n e room             what refuses to send a unit of t octets into `room` lent ones, in this order
---   Encoded n e u before r after    what sending u into the lent octets `before` answers and leaves: the sent unit is written at the
+--   encodeTests t b e room          what refuses to send a unit of t octets into `room` lent ones, in this order
+--   SentIs κ e u before m after     m octets, what u is sent as, are written at the front of the lent octets
+--   Sends b e u before r after      what sending u into the lent octets `before` answers and leaves: the sent unit is written at the
 --                                   front, and its length told; or it is refused, and nothing changes
 --
 -- Assumes nothing.
@@ -15,12 +16,12 @@ use lib.Dec.{ltb}
 use lib.ListN.{length, take}
 use Rattle.octets.specs.Written.{written}
 use Rattle.codeword.specs.CodeWord.{CodeWord}
-use Rattle.adaptation.specs.Refusal.{told, Test, refusal, RefusedIs}
+use Rattle.calls.specs.Refusal.{told, Test, refusal, RefusedIs}
 use Rattle.adaptation.specs.Check.{Kind, checkOf}
 use Rattle.adaptation.specs.Width.{kindAt}
-use Rattle.adaptation.specs.AL1M.{tests, isSetting, isSendable, sentOctets}
-use Rattle.adaptation.specs.declared.Length.{Length}
-use Rattle.adaptation.specs.declared.Length.the-variants.{Octets, Refused}
+use Rattle.adaptation.specs.AL1M.{al1mTests, isSetting, isSendable, sentOctets}
+use Rattle.calls.specs.declared.Length.{Length}
+use Rattle.calls.specs.declared.Length.the-variants.{Octets, Refused}
 
 abbrev pub message : Kind → List ℕ → List ℕ
 message κ u = u ++ checkOf κ u
@@ -30,8 +31,8 @@ pub record Coded (κ : Kind) (e : ℕ) (u c : List ℕ) : Type 0 where
   pub begins : take (length (message κ u)) c ≡ message κ u
   pub code : CodeWord e c
 
-abbrev pub refusals : ℕ → ℕ → ℕ → ℕ → List Test
-refusals t n e room = tests (isSetting n e) (isSendable t n e) (ltb room (sentOctets t n e))
+abbrev pub encodeTests : ℕ → ℕ → ℕ → ℕ → List Test
+encodeTests t b e room = al1mTests (isSetting b e) (isSendable t b e) (ltb room (sentOctets t b e))
 
 pub record SentIs (κ : Kind) (e : ℕ) (u before : List ℕ) (m : ℕ) (after : List ℕ) : Type 0 where
   pub sent : List ℕ
@@ -39,6 +40,6 @@ pub record SentIs (κ : Kind) (e : ℕ) (u before : List ℕ) (m : ℕ) (after :
   pub count : m ≡ length sent
   pub written-is : after ≡ written before 0 sent
 
-abbrev pub Encoded : ℕ → ℕ → List ℕ → List ℕ → Length → List ℕ → Type 0
-Encoded n e u before (Octets m) after = (refusal (refusals (length u) n e (length before)) ≡ told tt) × SentIs (kindAt n) e u before m after
-Encoded n e u before (Refused k) after = RefusedIs (refusals (length u) n e (length before)) k before after
+abbrev pub Sends : ℕ → ℕ → List ℕ → List ℕ → Length → List ℕ → Type 0
+Sends b e u before (Octets m) after = (refusal (encodeTests (length u) b e (length before)) ≡ told tt) × SentIs (kindAt b) e u before m after
+Sends b e u before (Refused k) after = RefusedIs (encodeTests (length u) b e (length before)) k before after

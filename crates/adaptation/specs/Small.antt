@@ -9,7 +9,7 @@
 use mathlib.Core.Path.{_≡_, refl}
 use mathlib.Core.List.{[], _∷_}
 use Rattle.algebra.specs.Division.{sum, lowered, divided, remainder}
-use Rattle.adaptation.specs.Refusal.{refused, told}
+use Rattle.calls.specs.Refusal.{refused, told}
 use Rattle.adaptation.specs.Bits.{isOdd, bitsOf, bits, number, octetsOf}
 use Rattle.adaptation.specs.Check.{generator, plain, preset, checkBits, checkOf, eight, sixteen}
 use Rattle.adaptation.specs.Width.{widthOf}

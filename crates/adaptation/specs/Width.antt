@@ -1,9 +1,11 @@
 -- The widths of a check that may be asked for: 0, 8 and 16 bits (document 01, "Refusal numbers").
 --
 --   kindOf w       the check that each case of `Width` names
---   widthOf n      the case for n bits, where there is one
---   isWidth n      there is one: `isKnown` of it
---   kindAt n       the check of n bits, and none where there is no such width: `kindAsked` of it
+--   widthOf b      the case for b bits, where there is one
+--   isKnown a      there is one
+--   kindAsked a    the check that it names, and none where there is no such width
+--   isWidth b      a check of b bits may be asked for
+--   kindAt b       the check of b bits
 --
 -- Assumes nothing.
 use mathlib.Core.Bool.{Bool, true, false, cond}
@@ -21,7 +23,7 @@ kindOf Eight = eight
 kindOf Sixteen = sixteen
 
 unfoldable pub widthOf : ℕ → Asked
-widthOf n = cond (eqb n 0) (Known Zero) (cond (eqb n 8) (Known Eight) (cond (eqb n 16) (Known Sixteen) Unknown))
+widthOf b = cond (eqb b 0) (Known Zero) (cond (eqb b 8) (Known Eight) (cond (eqb b 16) (Known Sixteen) Unknown))
 
 abbrev pub isKnown : Asked → Bool
 isKnown (Known w) = true
@@ -32,7 +34,7 @@ kindAsked (Known w) = kindOf w
 kindAsked Unknown = none
 
 abbrev pub isWidth : ℕ → Bool
-isWidth n = isKnown (widthOf n)
+isWidth b = isKnown (widthOf b)
 
 abbrev pub kindAt : ℕ → Kind
-kindAt n = kindAsked (widthOf n)
+kindAt b = kindAsked (widthOf b)

@@ -1,8 +1,8 @@
 // AL1 (000, 7.2).
 use crate::Badge;
-use crate::LONGEST;
+use crate::LONGEST_UNIT;
 ghost use mathlib.Core.Path.{_≡_};
-ghost use Rattle.adaptation.specs.AL1.{passed, says};
+ghost use Rattle.adaptation.specs.AL1.{passed, passedSays};
 
 // What AL1 answers: the unit as it is, with its badge, or document 01's refusal number.
 pub enum Passed {
@@ -12,13 +12,13 @@ pub enum Passed {
 
 // Passes a unit of 1 to 1,024 octets as it is; else refusal 2.
 pub fn pass(unit: &[u8]) -> Passed
-    ensures { λ r. ⌜ says r (now (unit .entry)) ≡ passed (now (unit .entry)) ⌝ }
+    ensures { λ r. ⌜ passedSays r (now (unit .entry)) ≡ passed (now (unit .entry)) ⌝ }
 {
     let n = unit.len();
     if n == 0 {
         return Passed::Refused(2);
     }
-    if LONGEST < n {
+    if LONGEST_UNIT < n {
         return Passed::Refused(2);
     }
     Passed::Unit(Badge::Unchecked)

@@ -1,6 +1,6 @@
 // AL1M (003, Annex D): a unit with its check and the code's parity behind it.
 use crate::Badge;
-use crate::Length;
+use calls::Length;
 use crate::checks;
 use crate::checks::Asked;
 use crate::checks::Width;
@@ -11,14 +11,14 @@ ghost use mathlib.Core.List.{List};
 ghost use Prim.Native.Nat.{ℕ, _+_, _*_, _≤_, _<_};
 ghost use lib.ListN.{length};
 ghost use Rattle.codeword.specs.declared.Reach.the-variants.{Found};
-ghost use Rattle.adaptation.specs.Refusal.{says};
+ghost use Rattle.calls.specs.Refusal.{lengthSays};
 ghost use Rattle.adaptation.specs.Check.{Kind};
 ghost use Rattle.adaptation.specs.Width.{kindOf};
 ghost use Rattle.adaptation.specs.AL1M.{sentLength};
-ghost use Rattle.adaptation.specs.Sending.{SentIs, Encoded};
-ghost use Rattle.adaptation.specs.Receiving.{badgeOf, isBare, unitOf, HandedIs, Receives};
+ghost use Rattle.adaptation.specs.Sending.{SentIs, Sends};
+ghost use Rattle.adaptation.specs.Receiving.{badgeOf, isBare, handedUnit, HandedIs, Receives};
 
-// The longest code word, and the most octets of one that may be repaired (003, D.4.1.7.3).
+// The longestUnit code word, and the most octets of one that may be repaired (003, D.4.1.7.3).
 pub const LONGEST_WORD: usize = 255;
 
 pub const MOST_REPAIRS: u32 = 127;
@@ -38,7 +38,7 @@ pub enum Received {
 
 // How many octets a unit is sent in, with a check of width bits and a code that repairs e octets: refusals 1, 2.
 pub fn sent_length(unit: usize, width: u32, e: u32) -> Length
-    ensures { λ r. ⌜ says r ≡ sentLength unit width e ⌝ }
+    ensures { λ r. ⌜ lengthSays r ≡ sentLength unit width e ⌝ }
 {
     let Asked::Known(w) = checks::width_of(width) else {
         return Length::Refused(1);
@@ -74,7 +74,7 @@ fn put(unit: &[u8], w: Width, e: usize, sent: &mut [u8])
 
 // The unit, its check and the parity into the front of `sent`: refusals 1, 2, 3.
 pub fn encode(unit: &[u8], width: u32, e: u32, sent: &mut [u8]) -> Length
-    ensures { λ r. ⌜ Encoded width e (now (unit .entry)) (now (sent .entry)) r (now (sent .exit)) ⌝ }
+    ensures { λ r. ⌜ Sends width e (now (unit .entry)) (now (sent .entry)) r (now (sent .exit)) ⌝ }
 {
     let Asked::Known(w) = checks::width_of(width) else {
         return Length::Refused(1);
@@ -165,7 +165,7 @@ pub fn receive(received: &[u8], width: u32, e: u32, repair: &mut [u8]) -> Receiv
 
 // The unit's part of the repair buffer when corrected, and of the received word otherwise; what is not there is left out.
 pub fn unit<'a>(received: &'a [u8], repair: &'a [u8], badge: Badge, t: usize) -> &'a [u8]
-    ensures { λ r. ⌜ now r ≡ unitOf badge (now (received .entry)) (now (repair .entry)) t ⌝ }
+    ensures { λ r. ⌜ now r ≡ handedUnit badge (now (received .entry)) (now (repair .entry)) t ⌝ }
 {
     let Badge::Corrected = badge else {
         return octets::front(received, t);

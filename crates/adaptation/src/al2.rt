@@ -1,7 +1,7 @@
 // AL2 (000, 7.3), but for the numbers that a channel keeps: its units are put together, read apart and judged.
 use crate::Badge;
-use crate::LONGEST;
-use crate::Length;
+use crate::LONGEST_UNIT;
+use calls::Length;
 use crate::checks::Width;
 use crate::seals;
 ghost use mathlib.Core.Path.{_≡_};
@@ -9,7 +9,7 @@ ghost use mathlib.Core.List.{List};
 ghost use Prim.Native.Nat.{ℕ, _≤_};
 ghost use lib.ListN.{length};
 ghost use Rattle.octets.specs.Written.{written};
-ghost use Rattle.adaptation.specs.Refusal.{told, ends};
+ghost use Rattle.calls.specs.Refusal.{told, ended, lengthSays};
 ghost use Rattle.adaptation.specs.AL2.{field, fieldLength, sent, apart, unitOf, arrival, settled, received, apartSays, receivedSays};
 
 // How far past the number expected a number counts as one after missing units, and not as misdelivered (house).
@@ -67,14 +67,14 @@ fn number_octets(number: Number) -> usize
 
 // Puts number, unit and check together at the front of out: refusals 2, 3.
 pub fn send(number: Number, unit: &[u8], out: &mut [u8]) -> Length
-    ensures { λ r. ⌜ ends r (now (out .exit)) ≡ sent number (now (unit .entry)) (now (out .entry)) ⌝ }
+    ensures { λ r. ⌜ ended (lengthSays r) (now (out .exit)) ≡ sent number (now (unit .entry)) (now (out .entry)) ⌝ }
 {
     let t = unit.len();
     if t == 0 {
         return Length::Refused(2);
     }
     let from = number_octets(number);
-    if LONGEST - 1 - from < t {
+    if LONGEST_UNIT - 1 - from < t {
         return Length::Refused(2);
     }
     let n = from + t;
@@ -102,7 +102,7 @@ pub fn read(whole: &[u8], numbered: bool) -> Apart
     if n < field_length(numbered) + 2 {
         return Apart::Refused(2);
     }
-    if LONGEST < n {
+    if LONGEST_UNIT < n {
         return Apart::Refused(2);
     }
     let agrees = seals::is_sealed(whole, Width::Eight);

@@ -9,7 +9,7 @@ ghost use mathlib.Core.List.{[], _∷_, _++_};
 ghost use Prim.Native.Nat.{ℕ, _-_};
 ghost use lib.ListN.{getD, replicate};
 ghost use Rattle.adaptation.specs.Check.{Kind, eight, sixteen, checkOf};
-ghost use Rattle.adaptation.specs.Table.{entry, Column};
+ghost use Rattle.adaptation.specs.Columns.{remainderOf, Column};
 ghost use Rattle.adaptation.specs.Width.{kindOf, widthOf};
 
 // The width of a check: 0 bits are no check.
@@ -50,7 +50,7 @@ pub fn octets_of(width: Width) -> usize
 
 // Entry x of a table of remainders.
 fn remainder(table: &[u8; 256], x: u8) -> u8
-    ensures { λ r. ⌜ ((κ : Kind) (j : ℕ) → Column κ j (now (table .entry)) → r ≡ getD (entry κ x) j 0) ⌝ }
+    ensures { λ r. ⌜ ((κ : Kind) (j : ℕ) → Column κ j (now (table .entry)) → r ≡ getD (remainderOf κ x) j 0) ⌝ }
 {
     table[x as usize]
 }

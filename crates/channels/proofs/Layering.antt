@@ -16,9 +16,9 @@ use Prim.Native.Nat.{ℕ, _+_, _-_, _≤_, _<_}
 use native.Mathlib.Nat.{add-sub-cancel-left}
 use borrow.Author.Tests.{lt-ltb, le-ltb, le-leb, lt-leb}
 use lib.ListN.{length, take, drop}
-use Rattle.adaptation.specs.Refusal.{Told, Ended, leaving, refusing, ends}
+use Rattle.calls.specs.Refusal.{Told, Ended, leaving, refusing, ends}
 use Rattle.adaptation.specs.AL2.{sent, received, Receipt}
-use Rattle.adaptation.specs.declared.Length.the-variants.{Octets, Refused}
+use Rattle.calls.specs.declared.Length.the-variants.{Octets, Refused}
 use Rattle.adaptation.proofs.Refusals.{sent-leaves}
 use Rattle.channels.specs.declared.Channels.{Channels}
 use Rattle.channels.specs.Channels.{placeOf, channelAt, put}

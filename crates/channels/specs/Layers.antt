@@ -9,7 +9,7 @@
 use mathlib.Core.Bool.{Bool, cond, not}
 use mathlib.Core.List.{List, [], _∷_}
 use Prim.Native.Nat.{ℕ, _+_, _%_}
-use Rattle.adaptation.specs.Refusal.{Told, refused, told, Ended, leaving, refusing, _when_, checked}
+use Rattle.calls.specs.Refusal.{Told, refused, told, Ended, leaving, refusing, _when_, checked}
 use Rattle.adaptation.specs.AL2.{sent, received, receivedSays, Receipt, handedUp, discarded}
 use Rattle.adaptation.specs.declared.al2.Number.{Number}
 use Rattle.adaptation.specs.declared.al2.Number.the-variants.{Numbered, Plain}

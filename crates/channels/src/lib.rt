@@ -4,7 +4,7 @@ pub mod places; // places.rt: where channels are
 
 use crate::places::place_of;
 use adaptation::LONGEST;
-use table::Outcome;
+use calls::Outcome;
 ghost use mathlib.Core.Path.{_≡_};
 ghost use Rattle.table.specs.Table.{ends};
 ghost use Rattle.channels.specs.Channels as the;

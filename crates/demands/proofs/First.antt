@@ -12,9 +12,9 @@ use lib.Dec.{ltb}
 use lib.ListN.{length}
 use Rattle.octets.specs.Tests.{never}
 use Rattle.octets.specs.Written.{written}
-use Rattle.adaptation.specs.Refusal.{Told, refused, told, Ended, leaving, refusing, Test, _when_, checked, refusal, ends}
+use Rattle.calls.specs.Refusal.{Told, refused, told, Ended, leaving, refusing, Test, _when_, checked, refusal, ends}
 use Rattle.adaptation.specs.Sending as sent
-use Rattle.adaptation.specs.Sending.{Encoded}
+use Rattle.adaptation.specs.Sending.{Sends}
 use Rattle.adaptation.specs.Receiving as got
 use Rattle.adaptation.specs.Receiving.{Receives}
 use Rattle.adaptation.specs.Check.{agrees, eight}
@@ -23,8 +23,8 @@ use Rattle.adaptation.specs.AL1M.{isSetting, isSendable, sentOctets, sentLength
 use Rattle.adaptation.specs.AL1 as al1
 use Rattle.adaptation.specs.AL2 as al2
 use Rattle.adaptation.specs.declared.Badge.the-variants.{Unchecked}
-use Rattle.adaptation.specs.declared.Length.{Length}
-use Rattle.adaptation.specs.declared.Length.the-variants as length
+use Rattle.calls.specs.declared.Length.{Length}
+use Rattle.calls.specs.declared.Length.the-variants as length
 use Rattle.adaptation.specs.declared.al1m.Received.{Received}
 use Rattle.adaptation.specs.declared.al1m.Received.the-variants as al1m
 use Rattle.channels.specs.declared.Channel.{Channel}
@@ -67,7 +67,7 @@ refused-refuses i x y l h s = record {
   leaves = λ k e. s;
 }
 
-encoding : (n e : ℕ) (u before after : List ℕ) (r : Length) → Encoded n e u before r after → Refuses (ends r after) (sent.refusals (length u) n e (length before)) before
+encoding : (n e : ℕ) (u before after : List ℕ) (r : Length) → Sends n e u before r after → Refuses (ends r after) (sent.refusals (length u) n e (length before)) before
 encoding n e u before after (length.Octets m) (a, p) = allowed-refuses m before after (sent.refusals (length u) n e (length before)) a
 encoding n e u before after (length.Refused k) p = refused-refuses k before after (sent.refusals (length u) n e (length before)) (p .first) (p .same)
 

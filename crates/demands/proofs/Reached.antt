@@ -17,7 +17,7 @@ use Rattle.codeword.specs.declared.Reach.the-variants as reach
 use Rattle.codeword.proofs.Theorems.{foundIsIt, neverSecond}
 use Rattle.adaptation.specs.Check.{agrees}
 use Rattle.adaptation.specs.Width.{kindAt}
-use Rattle.adaptation.specs.Refusal.{told, refusal}
+use Rattle.calls.specs.Refusal.{told, refusal}
 use Rattle.adaptation.specs.AL1M.{isSetting}
 use Rattle.adaptation.specs.Receiving.{isWord, refusals, isBare, badgeOf, changedOf, Receives}
 use Rattle.adaptation.specs.declared.Badge.the-variants.{OutOfReach}

@@ -10,7 +10,7 @@ use native.Mathlib.Nat.{le-refl}
 use native.Mathlib.Omega.{arith}
 use lib.ListN.{length}
 use Rattle.octets.specs.Tests.{never}
-use Rattle.adaptation.specs.Receiving.{Receives, unitOf}
+use Rattle.adaptation.specs.Receiving.{Receives, handedUnit}
 use Rattle.adaptation.specs.declared.Badge.{Badge}
 use Rattle.adaptation.specs.declared.Badge.the-variants.{Clean, Corrected}
 use Rattle.adaptation.specs.declared.al1m.Received.the-variants.{Unit}
@@ -24,7 +24,7 @@ module _ (R : Receiver) (keeps : Keeps R) (n e : ℕ) (w : List ℕ) (b : Badge)
   answers : R .answer n e w w ≡ Unit (record { badge = b; changed = k; length = length u })
   answers = row w (R .leaves n e w w) (R .answer n e w w) (le-refl (length w)) (keeps n e w w) .0
 
-  hands : unitOf b w (R .leaves n e w w) (length u) ≡ u
+  hands : handedUnit b w (R .leaves n e w w) (length u) ≡ u
   hands = row w (R .leaves n e w w) (R .answer n e w w) (le-refl (length w)) (keeps n e w w) .1
 
 module _ (R : Receiver) (keeps : Keeps R) where

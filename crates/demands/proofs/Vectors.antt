@@ -25,7 +25,7 @@ use Rattle.codeword.specs.CodeWord as code
 use Rattle.codeword.specs.CodeWord.{Octets, distance, Within}
 use Rattle.codeword.specs.Repair.{reads}
 use Rattle.codeword.specs.declared.Reach.the-variants as reach
-use Rattle.adaptation.specs.Refusal.{told, refusal}
+use Rattle.calls.specs.Refusal.{told, refusal}
 use Rattle.algebra.specs.Division.{sum, lowered, divided, remainder}
 use Rattle.adaptation.specs.Bits.{isOdd, bitsOf, bits, number, octetsOf}
 use Rattle.adaptation.specs.Check as check

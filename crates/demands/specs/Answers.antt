@@ -15,13 +15,13 @@ use mathlib.Core.List.{List, [], _∷_}
 use Prim.Native.Nat.{ℕ}
 use lib.Dec.{leb, ltb, eqb}
 use lib.ListN.{length}
-use Rattle.adaptation.specs.Refusal.{Told, refused, told, Ended, Test, _when_, refusal, ends}
+use Rattle.calls.specs.Refusal.{Told, refused, told, Ended, Test, _when_, refusal, ends}
 use Rattle.adaptation.specs.AL1M.{isSetting, isSendable, sentOctets, sentLength}
-use Rattle.adaptation.specs.Sending.{Encoded}
+use Rattle.adaptation.specs.Sending.{Sends}
 use Rattle.adaptation.specs.Receiving.{isWord, Receives}
 use Rattle.adaptation.specs.AL1 as al1
 use Rattle.adaptation.specs.AL2 as al2
-use Rattle.adaptation.specs.declared.Length.{Length}
+use Rattle.calls.specs.declared.Length.{Length}
 use Rattle.adaptation.specs.declared.al1m.Judgement.{Judgement}
 use Rattle.adaptation.specs.declared.al1m.Received.{Received}
 use Rattle.adaptation.specs.declared.al1m.Received.the-variants as al1m
@@ -61,7 +61,7 @@ walkOf s t c room = mux.walked s (pieces (entryOf t c) room)
 
 pub record Demand1 : Type 0 where
   pub lengths : (t n e : ℕ) → Refuses (alone (sentLength t n e)) (1 when not (isSetting n e) ∷ 2 when not (isSendable t n e) ∷ []) tt
-  pub encoding : (n e : ℕ) (u before after : List ℕ) (r : Length) → Encoded n e u before r after
+  pub encoding : (n e : ℕ) (u before after : List ℕ) (r : Length) → Sends n e u before r after
       → Refuses (ends r after)
       (1 when not (isSetting n e) ∷ 2 when not (isSendable (length u) n e) ∷ 3 when ltb (length before) (sentOctets (length u) n e) ∷ []) before
   pub receiving : (n e : ℕ) (w before after : List ℕ) (r : Received) → Receives n e w before r after

@@ -12,12 +12,12 @@ use lib.ListN.{length}
 use Rattle.algebra.specs.Polynomial.{polynomial}
 use Rattle.codeword.specs.Element.{elements}
 use Rattle.codeword.specs.CodeWord as code
-use Rattle.adaptation.specs.Refusal.{Told, refused, told}
+use Rattle.calls.specs.Refusal.{Told, refused, told}
 use Rattle.adaptation.specs.Check.{checkOf}
 use Rattle.adaptation.specs.Width.{kindAt}
 use Rattle.adaptation.specs.AL1M.{sentLength}
 use Rattle.adaptation.specs.Sending.{Coded}
-use Rattle.adaptation.specs.Receiving.{Receives, unitOf}
+use Rattle.adaptation.specs.Receiving.{Receives, handedUnit}
 use Rattle.adaptation.specs.declared.Badge.{Badge}
 use Rattle.adaptation.specs.declared.Badge.the-variants.{Clean, Corrected, OutOfReach, CheckFailed}
 use Rattle.adaptation.specs.declared.al1m.Received.{Received}
@@ -44,7 +44,7 @@ pub data Vector : Type 0 where
 abbrev pub ReceivedAs : ℕ → ℕ → List ℕ → Badge → ℕ → List ℕ → Type 0
 ReceivedAs n e w b k u =
     (before after : List ℕ) (r : Received) → length w ≤ length before → Receives n e w before r after
-    → (r ≡ al1m.Unit (record { badge = b; changed = k; length = length u })) × (unitOf b w after (length u) ≡ u)
+    → (r ≡ al1m.Unit (record { badge = b; changed = k; length = length u })) × (handedUnit b w after (length u) ≡ u)
 
 abbrev pub Holds : Vector → Type 0
 Holds (check n u c) = checkOf (kindAt n) u ≡ c

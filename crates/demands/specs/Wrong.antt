@@ -17,7 +17,7 @@ use mathlib.Core.List.{List}
 use Prim.Native.Nat.{ℕ}
 use Rattle.octets.specs.Written.{written}
 use Rattle.codeword.specs.CodeWord.{distance, Within}
-use Rattle.adaptation.specs.Receiving.{Receives, unitOf}
+use Rattle.adaptation.specs.Receiving.{Receives, handedUnit}
 use Rattle.adaptation.specs.declared.Badge.the-variants.{Clean, OutOfReach}
 use Rattle.adaptation.specs.declared.al1m.Judgement.{Judgement}
 use Rattle.adaptation.specs.declared.al1m.Received.{Received}
@@ -41,7 +41,7 @@ abbrev pub FindsNothing : Receiver → Type 0
 FindsNothing R = Always R (λ e w before after j. j .badge ≡ OutOfReach)
 
 abbrev pub SameUnit : Receiver → Type 0
-SameUnit R = (u : List ℕ) × Always R (λ e w before after j. unitOf (j .badge) w after (j .length) ≡ u)
+SameUnit R = (u : List ℕ) × Always R (λ e w before after j. handedUnit (j .badge) w after (j .length) ≡ u)
 
 abbrev pub SaysClean : Receiver → Type 0
 SaysClean R = Always R (λ e w before after j. (j .badge ≡ Clean) × (after ≡ written before 0 w))

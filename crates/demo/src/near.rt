@@ -1,6 +1,6 @@
 // The near end: units made, coded and posted.
 use crate::plan;
-use adaptation::Length;
+use calls::Length;
 use adaptation::al1m;
 use channels::ChannelNumber;
 use channels::Channels;

@@ -5,7 +5,7 @@ use crate::words;
 use crate::words::Number;
 use crate::words::Octets;
 use crate::words::Words;
-use adaptation::Length;
+use calls::Length;
 use adaptation::al1;
 use adaptation::al1::Passed;
 use adaptation::al1m;

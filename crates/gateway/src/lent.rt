@@ -1,5 +1,5 @@
 // The library's calls that write to a lent buffer, with as much of it lent as the line names.
-use adaptation::Length;
+use calls::Length;
 use adaptation::al1m;
 use channels::ChannelNumber;
 use channels::Channels;

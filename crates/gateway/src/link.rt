@@ -10,7 +10,7 @@ use crate::words::Words;
 use channels::After;
 use channels::Channels;
 use table::Code;
-use table::Outcome;
+use calls::Outcome;
 
 // Answers a line that cannot be read, and leaves the channels as they are.
 pub fn malformed(s: Channels) -> Channels {

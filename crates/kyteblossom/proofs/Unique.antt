@@ -6,9 +6,9 @@ use mathlib.Core.Path.{_≡_, sym, ap, _∙_}
 use mathlib.Core.List.{List}
 use Prim.Native.Nat.{ℕ}
 use lib.IntN.{ℤ}
-use Rattle.adaptation.specs.Refusal.{says}
+use Rattle.calls.specs.Refusal.{says}
 use Rattle.adaptation.proofs.Theorems.{encodedUnique, receivedUnique}
-use Rattle.adaptation.specs.declared.Length.{Length}
+use Rattle.calls.specs.declared.Length.{Length}
 use Rattle.kyteblossom.specs.Answer.{answer, receiveAnswer, EncodeIs, ReceiveIs}
 
 module _ (n e : ℕ) (u before after left : List ℕ) (r q : ℤ) where

@@ -11,11 +11,11 @@ use mathlib.Core.Path.{_≡_}
 use mathlib.Core.List.{List}
 use Prim.Native.Nat.{ℕ, _+_, _*_}
 use lib.IntN.{ℤ, pos, negℤ}
-use Rattle.adaptation.specs.Refusal.{Told, refused, told, says}
+use Rattle.calls.specs.Refusal.{Told, refused, told, says}
 use Rattle.adaptation.specs.Handed.{badgeNumber}
-use Rattle.adaptation.specs.Sending.{Encoded}
+use Rattle.adaptation.specs.Sending.{Sends}
 use Rattle.adaptation.specs.Receiving.{Receives}
-use Rattle.adaptation.specs.declared.Length.{Length}
+use Rattle.calls.specs.declared.Length.{Length}
 use Rattle.adaptation.specs.declared.al1m.Judgement.{Judgement}
 use Rattle.adaptation.specs.declared.al1m.Received.{Received}
 use Rattle.adaptation.specs.declared.al1m.Received.the-variants.{Unit, Refused}
@@ -33,7 +33,7 @@ receiveAnswer (Refused k) = negℤ (pos k)
 
 pub record EncodeIs (n e : ℕ) (u before : List ℕ) (r : ℤ) (after : List ℕ) : Type 0 where
   pub outcome : Length
-  pub encoded : Encoded n e u before outcome after
+  pub encoded : Sends n e u before outcome after
   pub number : r ≡ answer (says outcome)
 
 pub record ReceiveIs (n e : ℕ) (w before : List ℕ) (r : ℤ) (after : List ℕ) : Type 0 where

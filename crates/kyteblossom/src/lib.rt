@@ -1,6 +1,6 @@
 // The C entries: numbers and octet buffers, nothing else. include/kyteblossom.h declares them.
 use adaptation::Badge;
-use adaptation::Length;
+use calls::Length;
 use adaptation::al1m;
 use adaptation::al1m::Judgement;
 use adaptation::al1m::Received;

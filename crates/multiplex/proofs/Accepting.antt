@@ -16,7 +16,7 @@ use native.Mathlib.Omega.{arith}
 use borrow.Author.Tests.{le-ltb}
 use lib.ListN.{length, take}
 use Rattle.octets.specs.Written.{written, written-front}
-use Rattle.adaptation.specs.Refusal.{Ended, leaving}
+use Rattle.calls.specs.Refusal.{Ended, leaving}
 use Rattle.table.specs.Slots.{Slot, pieces, octetsOf, cut}
 use Rattle.table.specs.Laws.{cut-octets, pieces-filled, pieces-most, pieces-cut}
 use Rattle.table.specs.Table.{entryOf, isDefined}

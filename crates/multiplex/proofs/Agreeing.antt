@@ -27,7 +27,7 @@ use Rattle.channels.specs.declared.Channels.{Channels}
 use Rattle.channels.specs.Channels.{channelAt, placeOf, isIn, waits, waiting}
 use Rattle.multiplex.specs.Pieces.{Piece, placed, allOpen, total}
 use Rattle.multiplex.specs.Multiplexer.{Walk, isBlocked, goesOn, moved, left, stopped, sending, ending, walked}
-use Rattle.adaptation.proofs.Deciding.{by-test}
+use Rattle.calls.proofs.Laws.{by-test}
 use Rattle.multiplex.proofs.Seats.{seats, place-seats, seats-put}
 
 pub record Agrees (r : Channels) (l : List Slot) (x : Walk) : Type 0 where

@@ -15,7 +15,7 @@ use lib.Dec.{leb, ltb, eqb}
 use lib.ListN.{length, getD, set, take, replicate}
 use Rattle.octets.specs.Tests.{both-true, never}
 use Rattle.octets.specs.Written.{written, written-length}
-use Rattle.adaptation.specs.Refusal.{Told, refused, told, Ended, leaving, refusing, Test, _when_, checked}
+use Rattle.calls.specs.Refusal.{Told, refused, told, Ended, leaving, refusing, Test, _when_, checked}
 use Rattle.adaptation.specs.Handed.{longest}
 use Rattle.adaptation.proofs.Refusals.{checked-leaves}
 use Rattle.adaptation.specs.AL2 as al2
@@ -34,7 +34,7 @@ use Rattle.multiplex.specs.Multiplexer as mux
 use Rattle.multiplex.specs.Claims.{Orderly}
 use Rattle.multiplex.specs.Calls as calls
 use Rattle.multiplex.specs.Calls.{Link, Call, lentTo, after, led, begun, Sound, AlwaysSound}
-use Rattle.adaptation.proofs.Deciding.{None, by-tests}
+use Rattle.calls.proofs.Laws.{None, by-tests}
 use Rattle.multiplex.proofs.Holding.{orderly-put}
 use Rattle.multiplex.proofs.Theorems.{order-kept}
 

@@ -32,7 +32,7 @@ use Rattle.multiplex.specs.Multiplexer.{Walk, isBlocked, goesOn, moved, 
 use Rattle.multiplex.specs.Runs.{UnitOn}
 use Rattle.multiplex.proofs.Seats.{Seat, seats, seats-put, seat-at, put-there}
 use Rattle.multiplex.proofs.Matching.{full-there}
-use Rattle.adaptation.proofs.Deciding.{by-test}
+use Rattle.calls.proofs.Laws.{by-test}
 use Rattle.multiplex.proofs.Agreeing.{neither, waits-some, walk-agrees}
 use Rattle.multiplex.proofs.Passing.{piece-length, alike-there, Sound, sound-joined, sound-finished, sound-closed}
 

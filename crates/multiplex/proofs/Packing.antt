@@ -20,7 +20,7 @@ use native.Mathlib.Omega.{arith}
 use borrow.Author.Tests.{ne-eqb}
 use lib.ListN.{length, take}
 use Rattle.octets.specs.Written.{written}
-use Rattle.adaptation.specs.Refusal.{leaving, refusing}
+use Rattle.calls.specs.Refusal.{leaving, refusing}
 use Rattle.table.specs.declared.walk.Laid.{Laid}
 use Rattle.table.specs.Slots.{Slot, pieces}
 use Rattle.table.specs.Laws.{pieces-most}

@@ -13,7 +13,7 @@ use mathlib.Core.Bool.{Bool, true, false, not, _&&_}
 use Prim.Native.Nat.{ℕ, _≤_, _<_}
 use borrow.Author.Tests.{lt-ltb, le-ltb}
 use lib.ListN.{length}
-use Rattle.adaptation.specs.Refusal.{leaving, refusing}
+use Rattle.calls.specs.Refusal.{leaving, refusing}
 use Rattle.channels.specs.Channels.{channelAt}
 use Rattle.multiplex.specs.Pieces.{Piece, lastPlace}
 use Rattle.multiplex.specs.Demultiplexer.{Delivery, Lent, fits, delivery, tooSmall, writes, delivered}

@@ -19,7 +19,7 @@ use lib.Dec.{leb, ltb, eqb}
 use lib.ListN.{length, take}
 use Rattle.octets.specs.Tests.{both-true}
 use Rattle.octets.specs.Written.{written}
-use Rattle.adaptation.specs.Refusal.{Ended, leaving, refusing}
+use Rattle.calls.specs.Refusal.{Ended, leaving, refusing}
 use Rattle.table.specs.Slots.{pieces}
 use Rattle.table.specs.Table.{entryOf, isDefined, replaced}
 use Rattle.channels.specs.declared.Channels.{Channels}
@@ -32,7 +32,7 @@ use Rattle.multiplex.specs.Runs.{UnitOn, unitsOn, withoutLast, World, be
 use Rattle.multiplex.proofs.Seats.{free-seats, place-seats}
 use Rattle.multiplex.proofs.Matching.{Matched, posted-matched}
 use Rattle.multiplex.proofs.Opening.{opened-matched, start-matched}
-use Rattle.adaptation.proofs.Deciding.{by-test, by-tests}
+use Rattle.calls.proofs.Laws.{by-test, by-tests}
 use Rattle.multiplex.proofs.Accepting.{accepted, carried-over, payload-front}
 
 pub record Kept (x : World) : Type 0 where

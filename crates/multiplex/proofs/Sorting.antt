@@ -19,7 +19,7 @@ use borrow.Author.Tests.{lt-ltb, le-ltb, leb-true}
 use lib.Dec.{leb}
 use lib.ListN.{length, take, length-map}
 use Rattle.octets.specs.Tests.{both-true}
-use Rattle.adaptation.specs.Refusal.{refusing}
+use Rattle.calls.specs.Refusal.{refusing}
 use Rattle.table.specs.declared.walk.Laid.{Laid}
 use Rattle.table.specs.Slots.{Slot, endless, pieces, octetsOf}
 use Rattle.table.specs.Table.{entryOf, isDefined, highestCode}

@@ -14,7 +14,7 @@ use native.Mathlib.Omega.{arith}
 use borrow.Author.Tests.{not-false}
 use lib.ListN.{length}
 use Rattle.octets.specs.Tests.{never}
-use Rattle.adaptation.specs.Refusal.{Told, refused, told, Ended, leaving, refusing}
+use Rattle.calls.specs.Refusal.{Told, refused, told, Ended, leaving, refusing}
 use Rattle.table.specs.Slots.{Slot, pieces, octetsOf, channelsOf}
 use Rattle.table.specs.Laws.{pieces-most}
 use Rattle.table.specs.Table.{entryOf}
@@ -24,7 +24,7 @@ use Rattle.multiplex.specs.Pieces.{Piece, placed, allOpen, lastPlace}
 use Rattle.multiplex.specs.Demultiplexer.{Lent, Delivery, nothing, fits, tookAll, delivery, writes, callTests, slotTests, pieceTests, delivered, sorted, demultiplexed}
 use Rattle.multiplex.specs.Runs.{UnitOn, unitsOn, unitsIn}
 use Rattle.multiplex.specs.Claims.{DemandMet, IdleFails, RefuserFails, goingTo, Orderly, OctetsOnce, OrderKept}
-use Rattle.adaptation.proofs.Deciding.{by-tests}
+use Rattle.calls.proofs.Laws.{by-tests}
 use Rattle.multiplex.proofs.Seats.{place-seats, vacant-behind}
 use Rattle.multiplex.proofs.Records.{tells-nothing, tells-read}
 use Rattle.multiplex.proofs.Keeping.{Holds, slots-hold, closed-holds, last-known}

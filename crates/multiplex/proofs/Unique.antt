@@ -17,16 +17,16 @@ use mathlib.Core.Bool.{Bool}
 use mathlib.Core.List.{List}
 use Prim.Native.Nat.{ℕ}
 use Rattle.octets.specs.Tests.{never}
-use Rattle.adaptation.specs.Refusal as refusal
-use Rattle.adaptation.specs.Refusal.{Told, refused, told, Ended}
+use Rattle.calls.specs.Refusal as refusal
+use Rattle.calls.specs.Refusal.{Told, refused, told, Ended}
 use Rattle.adaptation.specs.Handed.{badgeNumber, Handed, handed}
 use Rattle.adaptation.specs.AL2.{Receipt, unitOf, receivedSays}
-use Rattle.adaptation.specs.declared.Length.{Length}
+use Rattle.calls.specs.declared.Length.{Length}
 use Rattle.adaptation.specs.declared.al2.Received.{Received}
 use Rattle.adaptation.specs.declared.al2.Received.the-variants as receive
 use Rattle.adaptation.proofs.Unique.{badge-once, ended-once}
-use Rattle.table.specs.declared.Outcome.{Outcome}
-use Rattle.table.specs.declared.Outcome.the-variants as outcome
+use Rattle.calls.specs.declared.Outcome.{Outcome}
+use Rattle.calls.specs.declared.Outcome.the-variants as outcome
 use Rattle.table.specs.Table as table
 use Rattle.channels.specs.declared.Channels.{Channels}
 use Rattle.channels.specs.declared.After.{After}

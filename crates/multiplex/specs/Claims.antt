@@ -17,7 +17,7 @@ use Prim.Native.Nat.{ℕ, _≤_}
 use lib.Dec.{eqb}
 use lib.ListN.{length}
 use Rattle.adaptation.specs.Handed.{longest}
-use Rattle.adaptation.specs.Refusal.{leaving}
+use Rattle.calls.specs.Refusal.{leaving}
 use Rattle.table.specs.Slots.{pieces, channelsOf}
 use Rattle.table.specs.Table.{entryOf}
 use Rattle.channels.specs.declared.Channels.{Channels}

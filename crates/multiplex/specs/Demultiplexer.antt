@@ -23,7 +23,7 @@ use Prim.Native.Nat.{ℕ, _+_, _*_}
 use lib.Dec.{leb, ltb}
 use lib.ListN.{length, take, drop}
 use Rattle.octets.specs.Written.{written}
-use Rattle.adaptation.specs.Refusal.{Ended, leaving, refusing, Test, _when_, checked}
+use Rattle.calls.specs.Refusal.{Ended, leaving, refusing, Test, _when_, checked}
 use Rattle.adaptation.specs.Handed.{longest}
 use Rattle.table.specs.Slots.{Slot, endless, pieces, octetsOf}
 use Rattle.table.specs.Table.{entryOf, isDefined}

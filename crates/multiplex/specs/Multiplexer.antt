@@ -21,7 +21,7 @@ use Prim.Native.Nat.{ℕ, _-_, min}
 use lib.Dec.{ltb, eqb}
 use lib.ListN.{length, take}
 use Rattle.octets.specs.Written.{written}
-use Rattle.adaptation.specs.Refusal.{Ended, leaving, refusing, _when_, checked}
+use Rattle.calls.specs.Refusal.{Ended, leaving, refusing, _when_, checked}
 use Rattle.table.specs.Slots.{Slot, endless, pieces}
 use Rattle.table.specs.Table.{entryOf, isDefined}
 use Rattle.channels.specs.declared.Channel.{Channel}

@@ -32,7 +32,7 @@ use mathlib.Core.List.{List, [], _∷_, _++_}
 use Prim.Native.Nat.{ℕ, zero, suc, _+_, _≤_}
 use lib.Dec.{leb, eqb}
 use lib.ListN.{length, getD, take, drop, replicate}
-use Rattle.adaptation.specs.Refusal.{Told, refused, told, Ended, leaving, refusing}
+use Rattle.calls.specs.Refusal.{Told, refused, told, Ended, leaving, refusing}
 use Rattle.table.specs.Table.{replaced}
 use Rattle.channels.specs.declared.Channels.{Channels}
 use Rattle.channels.specs.Channels.{start, placeOf, channelAt, opened, posted, Post}

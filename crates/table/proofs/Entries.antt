@@ -19,9 +19,9 @@ use lib.Dec.{eqb}
 use lib.ListN.{length, getD, take, drop}
 use lib.Seq.{getD-take, getD-drop}
 use Rattle.octets.specs.Tests.{never}
-use Rattle.adaptation.specs.Refusal.{leaving, refusing}
-use Rattle.table.specs.Form.{isEntry}
-use Rattle.table.specs.Table.{fixedEntry, entryOf, isDefined, placed, replaced}
+use Rattle.calls.specs.Refusal.{leaving, refusing}
+use Rattle.table.specs.Form.{longestEntry, isEntry}
+use Rattle.table.specs.Table.{highestCode, fixedEntry, entryOf, isDefined, withEntry, replaced}
 use Rattle.table.proofs.Reading.{entry-long, entry-empty}
 
 module _ (t : List ℕ) (c : ℕ) where
@@ -29,7 +29,7 @@ module _ (t : List ℕ) (c : ℕ) where
   unfolding entryOf
   entry-fixed e = rw e
 
-  pub defined-not : 15 < c → isDefined t c ≡ false
+  pub defined-not : highestCode < c → isDefined t c ≡ false
   unfolding isDefined
   defined-not h = rw (lt-leb _ _ h)
 
@@ -38,7 +38,7 @@ module _ (t : List ℕ) (c : ℕ) where
   defined-fixed e = rw e
 
   module _ (s : List ℕ) where
-    pub replaced-none : 15 < c → replaced t c s ≡ refusing t 4
+    pub replaced-none : highestCode < c → replaced t c s ≡ refusing t 4
     unfolding replaced
     replaced-none h = rw (lt-ltb _ _ h)
 
@@ -46,31 +46,31 @@ module _ (t : List ℕ) (c : ℕ) where
     unfolding replaced
     replaced-fixed e = rw e
 
-    module _ (low : c ≤ 15) (put : c ≡ 0 → ⊥) where
+    module _ (low : c ≤ highestCode) (put : c ≡ 0 → ⊥) where
       pub replaced-malformed : isEntry s ≡ false → replaced t c s ≡ refusing t 10
       unfolding replaced
       replaced-malformed e = rw (le-ltb _ _ low, ne-eqb _ _ put, e)
 
-      pub replaced-done : isEntry s ≡ true → replaced t c s ≡ leaving tt (placed t c s)
+      pub replaced-done : isEntry s ≡ true → replaced t c s ≡ leaving tt (withEntry t c s)
       unfolding replaced
       replaced-done e = rw (le-ltb _ _ low, ne-eqb _ _ put, e)
 
-pub entry-put : (t : List ℕ) (c : ℕ) → (c ≡ 0 → ⊥) → entryOf t c ≡ take 97 (drop (97 * (c - 1)) t)
+pub entry-put : (t : List ℕ) (c : ℕ) → (c ≡ 0 → ⊥) → entryOf t c ≡ take longestEntry (drop (longestEntry * (c - 1)) t)
 unfolding entryOf
 entry-put t zero z = absurd (z refl)
 entry-put t (suc c) z = rw (sub-one (suc c))
 
-pub defined-put : (t : List ℕ) (c : ℕ) → c ≤ 15 → (c ≡ 0 → ⊥) → isDefined t c ≡ not (eqb (getD t (97 * (c - 1)) 0) 0)
+pub defined-put : (t : List ℕ) (c : ℕ) → c ≤ highestCode → (c ≡ 0 → ⊥) → isDefined t c ≡ not (eqb (getD t (longestEntry * (c - 1)) 0) 0)
 unfolding isDefined
 defined-put t c h z =
-    let k = 97 * (c - 1) in
-    let e : getD (take 97 (drop k t)) 0 0 ≡ getD t k 0 = getD-take 97 (drop k t) 0 0 (omega arith) ∙ getD-drop k t 0 0 ∙ ap (λ (n : ℕ). getD t n 0) (add-zero k) in
+    let k = longestEntry * (c - 1) in
+    let e : getD (take longestEntry (drop k t)) 0 0 ≡ getD t k 0 = getD-take longestEntry (drop k t) 0 0 (omega arith) ∙ getD-drop k t 0 0 ∙ ap (λ (n : ℕ). getD t n 0) (add-zero k) in
     rw (le-leb _ _ h, entry-put t c z, e)
 
-pub entry-short : (s : List ℕ) → isEntry s ≡ true → length s ≤ 97
-entry-short s e = go (decLe (length s) 97)
+pub entry-short : (s : List ℕ) → isEntry s ≡ true → length s ≤ longestEntry
+entry-short s e = go (decLe (length s) longestEntry)
   where
-    go : Dec (length s ≤ 97) → length s ≤ 97
+    go : Dec (length s ≤ longestEntry) → length s ≤ longestEntry
     go (yes h) = h
     go (no h) = let u = entry-long s (omega arith) in never (cc)
 

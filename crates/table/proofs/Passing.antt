@@ -25,9 +25,9 @@ use Rattle.table.specs.declared.form.Head.{Head}
 use Rattle.table.specs.declared.form.Head.the-variants.{Inner, Malformed}
 use Rattle.table.specs.declared.form.Read.{Read}
 use Rattle.table.specs.declared.form.Read.the-variants.{Bad}
-use Rattle.table.specs.Form.{many, headAt, onHead, elementAt}
+use Rattle.table.specs.Form.{mostElements, many, headAt, onHead, elementAt}
 use Rattle.table.specs.Slots.{Slot, passes, copies, skip, inTurn, elementSlots, listSlots}
-use Rattle.table.specs.Laws.{passes-most, copies-nothing}
+use Rattle.table.proofs.Laws.{passes-most, copies-nothing}
 
 pub number-inside : (s : List ℕ) (k : ℕ) → (getD s k 0 ≡ 0 → ⊥) → k < length s
 number-inside s k h = go (decLe (length s) k)
@@ -154,7 +154,7 @@ module _ (s : List ℕ) where
 
   empty-stays : (d at : ℕ) → elementSlots s d at ≡ [] → skip s d at ≡ at
   unfolding skip
-  empty-stays d at e = rw (empty-bad d at 32 0 e)
+  empty-stays d at e = rw (empty-bad d at mostElements 0 e)
 
   empty-turns : (one : ℕ → List Slot) (next : ℕ → ℕ) (n at : ℕ) → one at ≡ [] → next at ≡ at → inTurn one next n at ≡ []
   unfolding inTurn

@@ -21,7 +21,7 @@ use Rattle.table.specs.declared.form.Head.{Head}
 use Rattle.table.specs.declared.form.Head.the-variants.{Channel, Inner, Malformed}
 use Rattle.table.specs.declared.form.Read.{Read}
 use Rattle.table.specs.declared.form.Read.the-variants.{Next, Bad}
-use Rattle.table.specs.Form.{andThen, many, headAt, onHead, elementAt, listAt, endsAt, isEntry}
+use Rattle.table.specs.Form.{longestEntry, mostElements, andThen, many, headAt, onHead, elementAt, listAt, endsAt, isEntry}
 use Rattle.table.specs.Slots.{Slot, skip, inTurn, slotsWith, elementSlots, listSlots, slots}
 use Rattle.table.proofs.Reading.{entry-read}
 use Rattle.table.proofs.Entries.{entry-short, entry-some}
@@ -161,9 +161,9 @@ self : (s : List ℕ) → Alike s s
 self s = record { longer = omega arith; same = λ i h. refl }
 
 -- the place after an element that is read
-skip-read : (s u : List ℕ) (alike : Alike s u) (d at left least a l : ℕ) → left ≤ 32 → elementAt s d at left least ≡ Next a l → skip u d at ≡ a
+skip-read : (s u : List ℕ) (alike : Alike s u) (d at left least a l : ℕ) → left ≤ mostElements → elementAt s d at left least ≡ Next a l → skip u d at ≡ a
 unfolding skip
-skip-read s u alike d at left least a l h e = rw (element-alike s u alike d at left least a l e .1 32 0 (omega arith) (omega arith))
+skip-read s u alike d at left least a l h e = rw (element-alike s u alike d at left least a l e .1 mostElements 0 (omega arith) (omega arith))
 
 -- the slots of one element, by its numbers
 with-alike : (s u : List ℕ) (alike : Alike s u) (v w : List Slot) (at : ℕ) → at + 3 ≤ length s → v ≡ w → slotsWith v u at ≡ slotsWith w s at
@@ -172,8 +172,8 @@ with-alike s u alike v w at h e =
 
 module _ (s u : List ℕ) (alike : Alike s u) where
   -- elements that are read one behind another, and k behind them that have the same slots
-  module _ (d : ℕ) (each : (at left least a l : ℕ) → left ≤ 32 → elementAt s d at left least ≡ Next a l → elementSlots u d at ≡ elementSlots s d at) where
-    turns-alike : (n k at left a l : ℕ) → left ≤ 32 → many (λ p b. elementAt s d p b 1) n at left ≡ Next a l
+  module _ (d : ℕ) (each : (at left least a l : ℕ) → left ≤ mostElements → elementAt s d at left least ≡ Next a l → elementSlots u d at ≡ elementSlots s d at) where
+    turns-alike : (n k at left a l : ℕ) → left ≤ mostElements → many (λ p b. elementAt s d p b 1) n at left ≡ Next a l
         → inTurn (elementSlots u d) (skip u d) k a ≡ inTurn (elementSlots s d) (skip s d) k a
         → inTurn (elementSlots u d) (skip u d) (n + k) at ≡ inTurn (elementSlots s d) (skip s d) (n + k) at
     unfolding many inTurn
@@ -183,7 +183,7 @@ module _ (s u : List ℕ) (alike : Alike s u) where
         rw (z, p) r
     turns-alike (suc n) k at left a l h e r = go (λ x y b q. turns-alike n k x y a l b q r) (elementAt s d at left 1) refl e
       where
-        go : ((x y : ℕ) → y ≤ 32 → many (λ p b. elementAt s d p b 1) n x y ≡ Next a l → inTurn (elementSlots u d) (skip u d) (n + k) x ≡ inTurn (elementSlots s d) (skip s d) (n + k) x)
+        go : ((x y : ℕ) → y ≤ mostElements → many (λ p b. elementAt s d p b 1) n x y ≡ Next a l → inTurn (elementSlots u d) (skip u d) (n + k) x ≡ inTurn (elementSlots s d) (skip s d) (n + k) x)
             → (o : Read) → elementAt s d at left 1 ≡ o → andThen o (many (λ p b. elementAt s d p b 1) n) ≡ Next a l
             → inTurn (elementSlots u d) (skip u d) (suc n + k) at ≡ inTurn (elementSlots s d) (skip s d) (suc n + k) at
         go rest Bad p q = never (cc)
@@ -192,7 +192,7 @@ module _ (s u : List ℕ) (alike : Alike s u) where
             let f = element-alike s s (self s) d at left 1 x y p .0 in
             rw (z, each at left 1 x y h p, skip-read s u alike d at left 1 x y h p, skip-read s s (self s) d at left 1 x y h p, rest x y (omega (arith, f)) q)
 
-  pub slots-alike : (d at left least a l : ℕ) → left ≤ 32 → elementAt s d at left least ≡ Next a l → elementSlots u d at ≡ elementSlots s d at
+  pub slots-alike : (d at left least a l : ℕ) → left ≤ mostElements → elementAt s d at left least ≡ Next a l → elementSlots u d at ≡ elementSlots s d at
   unfolding elementAt elementSlots inTurn
   slots-alike zero at left least a l h e = go (headAt s at left least) (head-is s at left least) e
     where
@@ -202,7 +202,7 @@ module _ (s u : List ℕ) (alike : Alike s u) where
       go (Inner n b c) (is-inner p k) q = never (cc)
   slots-alike (suc d) at left least a l h e = go (slots-alike d) (headAt s at left least) (head-is s at left least) e
     where
-      go : ((at left least a l : ℕ) → left ≤ 32 → elementAt s d at left least ≡ Next a l → elementSlots u d at ≡ elementSlots s d at)
+      go : ((at left least a l : ℕ) → left ≤ mostElements → elementAt s d at left least ≡ Next a l → elementSlots u d at ≡ elementSlots s d at)
           → (o : Head) → HeadIs s at left least o → onHead (many (λ a l. elementAt s d a l 1)) o ≡ Next a l → elementSlots u (suc d) at ≡ elementSlots s (suc d) at
       go each Malformed is-malformed q = never (cc)
       go each (Channel b c) (is-channel p k) q = with-alike s u alike _ _ at (p .inside) (rw (second-alike s u alike at left least p, k))
@@ -213,27 +213,27 @@ module _ (s u : List ℕ) (alike : Alike s u) where
 
   pub entry-alike : isEntry s ≡ true → slots u ≡ slots s
   unfolding slots listSlots listAt inTurn
-  entry-alike e = go (many (λ p b. elementAt s 2 p b 1) (n - 1) 1 32) refl (sym (entry-read s short some) ∙ e)
+  entry-alike e = go (many (λ p b. elementAt s 2 p b 1) (n - 1) 1 mostElements) refl (sym (entry-read s short some) ∙ e)
     where
       n : ℕ
       n = getD s 0 0
 
-      short : length s ≤ 97
+      short : length s ≤ longestEntry
       short = entry-short s e
 
       some : n ≡ 0 → ⊥
       some = entry-some s e
 
-      last : (a l : ℕ) → many (λ p b. elementAt s 2 p b 1) (n - 1) 1 32 ≡ Next a l → (r : Read) → elementAt s 2 a l 0 ≡ r → endsAt (length s) r ≡ true
+      last : (a l : ℕ) → many (λ p b. elementAt s 2 p b 1) (n - 1) 1 mostElements ≡ Next a l → (r : Read) → elementAt s 2 a l 0 ≡ r → endsAt (length s) r ≡ true
           → inTurn (elementSlots u 2) (skip u 2) (getD u 0 0) 1 ≡ inTurn (elementSlots s 2) (skip s 2) n 1
       last a l p Bad q o = never (cc)
       last a l p (Next x y) q o =
-          let f = many-alike s s (self s) (elementAt s 2) (elementAt s 2) (λ p b. element-alike s s (self s) 2 p b 1) (n - 1) 1 32 a l p .0 in
+          let f = many-alike s s (self s) (elementAt s 2) (elementAt s 2) (λ p b. element-alike s s (self s) 2 p b 1) (n - 1) 1 mostElements a l p .0 in
           let z : n - 1 + 1 ≡ n = omega (arith, some) in
-          let m = turns-alike 2 (slots-alike 2) (n - 1) 1 1 32 a l (omega arith) p (ap (λ (v : List Slot). v ++ []) (slots-alike 2 a l 0 x y f q)) in
+          let m = turns-alike 2 (slots-alike 2) (n - 1) 1 1 mostElements a l (omega arith) p (ap (λ (v : List Slot). v ++ []) (slots-alike 2 a l 0 x y f q)) in
           rw (alike .same 0 (number-inside s 0 some)) (rw z at m)
 
-      go : (r : Read) → many (λ p b. elementAt s 2 p b 1) (n - 1) 1 32 ≡ r → endsAt (length s) (andThen r (λ a l. elementAt s 2 a l 0)) ≡ true
+      go : (r : Read) → many (λ p b. elementAt s 2 p b 1) (n - 1) 1 mostElements ≡ r → endsAt (length s) (andThen r (λ a l. elementAt s 2 a l 0)) ≡ true
           → inTurn (elementSlots u 2) (skip u 2) (getD u 0 0) 1 ≡ inTurn (elementSlots s 2) (skip s 2) n 1
       go Bad p q = never (cc)
       go (Next a l) p q = last a l p (elementAt s 2 a l 0) refl q

@@ -17,7 +17,7 @@ use borrow.Author.Tests.{lt-ltb, le-ltb, eq-eqb, ne-eqb}
 use lib.ListN.{length, getD}
 use Rattle.table.specs.declared.form.Read.the-variants.{Next, Bad}
 use Rattle.table.specs.declared.form.Head.the-variants.{Channel, Inner, Malformed}
-use Rattle.table.specs.Form.{andThen, many, headAt, elementAt, listAt, endsAt, longestEntry, isEntry}
+use Rattle.table.specs.Form.{mostElements, andThen, many, headAt, elementAt, listAt, endsAt, longestEntry, isEntry}
 
 module _ (s : List ℕ) (at left least : ℕ) where
   pub is-channel : (d a l : ℕ) → headAt s at left least ≡ Channel a l → elementAt s d at left least ≡ Next a l
@@ -72,6 +72,6 @@ module _ (s : List ℕ) where
   entry-empty h e = rw (le-ltb _ _ h, eq-eqb _ _ e)
 
   pub entry-read : length s ≤ longestEntry → (getD s 0 0 ≡ 0 → ⊥)
-      → isEntry s ≡ endsAt (length s) (andThen (listAt s 2 (getD s 0 0 - 1) 1 32) (λ a l. elementAt s 2 a l 0))
+      → isEntry s ≡ endsAt (length s) (andThen (listAt s 2 (getD s 0 0 - 1) 1 mostElements) (λ a l. elementAt s 2 a l 0))
   unfolding isEntry
   entry-read h e = rw (le-ltb _ _ h, ne-eqb _ _ e)

@@ -15,17 +15,17 @@ use mathlib.Core.List.{List}
 use Prim.Native.Nat.{ℕ, _≤_}
 use lib.Dec.{eqb}
 use lib.ListN.{length, replicate, take}
-use Rattle.table.specs.declared.Outcome.{Outcome}
-use Rattle.table.specs.declared.Outcome.the-variants.{Refused}
+use Rattle.calls.specs.declared.Outcome.{Outcome}
+use Rattle.calls.specs.Refusal.{refused, ended, outcomeSays}
 use Rattle.table.specs.declared.walk.Laid.{Laid}
 use Rattle.table.specs.Form.{isEntry}
-use Rattle.table.specs.Slots.{Slot, slots, pieces, channelsOf}
-use Rattle.table.specs.Table.{highestCode, entryOf, isDefined, placed, replaced, ends}
+use Rattle.table.specs.Slots.{Slot, slots, payloadSlots, channelsOf}
+use Rattle.table.specs.Table.{highestCode, tableNumbers, entryOf, isDefined, withEntry, replaced}
 use Rattle.table.specs.Lays.{Lays}
 
 abbrev pub ReplacedUnique : Type 0
 ReplacedUnique =
-    (t s after left : List ℕ) (c : ℕ) (r q : Outcome) → ends r after ≡ replaced t c s → ends q left ≡ replaced t c s → (r ≡ q) × (after ≡ left)
+    (t s after left : List ℕ) (c : ℕ) (r q : Outcome) → ended (outcomeSays r) after ≡ replaced t c s → ended (outcomeSays q) left ≡ replaced t c s → (r ≡ q) × (after ≡ left)
 
 abbrev pub LaidUnique : Type 0
 LaidUnique =
@@ -33,19 +33,19 @@ LaidUnique =
     → (r ≡ q) × (c₁ ≡ c₂) × (l₁ ≡ l₂)
 
 abbrev pub RefusalLeaves : Type 0
-RefusalLeaves = (t s after : List ℕ) (c k : ℕ) → ends (Refused k) after ≡ replaced t c s → after ≡ t
+RefusalLeaves = (t s after : List ℕ) (c k : ℕ) → ended (refused k) after ≡ replaced t c s → after ≡ t
 
 abbrev pub ReplacedIsRead : Type 0
 ReplacedIsRead =
-    (t s : List ℕ) (c : ℕ) → length t ≡ 1455 → 1 ≤ c → c ≤ highestCode → isEntry s ≡ true
-    → (isDefined (placed t c s) c ≡ true) × (slots (entryOf (placed t c s) c) ≡ slots s)
+    (t s : List ℕ) (c : ℕ) → length t ≡ tableNumbers → 1 ≤ c → c ≤ highestCode → isEntry s ≡ true
+    → (isDefined (withEntry t c s) c ≡ true) × (slots (entryOf (withEntry t c s) c) ≡ slots s)
 
 abbrev pub OthersStay : Type 0
 OthersStay =
-    (t s : List ℕ) (c d : ℕ) → length t ≡ 1455 → 1 ≤ c → c ≤ highestCode → isEntry s ≡ true → (d ≡ c → ⊥) → entryOf (placed t c s) d ≡ entryOf t d
+    (t s : List ℕ) (c d : ℕ) → length t ≡ tableNumbers → 1 ≤ c → c ≤ highestCode → isEntry s ≡ true → (d ≡ c → ⊥) → entryOf (withEntry t c s) d ≡ entryOf t d
 
 abbrev pub FreshHasNone : Type 0
 FreshHasNone = (n c : ℕ) → isDefined (replicate n 0) c ≡ eqb c 0
 
 abbrev pub OctetsInTurn : Type 0
-OctetsInTurn = (s : List ℕ) (n : ℕ) → channelsOf (pieces s n) ≡ take n (channelsOf (slots s))
+OctetsInTurn = (s : List ℕ) (n : ℕ) → channelsOf (payloadSlots s n) ≡ take n (channelsOf (slots s))

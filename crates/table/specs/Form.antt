@@ -9,6 +9,8 @@
 --   elementAt       an element of a list from which lists may go `depth` deeper, where `left` elements may still come, and which
 --                   repeats at least `least` times
 --   listAt          n elements that repeat at least once
+--   mostElements    the most elements, counted at every depth
+--   endsAt n r      a reading ended at place n
 --   longestEntry    the most numbers that an entry has: 32 channels, each three, and how many they are
 --   isEntry s       s is an entry: 1 to 32 elements counted at every depth, lists to depth 3, the last at the top alone may repeat
 --                   until closing, and nothing behind it
@@ -58,6 +60,9 @@ abbrev pub endsAt : ℕ → Read → Bool
 endsAt n (Next at left) = eqb at n
 endsAt n Bad = false
 
+abbrev pub mostElements : ℕ
+mostElements = 32
+
 abbrev pub longestEntry : ℕ
 longestEntry = 97
 
@@ -65,4 +70,4 @@ unfoldable pub isEntry : List ℕ → Bool
 isEntry s =
     cond (ltb longestEntry (length s)) false
     (cond (eqb (getD s 0 0) 0) false
-    (endsAt (length s) (andThen (listAt s 2 (getD s 0 0 - 1) 1 32) (λ a l. elementAt s 2 a l 0))))
+    (endsAt (length s) (andThen (listAt s 2 (getD s 0 0 - 1) 1 mostElements) (λ a l. elementAt s 2 a l 0))))

@@ -1,7 +1,6 @@
 pub mod Form
 pub mod Slots
 pub mod Table
-pub mod Laws
 pub mod Lays
 pub mod Small
 pub mod Claims

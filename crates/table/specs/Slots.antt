@@ -9,7 +9,7 @@
 --   elementSlots    the slots of the element at `at`: a channel's one slot, or its list's slots, as often as it is passed
 --   slots s         the slots of entry s
 --   cut n l         the first n octets of the slots l: the last slot may be cut short
---   pieces s n      the slots of a payload of n octets under entry s, of fewer where the entry is shorter
+--   payloadSlots s n      the slots of a payload of n octets under entry s, of fewer where the entry is shorter
 --   octetsOf l      how many octets the slots l have
 --   channelsOf l    the channel of each of them
 --
@@ -21,7 +21,7 @@ use lib.Dec.{eqb}
 use lib.ListN.{getD}
 use Rattle.table.specs.declared.form.Read.{Read}
 use Rattle.table.specs.declared.form.Read.the-variants.{Next, Bad}
-use Rattle.table.specs.Form.{elementAt}
+use Rattle.table.specs.Form.{mostElements, elementAt}
 
 pub record Slot : Type 0 where
   pub channel : ℕ
@@ -42,7 +42,7 @@ placeAfter (Next a l) at = a
 placeAfter Bad at = at
 
 unfoldable pub skip : List ℕ → ℕ → ℕ → ℕ
-skip s depth at = placeAfter (elementAt s depth at 32 0) at
+skip s depth at = placeAfter (elementAt s depth at mostElements 0) at
 
 unfoldable pub inTurn : (ℕ → List Slot) → (ℕ → ℕ) → ℕ → ℕ → List Slot
 inTurn one next zero at = []
@@ -70,8 +70,8 @@ unfoldable pub cut : ℕ → List Slot → List Slot
 cut n [] = []
 cut n (x ∷ l) = cond (eqb n 0) [] (record { channel = x .channel; octets = min (x .octets) n } ∷ cut (n - x .octets) l)
 
-unfoldable pub pieces : List ℕ → ℕ → List Slot
-pieces s n = cut n (slots s)
+unfoldable pub payloadSlots : List ℕ → ℕ → List Slot
+payloadSlots s n = cut n (slots s)
 
 unfoldable pub octetsOf : List Slot → ℕ
 octetsOf [] = 0

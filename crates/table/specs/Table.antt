@@ -1,10 +1,13 @@
 -- The multiplex table (document 01, "Multiplex table"): entry 0 is fixed, the others stand one behind another in a lent array.
 --
 --   fixedEntry      entry 0: channel 0 until closing
+--   highestCode     the last code that may have an entry
+--   tableNumbers    how many numbers the array has: room for the longest entry at each code but 0
+--   longestPayload  the octets of the longest payload
 --   entryOf t c     the numbers of entry c of table t; it has more behind them where the entry is shorter
 --   isDefined t c   there is an entry c: one that was never put has no elements
---   placed t c s    the table with s as its entry c
---   refusals c s    what refuses that, in this order
+--   withEntry t c s    the table with s as its entry c
+--   replaceTests c s    what refuses that, in this order
 --   replaced t c s  how replacing entry c by s ends
 --
 -- Assumes nothing.
@@ -14,9 +17,7 @@ use Prim.Native.Nat.{ℕ, zero, suc, _-_, _*_}
 use lib.Dec.{leb, ltb, eqb}
 use lib.ListN.{getD, take, drop}
 use Rattle.octets.specs.Written.{written}
-use Rattle.adaptation.specs.Refusal.{Ended, leaving, refusing, Test, _when_, checked}
-use Rattle.table.specs.declared.Outcome.{Outcome}
-use Rattle.table.specs.declared.Outcome.the-variants.{Done, Refused}
+use Rattle.calls.specs.Refusal.{Ended, leaving, refusing, Test, _when_, checked}
 use Rattle.table.specs.Form.{longestEntry, isEntry}
 
 abbrev pub fixedEntry : List ℕ
@@ -25,6 +26,12 @@ fixedEntry = 1 ∷ 0 ∷ 0 ∷ 0 ∷ []
 abbrev pub highestCode : ℕ
 highestCode = 15
 
+abbrev pub tableNumbers : ℕ
+tableNumbers = highestCode * longestEntry
+
+abbrev pub longestPayload : ℕ
+longestPayload = 255
+
 unfoldable pub entryOf : List ℕ → ℕ → List ℕ
 entryOf t zero = fixedEntry
 entryOf t (suc k) = take longestEntry (drop (longestEntry * k) t)
@@ -32,16 +39,11 @@ entryOf t (suc k) = take longestEntry (drop (longestEntry * k) t)
 unfoldable pub isDefined : List ℕ → ℕ → Bool
 isDefined t c = leb c highestCode && not (eqb (getD (entryOf t c) 0 0) 0)
 
-abbrev pub placed : List ℕ → ℕ → List ℕ → List ℕ
-placed t c s = written t (longestEntry * (c - 1)) s
+abbrev pub withEntry : List ℕ → ℕ → List ℕ → List ℕ
+withEntry t c s = written t (longestEntry * (c - 1)) s
 
-abbrev pub refusals : ℕ → List ℕ → List Test
-refusals c s = 4 when ltb highestCode c ∷ 14 when eqb c 0 ∷ 10 when not (isEntry s) ∷ []
+abbrev pub replaceTests : ℕ → List ℕ → List Test
+replaceTests c s = 4 when ltb highestCode c ∷ 14 when eqb c 0 ∷ 10 when not (isEntry s) ∷ []
 
 unfoldable pub replaced : List ℕ → ℕ → List ℕ → Ended (Unit {0}) (List ℕ)
-replaced t c s = checked (refusing t) (refusals c s) (leaving tt (placed t c s))
-
--- what an answer says, and what it leaves
-abbrev pub ends : {X : Type 0} → Outcome → X → Ended (Unit {0}) X
-ends Done x = leaving tt x
-ends (Refused k) x = refusing x k
+replaced t c s = checked (refusing t) (replaceTests c s) (leaving tt (withEntry t c s))

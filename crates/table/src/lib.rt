@@ -3,33 +3,30 @@ pub mod form; // form.rt: whether numbers are an entry
 pub mod walk; // walk.rt: the slots of an entry
 
 use crate::walk::Laid;
+use calls::Outcome;
 ghost use mathlib.Core.Path.{_≡_};
 ghost use Prim.Native.Nat.{_+_, _*_, _≤_};
 ghost use lib.ListN.{length, take, drop};
 ghost use Rattle.octets.specs.Written.{written};
-ghost use Rattle.table.specs.Table.{entryOf, isDefined, replaced, ends};
+ghost use Rattle.calls.specs.Refusal.{ended, outcomeSays};
+ghost use Rattle.table.specs.Form.{longestEntry};
+ghost use Rattle.table.specs.Table.{highestCode, longestPayload, entryOf, isDefined, replaced};
 ghost use Rattle.table.specs.Slots as slotted;
 ghost use Rattle.table.specs.Lays.{Lays};
 
 // A multiplex code: which entry of the table a payload is laid out by. It is no channel number.
 pub struct Code(pub u32);
 
-// How many numbers a table has: 15 entries of 97, entry 0 being fixed.
-pub const TABLE: usize = 1455;
-
 pub const HIGHEST_CODE: u32 = 15;
 
-// The octets of the longest payload.
-pub const PAYLOAD: usize = 255;
+// How many numbers a table has: entry 0 is fixed, and each of the others has room for the longest.
+pub const TABLE_NUMBERS: usize = HIGHEST_CODE as usize * form::LONGEST_ENTRY;
 
-// What a call without an answer of its own says: it is done, or document 01's refusal number.
-pub enum Outcome {
-    Done,
-    Refused(u8),
-}
+// The octets of the longest payload.
+pub const LONGEST_PAYLOAD: usize = 255;
 
 // Whether the table has an entry for the code.
-pub fn is_defined(table: &[u16; 1455], code: Code) -> bool
+pub fn is_defined(table: &[u16; TABLE_NUMBERS], code: Code) -> bool
     ensures { λ r. ⌜ r ≡ isDefined (now (table .entry)) (code .0) ⌝ }
 {
     let c = code.0;
@@ -45,8 +42,8 @@ pub fn is_defined(table: &[u16; 1455], code: Code) -> bool
 
 // The numbers of entry k + 1, with what stands behind them where it is shorter.
 fn entry_at(table: &[u16], k: usize) -> &[u16]
-    requires { ⌜ 97 * k + 97 ≤ length (now table) ⌝ }
-    ensures { λ r. ⌜ now r ≡ take 97 (drop (97 * k) (now (table .entry))) ⌝ }
+    requires { ⌜ longestEntry * k + longestEntry ≤ length (now table) ⌝ }
+    ensures { λ r. ⌜ now r ≡ take longestEntry (drop (longestEntry * k) (now (table .entry))) ⌝ }
 {
     let at = form::LONGEST_ENTRY * k;
     let end = at + form::LONGEST_ENTRY;
@@ -55,15 +52,15 @@ fn entry_at(table: &[u16], k: usize) -> &[u16]
 
 // The slots of a payload of n octets under the code's entry: their channels to the front of `channels`, how many octets each has to
 // the front of `lengths`. The multiplexer alone calls it, and has tested the code and the length.
-pub fn pieces(
-    table: &[u16; 1455],
+pub fn payload_slots(
+    table: &[u16; TABLE_NUMBERS],
     code: Code,
     n: usize,
-    channels: &mut [u16; 255],
-    lengths: &mut [u16; 255],
+    channels: &mut [u16; LONGEST_PAYLOAD],
+    lengths: &mut [u16; LONGEST_PAYLOAD],
 ) -> Laid
-    requires { ⌜ (n ≤ 255) × (code .0 ≤ 15) ⌝ }
-    ensures { λ r. ⌜ Lays (record { count = 0; left = n }) (slotted.pieces (entryOf (now (table .entry)) (code .0)) n) r (now (channels .entry)) (now (lengths .entry)) (now (channels .exit)) (now (lengths .exit)) ⌝ }
+    requires { ⌜ (n ≤ longestPayload) × (code .0 ≤ highestCode) ⌝ }
+    ensures { λ r. ⌜ Lays (record { count = 0; left = n }) (slotted.payloadSlots (entryOf (now (table .entry)) (code .0)) n) r (now (channels .entry)) (now (lengths .entry)) (now (channels .exit)) (now (lengths .exit)) ⌝ }
 {
     let c = code.0;
     if c == 0 {
@@ -85,9 +82,9 @@ fn write(dst: &mut [u16], at: usize, src: &[u16])
     }
 }
 
-// Replaces the code's entry: refusals 4 (there is no such code), 14, 10.
-pub fn replace(table: &mut [u16; 1455], code: Code, entry: &[u16]) -> Outcome
-    ensures { λ r. ⌜ ends r (now (table .exit)) ≡ replaced (now (table .entry)) (code .0) (now (entry .entry)) ⌝ }
+// Replaces the code's entry: replaceTests 4 (there is no such code), 14, 10.
+pub fn replace(table: &mut [u16; TABLE_NUMBERS], code: Code, entry: &[u16]) -> Outcome
+    ensures { λ r. ⌜ ended (outcomeSays r) (now (table .exit)) ≡ replaced (now (table .entry)) (code .0) (now (entry .entry)) ⌝ }
 {
     let c = code.0;
     if HIGHEST_CODE < c {

@@ -5,7 +5,7 @@ ghost use mathlib.Core.Path.{_≡_};
 ghost use mathlib.Core.List.{[], _∷_};
 ghost use Prim.Native.Nat.{_+_, _≤_};
 ghost use lib.ListN.{length, getD};
-ghost use Rattle.table.specs.Slots.{passes, copies, skip, elementSlots, listSlots, cut, pieces};
+ghost use Rattle.table.specs.Slots.{passes, copies, skip, elementSlots, listSlots, cut, payloadSlots};
 ghost use Rattle.table.specs.Lays.{Room, Lays};
 
 // The passes of what repeats until closing: as many as the longest payload has octets.
@@ -159,7 +159,7 @@ fn lay_list(
 // The slots of a payload of n octets under entry s.
 pub fn lay(s: &[u16], n: usize, channels: &mut [u16], lengths: &mut [u16]) -> Laid
     requires { ⌜ (n ≤ length (now channels)) × (n ≤ length (now lengths)) ⌝ }
-    ensures { λ r. ⌜ Lays (record { count = 0; left = n }) (pieces (now (s .entry)) n) r (now (channels .entry)) (now (lengths .entry)) (now (channels .exit)) (now (lengths .exit)) ⌝ }
+    ensures { λ r. ⌜ Lays (record { count = 0; left = n }) (payloadSlots (now (s .entry)) n) r (now (channels .entry)) (now (lengths .entry)) (now (channels .exit)) (now (lengths .exit)) ⌝ }
 {
     let count = number(s, 0, 0);
     let from = Laid { count: 0, left: n };

@@ -5,7 +5,7 @@ use native.Mathlib.Omega.{arith}
 use mir.Syntax.{w32}
 use mir.Facts.{toZ-pos, toZ-ofZ}
 use Rattle.adaptation.proofs.Theorems.{sent-small}
-use Rattle.adaptation.specs.declared.Length.the-variants.{Octets, Refused}
+use Rattle.calls.specs.declared.Length.the-variants.{Octets, Refused}
 use Rattle.kyteblossom.proofs.kyte_encode.Statement.{statement}
 use Rattle.kyteblossom.proofs.kyte_encode.Tie as tie
 

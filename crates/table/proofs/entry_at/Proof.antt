@@ -5,6 +5,7 @@ use Prim.Native.Nat.{ℕ, _+_, _-_, _*_}
 use native.Mathlib.Omega.{arith}
 use lib.ListN.{take, drop}
 use denote.Ref.{now}
+use Rattle.table.specs.Form.{longestEntry}
 use Rattle.table.proofs.entry_at.Statement.{statement}
 use Rattle.table.proofs.entry_at.Tie as tie
 
@@ -29,8 +30,8 @@ part-result-end c = search needs
 returns : tie.Need-returns
 returns c =
     let a = c .before .args in
-    let e : 97 * a .k + 97 - 97 * a .k ≡ 97 = omega arith in
-    ap (λ (n : ℕ). take n (drop (97 * a .k) (now (a .table)))) e
+    let e : longestEntry * a .k + longestEntry - longestEntry * a .k ≡ longestEntry = omega arith in
+    ap (λ (n : ℕ). take n (drop (longestEntry * a .k) (now (a .table)))) e
 
 pub entry-at-spec : {M : Type 1} → statement M
 entry-at-spec =

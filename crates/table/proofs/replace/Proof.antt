@@ -1,9 +1,9 @@
--- The refusals in their order, and then the entry is written where it belongs. Assumes nothing.
+-- The replaceTests in their order, and then the entry is written where it belongs. Assumes nothing.
 use borrow.Author.Needs.{needs}
 use mathlib.Core.Path.{sym, ap, _∙_}
 use native.Mathlib.Omega.{arith}
 use denote.Ref.{now}
-use Rattle.adaptation.specs.Refusal.{leaving}
+use Rattle.calls.specs.Refusal.{leaving}
 use Rattle.table.proofs.Entries.{replaced-none, replaced-fixed, replaced-malformed, replaced-done, entry-short}
 use Rattle.table.proofs.replace.Statement.{statement}
 use Rattle.table.proofs.replace.Tie as tie

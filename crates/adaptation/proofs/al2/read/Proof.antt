@@ -4,7 +4,7 @@ use mathlib.Core.Path.{_≡_, sym}
 use native.Mathlib.Omega.{arith}
 use denote.Ref.{now}
 use Rattle.adaptation.specs.AL2.{numberOf, unitOf, apart}
-use Rattle.adaptation.specs.Refusal.{told}
+use Rattle.calls.specs.Refusal.{told}
 use Rattle.adaptation.specs.declared.al2.Number.{Number}
 use Rattle.adaptation.specs.Check.{eight}
 use Rattle.adaptation.proofs.Wholes.{fieldLength-most, apart-short, apart-long, apart-read}

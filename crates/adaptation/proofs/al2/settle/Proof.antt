@@ -3,7 +3,7 @@ use borrow.Author.Needs.{needs}
 use mathlib.Core.Path.{_≡_, sym, ap, _∙_}
 use mathlib.Core.List.{List}
 use Prim.Native.Nat.{ℕ}
-use Rattle.adaptation.specs.Refusal.{told}
+use Rattle.calls.specs.Refusal.{told}
 use Rattle.adaptation.specs.AL2.{delivered, settled}
 use borrow.Author.Tests.{not-true, not-false}
 use Rattle.adaptation.proofs.al2.settle.Statement.{statement}

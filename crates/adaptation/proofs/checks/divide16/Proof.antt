@@ -10,7 +10,7 @@ use Rattle.adaptation.specs.Bits.{number, octetsOf}
 use Rattle.adaptation.specs.Check.{sixteen}
 use Rattle.adaptation.proofs.Residue.{residues, residues-none, residues-turn, start, residues-end}
 use denote.Ref.{now}
-use Rattle.adaptation.specs.Table.{entry}
+use Rattle.adaptation.specs.Columns.{remainderOf}
 use Rattle.adaptation.proofs.checks.divide16.Statement.{statement}
 use Rattle.adaptation.proofs.checks.divide16.Tie as tie
 
@@ -40,7 +40,7 @@ loop-less : tie.Need-loop-less Inv-loop μ-loop
 loop-less c = search needs
 
 loop-again : tie.Need-loop-again Inv-loop μ-loop
-unfolding octetsOf entry sixteen
+unfolding octetsOf remainderOf sixteen
 loop-again c =
     let a = c .before .before .before .before in
     let l = a .loop in

@@ -11,7 +11,7 @@ use Rattle.adaptation.specs.Bits.{number, octetsOf}
 use Rattle.adaptation.specs.Check.{eight}
 use Rattle.adaptation.proofs.Residue.{residues, residues-none, residues-turn, start, residues-end}
 use denote.Ref.{now}
-use Rattle.adaptation.specs.Table.{entry}
+use Rattle.adaptation.specs.Columns.{remainderOf}
 use Rattle.adaptation.proofs.checks.divide8.Statement.{statement}
 use Rattle.adaptation.proofs.checks.divide8.Tie as tie
 
@@ -38,7 +38,7 @@ loop-less : tie.Need-loop-less Inv-loop μ-loop
 loop-less c = search needs
 
 loop-again : tie.Need-loop-again Inv-loop μ-loop
-unfolding octetsOf entry eight
+unfolding octetsOf remainderOf eight
 loop-again c =
     let a = c .before .before .before in
     let l = a .loop in

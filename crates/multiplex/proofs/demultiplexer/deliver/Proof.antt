@@ -7,7 +7,7 @@ use Prim.Native.Nat.{ℕ, _*_, _≤_, _<_}
 use native.Mathlib.Omega.{arith}
 use lib.ListN.{length, length-map}
 use denote.Ref.{now}
-use Rattle.adaptation.specs.Refusal.{leaving}
+use Rattle.calls.specs.Refusal.{leaving}
 use Rattle.multiplex.specs.declared.demultiplexer.Tally.{Tally}
 use Rattle.channels.specs.Channels.{channelAt}
 use Rattle.multiplex.specs.Pieces.{Piece, laid, lastPlace}

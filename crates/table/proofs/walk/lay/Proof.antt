@@ -1,6 +1,6 @@
 -- An entry's slots are those of its list, cut to the payload. Assumes nothing.
 use borrow.Author.Needs.{needs}
-use Rattle.table.specs.Slots.{slots, pieces}
+use Rattle.table.specs.Slots.{slots, payloadSlots}
 use Rattle.table.proofs.walk.lay.Statement.{statement}
 use Rattle.table.proofs.walk.lay.Tie as tie
 
@@ -17,7 +17,7 @@ same-length-2 : tie.Need-same-length-2
 same-length-2 c = search needs
 
 returns : tie.Need-returns
-unfolding pieces slots
+unfolding payloadSlots slots
 returns c = rw (← c .before .before .before .before .before .before .before .number .ensures) (c .before .before .before .before .lay-list .ensures)
 
 pub lay-spec : {M : Type 1} → statement M

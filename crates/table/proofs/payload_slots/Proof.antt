@@ -2,8 +2,8 @@
 use borrow.Author.Needs.{needs}
 use denote.Ref.{now}
 use Rattle.table.proofs.Entries.{entry-fixed, entry-put}
-use Rattle.table.proofs.pieces.Statement.{statement}
-use Rattle.table.proofs.pieces.Tie as tie
+use Rattle.table.proofs.payload_slots.Statement.{statement}
+use Rattle.table.proofs.payload_slots.Tie as tie
 
 slice-aggregate-lay : tie.Need-slice-aggregate-lay
 slice-aggregate-lay c = search needs
@@ -29,8 +29,8 @@ lay-requires-2 c κs = search needs
 returns-2 : tie.Need-returns-2
 returns-2 c = rw (entry-put (now (c .before .before .before .before .before .before .args .table)) (c .before .before .before .before .before .before .args .code .0) (c .before .before .before .before .before .if1 .left), ← c .before .before .before .entry-at .ensures) (c .lay2 .ensures)
 
-pub pieces-spec : {M : Type 1} → statement M
-pieces-spec =
+pub payload-slots-spec : {M : Type 1} → statement M
+payload-slots-spec =
     tie.close
     (tie.spec
     slice-aggregate-lay

@@ -18,9 +18,9 @@
 --   passes-most        an element is passed at least once
 --   copies-nothing     nothing, over and over, is nothing
 --   slots-filled       an entry's slots are filled
---   pieces-filled      .. and a payload's
---   pieces-most        a payload's slots have at most its octets
---   pieces-cut         .. and what is cut from them are those of a shorter one
+--   payloadSlots-filled      .. and a payload's
+--   payloadSlots-most        a payload's slots have at most its octets
+--   payloadSlots-cut         .. and what is cut from them are those of a shorter one
 --
 -- Assumes nothing.
 use mathlib.Core.Path.{_≡_, refl, sym, ap, ap₂, _∙_}
@@ -32,7 +32,7 @@ use native.Mathlib.Omega.{arith}
 use borrow.Author.Tests.{ne-eqb}
 use lib.Dec.{eqb}
 use lib.ListN.{length, getD, take, length-append}
-use Rattle.table.specs.Slots.{Slot, passes, copies, skip, inTurn, slotsWith, elementSlots, listSlots, slots, cut, pieces, octetsOf, channelsOf}
+use Rattle.table.specs.Slots.{Slot, passes, copies, skip, inTurn, slotsWith, elementSlots, listSlots, slots, cut, payloadSlots, octetsOf, channelsOf}
 
 -- ---- filled slots
 
@@ -210,14 +210,14 @@ pub slots-filled : (s : List ℕ) → Filled (slots s)
 unfolding slots
 slots-filled s = list-filled s 2 (getD s 0 0) 1
 
-pub pieces-filled : (s : List ℕ) (n : ℕ) → Filled (pieces s n)
-unfolding pieces
-pieces-filled s n = cut-filled n (slots s) (slots-filled s)
+pub payloadSlots-filled : (s : List ℕ) (n : ℕ) → Filled (payloadSlots s n)
+unfolding payloadSlots
+payloadSlots-filled s n = cut-filled n (slots s) (slots-filled s)
 
-pub pieces-most : (s : List ℕ) (n : ℕ) → octetsOf (pieces s n) ≤ n
-unfolding pieces
-pieces-most s n = cut-most n (slots s)
+pub payloadSlots-most : (s : List ℕ) (n : ℕ) → octetsOf (payloadSlots s n) ≤ n
+unfolding payloadSlots
+payloadSlots-most s n = cut-most n (slots s)
 
-pub pieces-cut : (s : List ℕ) (m n : ℕ) → cut m (pieces s n) ≡ pieces s (min m n)
-unfolding pieces
-pieces-cut s m n = cut-cut m n (slots s)
+pub payloadSlots-cut : (s : List ℕ) (m n : ℕ) → cut m (payloadSlots s n) ≡ payloadSlots s (min m n)
+unfolding payloadSlots
+payloadSlots-cut s m n = cut-cut m n (slots s)

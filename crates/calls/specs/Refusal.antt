@@ -2,22 +2,28 @@
 --
 --   Told A          what a call tells: a refusal's number, or an answer of A
 --   Ended A X       .. and what it leaves of X, all that it was lent to write to
+--   ended t x       it tells t, and leaves x
 --   leaving a x     it answers a, and leaves x
 --   refusing x k    it is refused with number k: it tells the number only, and leaves everything as it came
 --   k when b        a `Test`: refusal k is given where b holds
 --   checked f l e   f of the first of the refusals l whose test holds, or else e
 --   refusal l       the first of the refusals l whose test holds, if one does
 --   RefusedIs l k before after   k is that one, and what was lent is as it came
---   says r          what a value of `Length` says
---   ends r x        .. and that x is left
+--   Refuses d l x   a call that ends as d is refused with the first of the refusals l whose test holds, exactly where one does, and
+--                   then leaves x, as it came
+--   outcomeSays r   what a value of `Outcome` says
+--   lengthSays r    .. and one of `Length`
 --
 -- Assumes nothing.
 use mathlib.Core.Path.{_≡_}
+use mathlib.Core.Logic.{_↔_}
 use mathlib.Core.Bool.{Bool, cond}
 use mathlib.Core.List.{List, [], _∷_}
 use Prim.Native.Nat.{ℕ}
-use Rattle.adaptation.specs.declared.Length.{Length}
-use Rattle.adaptation.specs.declared.Length.the-variants.{Octets, Refused}
+use Rattle.calls.specs.declared.Outcome.{Outcome}
+use Rattle.calls.specs.declared.Outcome.the-variants as outcome
+use Rattle.calls.specs.declared.Length.{Length}
+use Rattle.calls.specs.declared.Length.the-variants.{Octets, Refused}
 
 infix 68 _when_
 pub data Told (A : Type 0) : Type 0 where
@@ -28,11 +34,16 @@ pub record Ended (A X : Type 0) : Type 0 where
   pub answer : Told A
   pub left : X
 
+abbrev pub ended : {A X : Type 0} → Told A → X → Ended A X
+ended t x = record { answer = t; left = x }
+
 abbrev pub leaving : {A X : Type 0} → A → X → Ended A X
-leaving a x = record { answer = told a; left = x }
+leaving a x = ended (told a) x
 
 abbrev pub refusing : {A X : Type 0} → X → ℕ → Ended A X
-refusing x k = record { answer = refused k; left = x }
+refusing x k = ended (refused k) x
+
+-- ---- tests in their order
 
 pub data Test : Type 0 where
   _when_ : ℕ → Bool → Test
@@ -48,10 +59,16 @@ pub record RefusedIs {X : Type 0} (l : List Test) (k : ℕ) (before after : X) :
   pub first : refusal l ≡ refused k
   pub same : after ≡ before
 
-abbrev pub says : Length → Told ℕ
-says (Octets n) = told n
-says (Refused k) = refused k
+pub record Refuses {A X : Type 0} (d : Ended A X) (l : List Test) (x : X) : Type 0 where
+  pub exactly : (k : ℕ) → d .answer ≡ refused k ↔ (refusal l ≡ refused k)
+  pub leaves : (k : ℕ) → d .answer ≡ refused k → d .left ≡ x
 
-abbrev pub ends : {X : Type 0} → Length → X → Ended ℕ X
-ends (Octets n) x = leaving n x
-ends (Refused k) x = refusing x k
+-- ---- what the answers say
+
+abbrev pub outcomeSays : Outcome → Told (Unit {0})
+outcomeSays outcome.Done = told tt
+outcomeSays (outcome.Refused k) = refused k
+
+abbrev pub lengthSays : Length → Told ℕ
+lengthSays (Octets n) = told n
+lengthSays (Refused k) = refused k
