@@ -1,7 +1,7 @@
 -- The lengths of AL1M's units (document 01, "AL1M units"; 003, D.4.1.4 and D.4.1.7.3).
 --
 --   mostRepairs        the largest e
---   longestWord        the longestUnit code word
+--   longestWord        the longest code word
 --   isSetting b e      a check of b bits and e repairs may be asked for
 --   sentOctets t b e   a unit of t octets, its check of l octets and the parity: t + l + 2e
 --   isSendable t b e   such a unit may be sent

@@ -1,10 +1,10 @@
 // AL1M (003, Annex D): a unit with its check and the code's parity behind it.
 use crate::Badge;
-use calls::Length;
 use crate::checks;
 use crate::checks::Asked;
 use crate::checks::Width;
 use crate::seals;
+use calls::Length;
 use codeword::Reach;
 ghost use mathlib.Core.Path.{_≡_};
 ghost use mathlib.Core.List.{List};

@@ -7,7 +7,7 @@ pub mod checks; // checks.rt: the checks of 8 and 16 bits
 mod seals; // seals.rt: a check behind its octets
 mod tables; // tables.rt: the remainders of octets
 
-// The octets of the longestUnit unit of AL1 and AL2; in AL2 its number and its check count too.
+// The octets of the longest unit of AL1 and AL2; in AL2 its number and its check count too.
 pub const LONGEST_UNIT: usize = 1024;
 
 // What is known of a unit that is handed up (document 01, "AL1M units").

@@ -4,6 +4,7 @@
 --   sending-refused   AL2 refuses the unit: nothing is changed
 --   sending-sent      AL2 sends it: the channel's number rises
 --   taking-closed     the channel is not open
+--   takenBy           what AL2's own end of receiving leads to, at a place
 --   taking-by         else it goes by what AL2 says of the unit
 --   part-within       a part that lies within the list
 --   part-without      .. and one that does not
@@ -16,44 +17,65 @@ use Prim.Native.Nat.{ℕ, _+_, _-_, _≤_, _<_}
 use native.Mathlib.Nat.{add-sub-cancel-left}
 use borrow.Author.Tests.{lt-ltb, le-ltb, le-leb, lt-leb}
 use lib.ListN.{length, take, drop}
-use Rattle.calls.specs.Refusal.{Told, Ended, leaving, refusing, ends}
-use Rattle.adaptation.specs.AL2.{sent, received, Receipt}
-use Rattle.calls.specs.declared.Length.the-variants.{Octets, Refused}
+use Rattle.calls.specs.Refusal.{Told, refused, told, Ended, ended, leaving, refusing}
+use Rattle.calls.proofs.Laws.{checked-through}
+use Rattle.adaptation.specs.AL2.{sendTests, readTests, sent, received, Receipt}
 use Rattle.adaptation.proofs.Refusals.{sent-leaves}
+use Rattle.channels.specs.declared.Channel.{Channel}
 use Rattle.channels.specs.declared.Channels.{Channels}
-use Rattle.channels.specs.Channels.{placeOf, channelAt, put}
-use Rattle.channels.specs.Layers.{Lent, numberAs, risen, sentBy, sending, takenBy, taking}
+use Rattle.channels.specs.Channels.{places, placeOf, channelAt, put, numbering}
+use Rattle.channels.specs.Layers.{SendLent, numberAs, risen, sending, expectedBy, taking}
 use Rattle.channels.specs.Parts.{partAt}
 
-module _ (x : Lent) (n : ℕ) (has : Bool) (u : List ℕ) (p : ℕ) (e : p ≡ placeOf (x .channels) n) where
-  pub sending-closed : 16 ≤ p → refusing x 5 ≡ sending x n has u
+-- what AL2's own end leads to, at place p
+sentBy : SendLent → (p : ℕ) → Channel → Ended ℕ (List ℕ) → Ended ℕ SendLent
+sentBy x p c r = by (r .answer)
+  where
+    by : Told ℕ → Ended ℕ SendLent
+    by (refused k) = refusing x k
+    by (told n) = leaving n (record { channels = put (x .channels) p c; output = r .left })
+
+abbrev pub takenBy : Channels → (p : ℕ) → Channel → Told Receipt → Ended Receipt Channels
+takenBy s p c (refused k) = refusing s k
+takenBy s p c (told r) = leaving r (put s p (numbering c (c .sent) (expectedBy r)))
+
+module _ (x : SendLent) (n : ℕ) (numbered : Bool) (u : List ℕ) (p : ℕ) (e : p ≡ placeOf (x .channels) n) where
+  pub sending-closed : places ≤ p → refusing x 5 ≡ sending x n numbered u
   unfolding sending
   sending-closed h = rw (← e, le-ltb _ _ h)
 
-  module _ (h : p < 16) (out : List ℕ) where
-    by : (r : Ended ℕ (List ℕ)) → r ≡ sent (numberAs has (channelAt (x .channels) p)) u (x .output)
-        → sentBy x p (risen has (channelAt (x .channels) p)) (r .answer) (r .left) ≡ sending x n has u
-    unfolding sending
-    by r f = rw (← e, lt-ltb _ _ h, ← f)
+  module _ (h : p < places) (out : List ℕ) where
+    abbrev c : Channel
+    c = channelAt (x .channels) p
 
-    pub sending-refused : (k : ℕ) → ends (Refused k) out ≡ sent (numberAs has (channelAt (x .channels) p)) u (x .output)
-        → refusing (record { channels = x .channels; output = out }) k ≡ sending x n has u
+    by : (r : Ended ℕ (List ℕ)) → r ≡ sent (numberAs numbered c) u (x .output) → sentBy x p (risen numbered c) r ≡ sending x n numbered u
+    unfolding sending sent sentBy
+    by r f =
+        ap (sentBy x p (risen numbered c)) f
+        ∙ checked-through (sentBy x p (risen numbered c)) (refusing (x .output)) (sendTests (numberAs numbered c) u (x .output)) _
+        ∙ rw (← e, lt-ltb _ _ h)
+
+    pub sending-refused : (k : ℕ) → ended (refused k) out ≡ sent (numberAs numbered c) u (x .output)
+        → refusing (record { channels = x .channels; output = out }) k ≡ sending x n numbered u
+    unfolding sentBy
     sending-refused k f =
-        ap (λ (o : List ℕ). refusing (record { channels = x .channels; output = o }) k) (sent-leaves (numberAs has (channelAt (x .channels) p)) u (x .output) k out f)
-        ∙ by (ends (Refused k) out) f
+        ap (λ (o : List ℕ). refusing (record { channels = x .channels; output = o }) k) (sent-leaves (numberAs numbered c) u (x .output) k out f)
+        ∙ by (ended (refused k) out) f
 
-    pub sending-sent : (k : ℕ) → ends (Octets k) out ≡ sent (numberAs has (channelAt (x .channels) p)) u (x .output)
-        → leaving k (record { channels = put (x .channels) p (risen has (channelAt (x .channels) p)); output = out }) ≡ sending x n has u
-    sending-sent k f = by (ends (Octets k) out) f
+    pub sending-sent : (k : ℕ) → ended (told k) out ≡ sent (numberAs numbered c) u (x .output)
+        → leaving k (record { channels = put (x .channels) p (risen numbered c); output = out }) ≡ sending x n numbered u
+    unfolding sentBy
+    sending-sent k f = by (ended (told k) out) f
 
-module _ (s : Channels) (n : ℕ) (has : Bool) (w : List ℕ) (p : ℕ) (e : p ≡ placeOf s n) where
-  pub taking-closed : 16 ≤ p → refusing s 5 ≡ taking s n has w
+module _ (s : Channels) (n : ℕ) (numbered : Bool) (w : List ℕ) (p : ℕ) (e : p ≡ placeOf s n) where
+  pub taking-closed : places ≤ p → refusing s 5 ≡ taking s n numbered w
   unfolding taking
   taking-closed h = rw (← e, le-ltb _ _ h)
 
-  pub taking-by : p < 16 → (r : Told Receipt) → r ≡ received has w (channelAt s p .expected) → takenBy s p (channelAt s p) r ≡ taking s n has w
-  unfolding taking
-  taking-by h r f = rw (← e, lt-ltb _ _ h, ← f)
+  pub taking-by : p < places → (r : Told Receipt) → r ≡ received numbered w (channelAt s p .expected) → takenBy s p (channelAt s p) r ≡ taking s n numbered w
+  unfolding taking received
+  taking-by h r f =
+      ap (takenBy s p (channelAt s p)) f ∙ checked-through (takenBy s p (channelAt s p)) refused (readTests numbered w) _ ∙ rw (← e, lt-ltb _ _ h)
 
 module _ (xs : List ℕ) (start n : ℕ) where
   pub part-within : start + n ≤ length xs → take (start + n - start) (drop start xs) ≡ partAt xs start n

@@ -1,7 +1,7 @@
 -- Channel numbers replaced by their places, one at a time.
 --
 --   place-most               a place is at most 16
---   in-met, in-missed        `allIn` behind place j, where the number there is open, and where it is not
+--   in-met, in-missed        `allOpen` behind place j, where the number there is open, and where it is not
 --   in-end                   .. and behind the last
 --   mapped-at                what is mapped to place j and not behind it, with place j mapped too
 --   sought, sought-place     a search by number finds a channel's place
@@ -23,27 +23,27 @@ use Rattle.octets.specs.Tests.{both-true}
 use Rattle.channels.specs.declared.Channel.{Channel}
 use Rattle.channels.specs.declared.Channels.{Channels}
 use Rattle.channels.specs.Search.{first}
-use Rattle.channels.specs.Channels.{places, placeOf, isIn, isChannel}
-use Rattle.channels.specs.Places.{numberOf, allIn}
+use Rattle.channels.specs.Channels.{allOpen, places, placeOf, isIn, isChannel}
+use Rattle.channels.specs.Places.{noNumber, numberOf}
 use Rattle.channels.proofs.Search.{first-most}
 
-pub place-most : (s : Channels) (n : ℕ) → length (s .at) ≡ 16 → placeOf s n ≤ 16
+pub place-most : (s : Channels) (n : ℕ) → length (s .at) ≡ places → placeOf s n ≤ places
 unfolding placeOf
 place-most s n e = omega (arith, first-most (isChannel n) (s .at))
 
 module _ (s : Channels) (l : List ℕ) (j : ℕ) where
-  in-at : j < length l → allIn s (drop j l) ≡ (isIn s (getD l j 0) && allIn s (drop (j + 1) l))
-  unfolding allIn
+  in-at : j < length l → allOpen s (drop j l) ≡ (isIn s (getD l j 0) && allOpen s (drop (j + 1) l))
+  unfolding allOpen
   in-at h = rw (add-one, drop-cons l j 0)
 
-  pub in-met : (p : ℕ) → j < length l → placeOf s (getD l j 0) < 16 → allIn s (drop j l) ≡ allIn s (drop (j + 1) (set l j p))
+  pub in-met : (p : ℕ) → j < length l → placeOf s (getD l j 0) < places → allOpen s (drop j l) ≡ allOpen s (drop (j + 1) (set l j p))
   in-met p h k = in-at h ∙ rw (lt-ltb _ _ k, drop-set-lt (j + 1) l j p (omega arith))
 
-  pub in-missed : j < length l → 16 ≤ placeOf s (getD l j 0) → allIn s (drop j l) ≡ false
+  pub in-missed : j < length l → places ≤ placeOf s (getD l j 0) → allOpen s (drop j l) ≡ false
   in-missed h k = in-at h ∙ rw (le-ltb _ _ k)
 
-  pub in-end : length l ≤ j → allIn s (drop j l) ≡ true
-  unfolding allIn
+  pub in-end : length l ≤ j → allOpen s (drop j l) ≡ true
+  unfolding allOpen
   in-end h = rw (drop-of-length-le l h)
 
 pub mapped-at : {A : Type 0} (f : A → ℕ) (l : List A) (d : A) (r : List ℕ) (j : ℕ) → j < length l → j < length r
@@ -56,16 +56,16 @@ unfolding first
 sought n h [] = refl
 sought n h (c ∷ l) = ap₂ (λ (b : Bool) (k : ℕ). cond b 0 (suc k)) (by (c .«open»)) (sought n h l)
   where
-    by : (b : Bool) → eqb (cond b (c .number) 65536) n ≡ cond b (eqb (c .number) n) false
+    by : (b : Bool) → eqb (cond b (c .number) noNumber) n ≡ cond b (eqb (c .number) n) false
     by true = refl
-    by false = ne-eqb 65536 n (λ (z : 65536 ≡ n). omega (arith, h))
+    by false = ne-eqb noNumber n (λ (z : noNumber ≡ n). omega (arith, h))
 
 pub sought-place : (s : Channels) (n : ℕ) → n < 65536 → first (λ m. eqb m n) (map numberOf (s .at)) ≡ placeOf s n
 unfolding placeOf
 sought-place s n h = sought n h (s .at)
 
-pub in-placed : (s : Channels) (l : List ℕ) → allIn s l ≡ true → (j : ℕ) → j < length l → getD (map (placeOf s) l) j 0 < places
-unfolding allIn
+pub in-placed : (s : Channels) (l : List ℕ) → allOpen s l ≡ true → (j : ℕ) → j < length l → getD (map (placeOf s) l) j 0 < places
+unfolding allOpen
 in-placed s [] e j h = absurd (not-suc-le-zero h)
 in-placed s (n ∷ l) e zero h = ltb-true _ _ (both-true _ _ e .0)
 in-placed s (n ∷ l) e (suc j) h = in-placed s l (both-true (isIn s n) _ e .1) j (le-of-suc-le-suc h)

@@ -1,21 +1,30 @@
--- The channels (document 01, "Demultiplexer"): 16 places, and beside them the octets that are held and those that wait, 1,024 to a place.
+-- The channels (document 01, "Demultiplexer"): places, and beside them the octets that are held and those that wait, so many to a place.
 --
---   places            how many channels may be open
+--   places            how many channels may be open (16)
+--   placeOctets       the octets of a place: the most that a channel may hold, and the most that may wait (1,024)
+--   allOctets         .. of all the places
 --   vacant            a place that is free
 --   fresh n g         channel n just opened, segmentable or not
 --   start             the channels at first: channel 0 is open and segmentable
---   placeOf s n       the place of the open channel n, or 16
+--   isChannel n c     c is channel n
+--   isFree c          no channel is open at c
+--   placeOf s n       the place of the open channel n, or `places`
+--   freePlace s       the first free place, or `places`
 --   isIn s n          channel n is open
---   freePlace s       the first free place, or 16
+--   allOpen s l       every channel of the numbers l is
 --   channelAt s p     the channel at place p
 --   put s p c         the channels with c at place p
---   holding c k       c with k octets held; waiting, numbered: with k waiting, with these AL2 numbers
---   heldOf s h p      the octets that place p holds; they stand at the front of its 1,024
+--   holding c k       c with k octets held
+--   waiting c k       .. with k waiting
+--   numbering c i j   .. with these AL2 numbers, sent and expected
+--   heldOf s h p      the octets that place p holds; they stand at the front of its octets
 --   waits c           how many octets wait at c
---   waitingFrom c p   where they stand: at the end of its 1,024, so that what is sent leaves at the front
+--   waitingFrom c p   where they stand: at the end of its octets, so that what is sent leaves at the front
 --   waitingOf s w p   the octets that wait at place p
---   postTests         what refuses a post
---   opened, closed, reset, posted   how the calls end; what refuses them stands in the order of document 01
+--   openTests, closeTests, resetTests, postTests   what refuses each call, in this order
+--   opened, closed, reset   how these calls end
+--   Post              what posting leaves: the channels, and the octets that wait
+--   posted            how posting ends
 --
 -- Assumes nothing.
 use mathlib.Core.Bool.{Bool, true, false, cond, not, _&&_}
@@ -25,13 +34,19 @@ use lib.Dec.{leb, ltb, eqb}
 use lib.ListN.{length, getD, set, take, drop, replicate}
 use Rattle.octets.specs.Written.{written}
 use Rattle.calls.specs.Refusal.{Ended, leaving, refusing, Test, _when_, checked}
-use Rattle.adaptation.specs.Handed.{longest}
+use Rattle.adaptation.specs.Handed.{isUnit}
 use Rattle.channels.specs.declared.Channel.{Channel}
 use Rattle.channels.specs.declared.Channels.{Channels}
 use Rattle.channels.specs.Search.{first}
 
 abbrev pub places : ℕ
 places = 16
+
+abbrev pub placeOctets : ℕ
+placeOctets = 1024
+
+abbrev pub allOctets : ℕ
+allOctets = places * placeOctets
 
 abbrev pub vacant : Channel
 vacant = record { «open» = false; segmentable = false; number = 0; held = 0; waiting = 0; sent = 0; expected = 0 }
@@ -40,7 +55,7 @@ abbrev pub fresh : ℕ → Bool → Channel
 fresh n g = record { «open» = true; segmentable = g; number = n; held = 0; waiting = 0; sent = 0; expected = 0 }
 
 unfoldable pub start : Channels
-start = record { at = fresh 0 true ∷ replicate 15 vacant }
+start = record { at = fresh 0 true ∷ replicate (places - 1) vacant }
 
 -- ---- places
 
@@ -59,6 +74,10 @@ freePlace s = first isFree (s .at)
 abbrev pub isIn : Channels → ℕ → Bool
 isIn s n = ltb (placeOf s n) places
 
+unfoldable pub allOpen : Channels → List ℕ → Bool
+allOpen s [] = true
+allOpen s (n ∷ l) = isIn s n && allOpen s l
+
 abbrev pub channelAt : Channels → ℕ → Channel
 channelAt s p = getD (s .at) p vacant
 
@@ -73,47 +92,49 @@ holding c k = record { «open» = c .«open»; segmentable = c .segmentable; num
 abbrev pub waiting : Channel → ℕ → Channel
 waiting c k = record { «open» = c .«open»; segmentable = c .segmentable; number = c .number; held = c .held; waiting = k; sent = c .sent; expected = c .expected }
 
-abbrev pub numbered : Channel → (sent expected : ℕ) → Channel
-numbered c i j = record { «open» = c .«open»; segmentable = c .segmentable; number = c .number; held = c .held; waiting = c .waiting; sent = i; expected = j }
+abbrev pub numbering : Channel → (sent expected : ℕ) → Channel
+numbering c i j = record { «open» = c .«open»; segmentable = c .segmentable; number = c .number; held = c .held; waiting = c .waiting; sent = i; expected = j }
 
 abbrev pub heldOf : Channels → List ℕ → ℕ → List ℕ
-heldOf s h p = take (channelAt s p .held) (drop (longest * p) h)
+heldOf s h p = take (channelAt s p .held) (drop (placeOctets * p) h)
 
--- no state that calls lead to has more than 1,024; if one is made up, it counts as 1,024
+-- no state that calls lead to has more than a place has; if one is made up, it counts as that
 abbrev pub waits : Channel → ℕ
-waits c = min (c .waiting) longest
+waits c = min (c .waiting) placeOctets
 
 abbrev pub waitingFrom : Channel → ℕ → ℕ
-waitingFrom c p = longest * p + (longest - waits c)
+waitingFrom c p = placeOctets * p + (placeOctets - waits c)
 
 abbrev pub waitingOf : Channels → List ℕ → ℕ → List ℕ
 waitingOf s w p = take (waits (channelAt s p)) (drop (waitingFrom (channelAt s p) p) w)
 
 -- ---- the calls
 
+abbrev pub openTests : Channels → ℕ → List Test
+openTests s n = 13 when isIn s n ∷ 12 when leb places (freePlace s) ∷ []
+
 unfoldable pub opened : Channels → ℕ → Bool → Ended (Unit {0}) Channels
-opened s n g =
-    checked (refusing s) (13 when isIn s n ∷ 12 when leb places (freePlace s) ∷ []) (leaving tt (put s (freePlace s) (fresh n g)))
+opened s n g = checked (refusing s) (openTests s n) (leaving tt (put s (freePlace s) (fresh n g)))
+
+abbrev pub closeTests : Channels → ℕ → List Test
+closeTests s n = 5 when not (isIn s n) ∷ 14 when eqb n 0 ∷ []
 
 unfoldable pub closed : Channels → ℕ → Ended (Unit {0}) Channels
-closed s n = checked (refusing s) (5 when not (isIn s n) ∷ 14 when eqb n 0 ∷ []) (leaving tt (put s (placeOf s n) vacant))
+closed s n = checked (refusing s) (closeTests s n) (leaving tt (put s (placeOf s n) vacant))
+
+abbrev pub resetTests : Channels → ℕ → List Test
+resetTests s n = 5 when not (isIn s n) ∷ []
 
 unfoldable pub reset : Channels → ℕ → Ended (Unit {0}) Channels
-reset s n =
-    checked (refusing s) (5 when not (isIn s n) ∷ [])
-    (leaving tt (put s (placeOf s n) (numbered (holding (channelAt s (placeOf s n)) 0) 0 0)))
+reset s n = checked (refusing s) (resetTests s n) (leaving tt (put s (placeOf s n) (numbering (holding (channelAt s (placeOf s n)) 0) 0 0)))
 
-abbrev pub isUnit : List ℕ → Bool
-isUnit u = leb 1 (length u) && leb (length u) longest
-
--- what a post leaves: the channels, and the octets that wait
 pub record Post : Type 0 where
   pub channels : Channels
   pub octets : List ℕ
 
 abbrev pub postTests : Channels → ℕ → List ℕ → List Test
 postTests s n u =
-    2 when not (isUnit u)
+    2 when not (isUnit placeOctets u)
     ∷ 5 when not (isIn s n)
     ∷ 11 when leb 1 (channelAt s (placeOf s n) .waiting)
     ∷ []
@@ -123,5 +144,5 @@ posted s w n u =
     checked (refusing (record { channels = s; octets = w })) (postTests s n u)
     (leaving tt (record {
       channels = put s (placeOf s n) (waiting (channelAt s (placeOf s n)) (length u));
-      octets = written w (longest * placeOf s n + (longest - length u)) u;
+      octets = written w (placeOctets * placeOf s n + (placeOctets - length u)) u;
     }))

@@ -2,31 +2,32 @@
 use crate::Channel;
 use crate::ChannelNumber;
 use crate::Channels;
+use crate::PLACES;
 use crate::places::place_of;
-use calls::Length;
 use adaptation::al1;
 use adaptation::al1m;
 use adaptation::al2;
 use adaptation::al2::Number;
 use adaptation::al2::Received;
+use calls::Length;
 ghost use mathlib.Core.Path.{_≡_};
 ghost use Prim.Native.Nat.{_<_};
-ghost use Rattle.calls.specs.Refusal.{ends};
+ghost use Rattle.calls.specs.Refusal.{ended, lengthSays};
 ghost use Rattle.adaptation.specs.AL1 as passing;
-ghost use Rattle.adaptation.specs.AL2.{unitOf};
+ghost use Rattle.adaptation.specs.AL2.{unitOf, receivedSays};
 ghost use Rattle.adaptation.specs.Receiving.{Receives};
 ghost use Rattle.channels.specs.Channels as the;
 ghost use Rattle.channels.specs.Channels.{placeOf, channelAt, put};
-ghost use Rattle.channels.specs.Layers.{numberAs, risen, sending, taking, endsTaking};
+ghost use Rattle.channels.specs.Layers.{numberAs, risen, sending, taking};
 ghost use Rattle.channels.specs.Parts.{partAt};
 
-// How many octets an AL2 unit was sent in, or document 01's refusal number; and the channels behind it.
+// How many octets an AL2 unit was sent in, or document 01's refusal number; and the channels as the call leaves them.
 pub struct Sent {
     pub length: Length,
     pub channels: Channels,
 }
 
-// What became of a received AL2 unit, and the channels behind it.
+// What became of a received AL2 unit, and the channels as the call leaves them.
 pub struct Taken {
     pub received: al2::Received,
     pub channels: Channels,
@@ -43,7 +44,7 @@ fn number_of(numbered: bool, c: Channel) -> Number
     Number::Plain
 }
 
-// The channel behind it: the number rises modulo 256.
+// The channel once a unit was sent: the number rises modulo 256.
 fn rise(numbered: bool, c: Channel) -> Channel
     ensures { λ r. ⌜ r ≡ risen numbered c ⌝ }
 {
@@ -67,12 +68,12 @@ fn unsent(s: Channels, k: u8) -> Sent
 
 // Puts a unit into the front of out, as AL2 sends it on a channel: refusals 5, 2, 3.
 pub fn send(s: Channels, number: ChannelNumber, numbered: bool, unit: &[u8], out: &mut [u8]) -> Sent
-    ensures { λ r. ⌜ ends (r .length) (record { channels = r .channels; output = now (out .exit) })
+    ensures { λ r. ⌜ ended (lengthSays (r .length)) (record { channels = r .channels; output = now (out .exit) })
         ≡ sending (record { channels = s; output = now (out .entry) }) (number .0) numbered (now (unit .entry)) ⌝ }
 {
     let n = number.0;
     let p = place_of(s, n);
-    if 16 <= p {
+    if PLACES <= p {
         return unsent(s, 5);
     }
     let c = s.at[p];
@@ -92,8 +93,8 @@ pub fn send(s: Channels, number: ChannelNumber, numbered: bool, unit: &[u8], out
 
 // The channels where the channel at place p expects the number e next.
 fn expect(s: Channels, p: usize, e: u8) -> Channels
-    requires { ⌜ p < 16 ⌝ }
-    ensures { λ r. ⌜ r ≡ put s p (the.numbered (channelAt s p) (channelAt s p .sent) e) ⌝ }
+    requires { ⌜ p < the.places ⌝ }
+    ensures { λ r. ⌜ r ≡ put s p (the.numbering (channelAt s p) (channelAt s p .sent) e) ⌝ }
 {
     let mut c = s.at[p];
     c.expected = e;
@@ -114,12 +115,12 @@ fn untaken(s: Channels, k: u8) -> Taken
 
 // Receives an AL2 unit on a channel: refusals 5, 2. The unit that is handed up is what al2's `unit` returns.
 pub fn take(s: Channels, number: ChannelNumber, numbered: bool, whole: &[u8]) -> Taken
-    ensures { λ r. ⌜ endsTaking (r .received) (unitOf numbered (now (whole .entry))) (channelAt s (placeOf s (number .0)) .expected) (r .channels)
+    ensures { λ r. ⌜ ended (receivedSays (r .received) (unitOf numbered (now (whole .entry))) (channelAt s (placeOf s (number .0)) .expected)) (r .channels)
         ≡ taking s (number .0) numbered (now (whole .entry)) ⌝ }
 {
     let n = number.0;
     let p = place_of(s, n);
-    if 16 <= p {
+    if PLACES <= p {
         return untaken(s, 5);
     }
     let c = s.at[p];
@@ -159,7 +160,7 @@ pub fn unit_at(output: &[u8], start: usize, length: usize) -> &[u8]
 
 // A finished unit passed by AL1: refusal 2.
 pub fn al1_at(output: &[u8], start: usize, length: usize) -> al1::Passed
-    ensures { λ r. ⌜ passing.says r (partAt (now (output .entry)) start length) ≡ passing.passed (partAt (now (output .entry)) start length) ⌝ }
+    ensures { λ r. ⌜ passing.passedSays r (partAt (now (output .entry)) start length) ≡ passing.passed (partAt (now (output .entry)) start length) ⌝ }
 {
     al1::pass(unit_at(output, start, length))
 }
@@ -187,7 +188,7 @@ pub fn al2_at(
     start: usize,
     length: usize,
 ) -> Taken
-    ensures { λ r. ⌜ endsTaking (r .received) (unitOf numbered (partAt (now (output .entry)) start length)) (channelAt s (placeOf s (number .0)) .expected) (r .channels)
+    ensures { λ r. ⌜ ended (receivedSays (r .received) (unitOf numbered (partAt (now (output .entry)) start length)) (channelAt s (placeOf s (number .0)) .expected)) (r .channels)
         ≡ taking s (number .0) numbered (partAt (now (output .entry)) start length) ⌝ }
 {
     take(s, number, numbered, unit_at(output, start, length))

@@ -3,12 +3,20 @@ pub mod layers; // layers.rt: AL2 by channel, and a finished unit read where it 
 pub mod places; // places.rt: where channels are
 
 use crate::places::place_of;
-use adaptation::LONGEST;
 use calls::Outcome;
 ghost use mathlib.Core.Path.{_≡_};
-ghost use Rattle.table.specs.Table.{ends};
+ghost use Rattle.calls.specs.Refusal.{ended, outcomeSays};
 ghost use Rattle.channels.specs.Channels as the;
 ghost use Rattle.channels.specs.Channels.{freePlace, start, opened, closed, reset, posted};
+
+// How many channels may be open.
+pub const PLACES: usize = 16;
+
+// The octets of a place: the most that a channel may hold, and the most that may wait there.
+pub const PLACE_OCTETS: usize = 1024;
+
+// The octets of all the places.
+pub const ALL_OCTETS: usize = PLACES * PLACE_OCTETS;
 
 // A channel's number. It is no multiplex code.
 pub struct ChannelNumber(pub u16);
@@ -25,10 +33,10 @@ pub struct Channel {
 }
 
 pub struct Channels {
-    pub at: [Channel; 16],
+    pub at: [Channel; PLACES],
 }
 
-// What a call answers, and the channels behind it. (An enum cannot hold an array.)
+// What a call answers, and the channels as it leaves them. (An enum cannot hold an array.)
 pub struct After {
     pub outcome: Outcome,
     pub channels: Channels,
@@ -69,17 +77,17 @@ pub fn new() -> Channels
     ensures { λ r. ⌜ r ≡ start ⌝ }
 {
     let free = vacant();
-    let mut at = [free; 16];
+    let mut at = [free; PLACES];
     at[0] = fresh(0, true);
     Channels { at }
 }
 
-// The first free place, or 16.
+// The first free place, or how many there are.
 fn free_place(s: Channels) -> usize
     ensures { λ r. ⌜ r ≡ freePlace s ⌝ }
 {
     let mut i = 0;
-    while i < 16 {
+    while i < PLACES {
         let c = s.at[i];
         if c.open {
             i += 1;
@@ -87,7 +95,7 @@ fn free_place(s: Channels) -> usize
             return i;
         }
     }
-    16
+    PLACES
 }
 
 fn refused(s: Channels, k: u8) -> After
@@ -112,14 +120,14 @@ fn done(s: Channels) -> After
 
 // Opens a channel: refusals 13, 12.
 pub fn open(s: Channels, number: ChannelNumber, segmentable: bool) -> After
-    ensures { λ r. ⌜ ends (r .outcome) (r .channels) ≡ opened s (number .0) segmentable ⌝ }
+    ensures { λ r. ⌜ ended (outcomeSays (r .outcome)) (r .channels) ≡ opened s (number .0) segmentable ⌝ }
 {
     let n = number.0;
-    if place_of(s, n) < 16 {
+    if place_of(s, n) < PLACES {
         return refused(s, 13);
     }
     let p = free_place(s);
-    if 16 <= p {
+    if PLACES <= p {
         return refused(s, 12);
     }
     let mut next = s;
@@ -129,11 +137,11 @@ pub fn open(s: Channels, number: ChannelNumber, segmentable: bool) -> After
 
 // Closes a channel, and drops what it holds and what waits there: refusals 5, 14.
 pub fn close(s: Channels, number: ChannelNumber) -> After
-    ensures { λ r. ⌜ ends (r .outcome) (r .channels) ≡ closed s (number .0) ⌝ }
+    ensures { λ r. ⌜ ended (outcomeSays (r .outcome)) (r .channels) ≡ closed s (number .0) ⌝ }
 {
     let n = number.0;
     let p = place_of(s, n);
-    if 16 <= p {
+    if PLACES <= p {
         return refused(s, 5);
     }
     if n == 0 {
@@ -146,11 +154,11 @@ pub fn close(s: Channels, number: ChannelNumber) -> After
 
 // Drops what a channel holds and starts its AL2 numbers again; what waits stays: refusal 5.
 pub fn restart(s: Channels, number: ChannelNumber) -> After
-    ensures { λ r. ⌜ ends (r .outcome) (r .channels) ≡ reset s (number .0) ⌝ }
+    ensures { λ r. ⌜ ended (outcomeSays (r .outcome)) (r .channels) ≡ reset s (number .0) ⌝ }
 {
     let n = number.0;
     let p = place_of(s, n);
-    if 16 <= p {
+    if PLACES <= p {
         return refused(s, 5);
     }
     let mut c = s.at[p];
@@ -163,26 +171,31 @@ pub fn restart(s: Channels, number: ChannelNumber) -> After
 }
 
 // Lets a unit wait on a channel to be sent: refusals 2, 5, 11.
-pub fn post(s: Channels, waiting: &mut [u8; 16384], number: ChannelNumber, unit: &[u8]) -> After
-    ensures { λ r. ⌜ ends (r .outcome) (record { channels = r .channels; octets = now (waiting .exit) })
+pub fn post(
+    s: Channels,
+    waiting: &mut [u8; ALL_OCTETS],
+    number: ChannelNumber,
+    unit: &[u8],
+) -> After
+    ensures { λ r. ⌜ ended (outcomeSays (r .outcome)) (record { channels = r .channels; octets = now (waiting .exit) })
         ≡ posted s (now (waiting .entry)) (number .0) (now (unit .entry)) ⌝ }
 {
     let t = unit.len();
     if t == 0 {
         return refused(s, 2);
     }
-    if LONGEST < t {
+    if PLACE_OCTETS < t {
         return refused(s, 2);
     }
     let p = place_of(s, number.0);
-    if 16 <= p {
+    if PLACES <= p {
         return refused(s, 5);
     }
     let mut c = s.at[p];
     if 0 < c.waiting {
         return refused(s, 11);
     }
-    octets::write(waiting, LONGEST * p + (LONGEST - t), unit);
+    octets::write(waiting, PLACE_OCTETS * p + (PLACE_OCTETS - t), unit);
     c.waiting = t as u16;
     let mut next = s;
     next.at[p] = c;

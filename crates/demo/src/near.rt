@@ -1,7 +1,7 @@
 // The near end: units made, coded and posted.
 use crate::plan;
-use calls::Length;
 use adaptation::al1m;
+use calls::Length;
 use channels::ChannelNumber;
 use channels::Channels;
 use channels::layers;

@@ -5,10 +5,10 @@ use crate::words;
 use crate::words::Number;
 use crate::words::Octets;
 use crate::words::Words;
-use calls::Length;
 use adaptation::al1;
 use adaptation::al1::Passed;
 use adaptation::al1m;
+use calls::Length;
 
 // What stands at words 1, 2 and 4: check width, e and the octets lent, where they could be read.
 pub enum Settings {

@@ -1,6 +1,6 @@
 // The library's calls that write to a lent buffer, with as much of it lent as the line names.
-use calls::Length;
 use adaptation::al1m;
+use calls::Length;
 use channels::ChannelNumber;
 use channels::Channels;
 use channels::layers;

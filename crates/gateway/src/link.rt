@@ -7,10 +7,10 @@ use crate::words::Named;
 use crate::words::Number;
 use crate::words::Octets;
 use crate::words::Words;
+use calls::Outcome;
 use channels::After;
 use channels::Channels;
 use table::Code;
-use calls::Outcome;
 
 // Answers a line that cannot be read, and leaves the channels as they are.
 pub fn malformed(s: Channels) -> Channels {

@@ -1,9 +1,9 @@
 // The C entries: numbers and octet buffers, nothing else. include/kyteblossom.h declares them.
 use adaptation::Badge;
-use calls::Length;
 use adaptation::al1m;
 use adaptation::al1m::Judgement;
 use adaptation::al1m::Received;
+use calls::Length;
 ghost use mathlib.Core.Path.{_≡_};
 ghost use Prim.Native.Nat.{_<_};
 ghost use lib.IntN.{pos, negℤ};

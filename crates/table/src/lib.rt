@@ -82,7 +82,7 @@ fn write(dst: &mut [u16], at: usize, src: &[u16])
     }
 }
 
-// Replaces the code's entry: replaceTests 4 (there is no such code), 14, 10.
+// Replaces the code's entry: refusals 4 (there is no such code), 14, 10.
 pub fn replace(table: &mut [u16; TABLE_NUMBERS], code: Code, entry: &[u16]) -> Outcome
     ensures { λ r. ⌜ ended (outcomeSays r) (now (table .exit)) ≡ replaced (now (table .entry)) (code .0) (now (entry .entry)) ⌝ }
 {

@@ -11,8 +11,8 @@ use lib.ListN.{length, getD, take, drop, length-set, length-map, drop-of-length-
 use lib.Seq.{take-all, drop-set-lt}
 use Rattle.channels.specs.declared.Channels.{Channels}
 use Rattle.channels.specs.Search.{first}
-use Rattle.channels.specs.Channels.{placeOf}
-use Rattle.channels.specs.Places.{numberOf, allIn}
+use Rattle.channels.specs.Channels.{allOpen, places, placeOf}
+use Rattle.channels.specs.Places.{numberOf}
 use Rattle.channels.proofs.Placing.{place-most, in-met, in-missed, in-end, mapped-at, sought-place}
 use Rattle.channels.proofs.places.find.Statement.{statement}
 use Rattle.channels.proofs.places.find.Tie as tie
@@ -20,13 +20,13 @@ use Rattle.channels.proofs.places.find.Tie as tie
 abbrev Inv-loop : tie.InvT-loop
 Inv-loop numbers₀ seats all₀ j₀ numbers all j =
     ((s : Channels) → seats ≡ map numberOf (s .at)
-    → (allIn s numbers₀ ≡ (all && allIn s (drop j numbers))) × (map (placeOf s) numbers₀ ≡ take j numbers ++ map (placeOf s) (drop j numbers)))
+    → (allOpen s numbers₀ ≡ (all && allOpen s (drop j numbers))) × (map (placeOf s) numbers₀ ≡ take j numbers ++ map (placeOf s) (drop j numbers)))
     × (j ≤ length numbers) × (length numbers ≡ length numbers₀)
 
 abbrev μ-loop : tie.MeasureT-loop
 μ-loop numbers₀ seats all₀ j₀ numbers all j = length numbers - j
 
-len : (c : tie.Start Inv-loop μ-loop) → length (c .args .s .at) ≡ 16
+len : (c : tie.Start Inv-loop μ-loop) → length (c .args .s .at) ≡ places
 len c = sym (length-map (c .args .s .at) _) ∙ c .good .0 .1 .1 .0 .1 .0 .1
 
 placed : (c : tie.After-seek Inv-loop μ-loop) → (s : Channels) → c .before .before .before .before .before .numbers-of .result ≡ map numberOf (s .at)
