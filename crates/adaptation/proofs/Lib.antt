@@ -12,3 +12,4 @@ pub mod Wholes
 pub mod Unique
 pub mod Refusals
 pub mod Theorems
+pub mod Laws

@@ -4,7 +4,8 @@
 --   badge-most       their numbers go to 4
 --   passed-once      AL1's answers
 --   read-once        .. to reading
---   received-once    .. and to receiving
+--   says-once        .. to receiving, by what they say of a unit where a number is expected
+--   received-once    .. so there is one
 --   check8-once      the checks of 8 bits
 --
 -- The other promises are equations `r ≡ ..`, for which `p ∙ sym q` is the proof. Assumes nothing.
@@ -86,15 +87,18 @@ receivedBack (told (handedUp h d x)) = receive.Unit (badgeAt (h .badge)) d x
 receivedBack (told (discarded e)) = receive.Discarded
 receivedBack (refused k) = receive.Refused k
 
+received-back : (u : List ℕ) (e : ℕ) (r : Received) → receivedBack (receivedSays r u e) ≡ r
+unfolding receivedBack
+received-back u e (receive.Unit b d x) = ap (λ (c : Badge). receive.Unit c d x) (badge-back b)
+received-back u e receive.Discarded = refl
+received-back u e (receive.Refused k) = refl
+
+pub says-once : (u : List ℕ) (e : ℕ) (a b : Received) → receivedSays a u e ≡ receivedSays b u e → a ≡ b
+says-once u e a b h = once (λ (r : Received). receivedSays r u e) receivedBack (received-back u e) a b (receivedSays b u e) h refl
+
 pub received-once : (s : Bool) (w : List ℕ) (e : ℕ) (a b : Received)
     → receivedSays a (unitOf s w) e ≡ received s w e → receivedSays b (unitOf s w) e ≡ received s w e → a ≡ b
-unfolding receivedBack
-received-once s w e a b = once (λ (r : Received). receivedSays r (unitOf s w) e) receivedBack back a b (received s w e)
-  where
-    back : (r : Received) → receivedBack (receivedSays r (unitOf s w) e) ≡ r
-    back (receive.Unit b d x) = ap (λ (c : Badge). receive.Unit c d x) (badge-back b)
-    back receive.Discarded = refl
-    back (receive.Refused k) = refl
+received-once s w e a b p q = says-once (unitOf s w) e a b (p ∙ sym q)
 
 -- ---- the check of 8 bits
 

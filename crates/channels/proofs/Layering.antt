@@ -20,10 +20,10 @@ use lib.ListN.{length, take, drop}
 use Rattle.calls.specs.Refusal.{Told, refused, told, Ended, ended, leaving, refusing}
 use Rattle.calls.proofs.Laws.{checked-through}
 use Rattle.adaptation.specs.AL2.{sendTests, readTests, sent, received, Receipt}
-use Rattle.adaptation.proofs.Refusals.{sent-leaves}
+use Rattle.adaptation.proofs.Laws.{sent-leaves}
 use Rattle.channels.specs.declared.Channel.{Channel}
 use Rattle.channels.specs.declared.Channels.{Channels}
-use Rattle.channels.specs.Channels.{places, placeOf, channelAt, put, numbering}
+use Rattle.channels.specs.Channels.{placeCount, placeOf, channelAt, put, numbering}
 use Rattle.channels.specs.Layers.{SendLent, numberAs, risen, sending, expectedBy, taking}
 use Rattle.channels.specs.Parts.{partAt}
 
@@ -40,11 +40,11 @@ takenBy s p c (refused k) = refusing s k
 takenBy s p c (told r) = leaving r (put s p (numbering c (c .sent) (expectedBy r)))
 
 module _ (x : SendLent) (n : ℕ) (numbered : Bool) (u : List ℕ) (p : ℕ) (e : p ≡ placeOf (x .channels) n) where
-  pub sending-closed : places ≤ p → refusing x 5 ≡ sending x n numbered u
+  pub sending-closed : placeCount ≤ p → refusing x 5 ≡ sending x n numbered u
   unfolding sending
   sending-closed h = rw (← e, le-ltb _ _ h)
 
-  module _ (h : p < places) (out : List ℕ) where
+  module _ (h : p < placeCount) (out : List ℕ) where
     abbrev c : Channel
     c = channelAt (x .channels) p
 
@@ -68,11 +68,11 @@ module _ (x : SendLent) (n : ℕ) (numbered : Bool) (u : List ℕ) (p : ℕ) (e 
     sending-sent k f = by (ended (told k) out) f
 
 module _ (s : Channels) (n : ℕ) (numbered : Bool) (w : List ℕ) (p : ℕ) (e : p ≡ placeOf s n) where
-  pub taking-closed : places ≤ p → refusing s 5 ≡ taking s n numbered w
+  pub taking-closed : placeCount ≤ p → refusing s 5 ≡ taking s n numbered w
   unfolding taking
   taking-closed h = rw (← e, le-ltb _ _ h)
 
-  pub taking-by : p < places → (r : Told Receipt) → r ≡ received numbered w (channelAt s p .expected) → takenBy s p (channelAt s p) r ≡ taking s n numbered w
+  pub taking-by : p < placeCount → (r : Told Receipt) → r ≡ received numbered w (channelAt s p .expected) → takenBy s p (channelAt s p) r ≡ taking s n numbered w
   unfolding taking received
   taking-by h r f =
       ap (takenBy s p (channelAt s p)) f ∙ checked-through (takenBy s p (channelAt s p)) refused (readTests numbered w) _ ∙ rw (← e, lt-ltb _ _ h)

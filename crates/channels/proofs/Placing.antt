@@ -23,11 +23,11 @@ use Rattle.octets.specs.Tests.{both-true}
 use Rattle.channels.specs.declared.Channel.{Channel}
 use Rattle.channels.specs.declared.Channels.{Channels}
 use Rattle.channels.specs.Search.{first}
-use Rattle.channels.specs.Channels.{allOpen, places, placeOf, isIn, isChannel}
+use Rattle.channels.specs.Channels.{allOpen, placeCount, placeOf, isIn, isChannel}
 use Rattle.channels.specs.Places.{noNumber, numberOf}
 use Rattle.channels.proofs.Search.{first-most}
 
-pub place-most : (s : Channels) (n : ℕ) → length (s .at) ≡ places → placeOf s n ≤ places
+pub place-most : (s : Channels) (n : ℕ) → length (s .at) ≡ placeCount → placeOf s n ≤ placeCount
 unfolding placeOf
 place-most s n e = omega (arith, first-most (isChannel n) (s .at))
 
@@ -36,10 +36,10 @@ module _ (s : Channels) (l : List ℕ) (j : ℕ) where
   unfolding allOpen
   in-at h = rw (add-one, drop-cons l j 0)
 
-  pub in-met : (p : ℕ) → j < length l → placeOf s (getD l j 0) < places → allOpen s (drop j l) ≡ allOpen s (drop (j + 1) (set l j p))
+  pub in-met : (p : ℕ) → j < length l → placeOf s (getD l j 0) < placeCount → allOpen s (drop j l) ≡ allOpen s (drop (j + 1) (set l j p))
   in-met p h k = in-at h ∙ rw (lt-ltb _ _ k, drop-set-lt (j + 1) l j p (omega arith))
 
-  pub in-missed : j < length l → places ≤ placeOf s (getD l j 0) → allOpen s (drop j l) ≡ false
+  pub in-missed : j < length l → placeCount ≤ placeOf s (getD l j 0) → allOpen s (drop j l) ≡ false
   in-missed h k = in-at h ∙ rw (le-ltb _ _ k)
 
   pub in-end : length l ≤ j → allOpen s (drop j l) ≡ true
@@ -64,7 +64,7 @@ pub sought-place : (s : Channels) (n : ℕ) → n < 65536 → first (λ m. eqb m
 unfolding placeOf
 sought-place s n h = sought n h (s .at)
 
-pub in-placed : (s : Channels) (l : List ℕ) → allOpen s l ≡ true → (j : ℕ) → j < length l → getD (map (placeOf s) l) j 0 < places
+pub in-placed : (s : Channels) (l : List ℕ) → allOpen s l ≡ true → (j : ℕ) → j < length l → getD (map (placeOf s) l) j 0 < placeCount
 unfolding allOpen
 in-placed s [] e j h = absurd (not-suc-le-zero h)
 in-placed s (n ∷ l) e zero h = ltb-true _ _ (both-true _ _ e .0)

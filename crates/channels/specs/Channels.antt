@@ -1,6 +1,6 @@
 -- The channels (document 01, "Demultiplexer"): places, and beside them the octets that are held and those that wait, so many to a place.
 --
---   places            how many channels may be open (16)
+--   placeCount        how many channels may be open (16)
 --   placeOctets       the octets of a place: the most that a channel may hold, and the most that may wait (1,024)
 --   allOctets         .. of all the places
 --   vacant            a place that is free
@@ -8,8 +8,8 @@
 --   start             the channels at first: channel 0 is open and segmentable
 --   isChannel n c     c is channel n
 --   isFree c          no channel is open at c
---   placeOf s n       the place of the open channel n, or `places`
---   freePlace s       the first free place, or `places`
+--   placeOf s n       the place of the open channel n, or `placeCount`
+--   freePlace s       the first free place, or `placeCount`
 --   isIn s n          channel n is open
 --   allOpen s l       every channel of the numbers l is
 --   channelAt s p     the channel at place p
@@ -39,14 +39,14 @@ use Rattle.channels.specs.declared.Channel.{Channel}
 use Rattle.channels.specs.declared.Channels.{Channels}
 use Rattle.channels.specs.Search.{first}
 
-abbrev pub places : ℕ
-places = 16
+abbrev pub placeCount : ℕ
+placeCount = 16
 
 abbrev pub placeOctets : ℕ
 placeOctets = 1024
 
 abbrev pub allOctets : ℕ
-allOctets = places * placeOctets
+allOctets = placeCount * placeOctets
 
 abbrev pub vacant : Channel
 vacant = record { «open» = false; segmentable = false; number = 0; held = 0; waiting = 0; sent = 0; expected = 0 }
@@ -55,7 +55,7 @@ abbrev pub fresh : ℕ → Bool → Channel
 fresh n g = record { «open» = true; segmentable = g; number = n; held = 0; waiting = 0; sent = 0; expected = 0 }
 
 unfoldable pub start : Channels
-start = record { at = fresh 0 true ∷ replicate (places - 1) vacant }
+start = record { at = fresh 0 true ∷ replicate (placeCount - 1) vacant }
 
 -- ---- places
 
@@ -72,7 +72,7 @@ unfoldable pub freePlace : Channels → ℕ
 freePlace s = first isFree (s .at)
 
 abbrev pub isIn : Channels → ℕ → Bool
-isIn s n = ltb (placeOf s n) places
+isIn s n = ltb (placeOf s n) placeCount
 
 unfoldable pub allOpen : Channels → List ℕ → Bool
 allOpen s [] = true
@@ -111,7 +111,7 @@ waitingOf s w p = take (waits (channelAt s p)) (drop (waitingFrom (channelAt s p
 -- ---- the calls
 
 abbrev pub openTests : Channels → ℕ → List Test
-openTests s n = 13 when isIn s n ∷ 12 when leb places (freePlace s) ∷ []
+openTests s n = 13 when isIn s n ∷ 12 when leb placeCount (freePlace s) ∷ []
 
 unfoldable pub opened : Channels → ℕ → Bool → Ended (Unit {0}) Channels
 opened s n g = checked (refusing s) (openTests s n) (leaving tt (put s (freePlace s) (fresh n g)))

@@ -3,3 +3,4 @@ pub mod Channels
 pub mod Places
 pub mod Layers
 pub mod Parts
+pub mod Claims

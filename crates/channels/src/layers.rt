@@ -93,7 +93,7 @@ pub fn send(s: Channels, number: ChannelNumber, numbered: bool, unit: &[u8], out
 
 // The channels where the channel at place p expects the number e next.
 fn expect(s: Channels, p: usize, e: u8) -> Channels
-    requires { ⌜ p < the.places ⌝ }
+    requires { ⌜ p < the.placeCount ⌝ }
     ensures { λ r. ⌜ r ≡ put s p (the.numbering (channelAt s p) (channelAt s p .sent) e) ⌝ }
 {
     let mut c = s.at[p];

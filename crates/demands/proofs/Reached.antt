@@ -23,8 +23,8 @@ use Rattle.adaptation.specs.Receiving.{isWord, refusals, isBare, badgeOf, chang
 use Rattle.adaptation.specs.declared.Badge.the-variants.{OutOfReach}
 use Rattle.adaptation.specs.declared.al1m.Judgement.{Judgement}
 use Rattle.adaptation.specs.declared.al1m.Received.the-variants as al1m
-use Rattle.adaptation.proofs.Refusals.{refused-none}
-use Rattle.adaptation.proofs.Theorems.{sentIsHandedUp, faultlessIsCodeWord, outOfReachExactly}
+use Rattle.adaptation.proofs.Laws.{refused-none}
+use Rattle.adaptation.proofs.Laws.{sentIsHandedUp, faultlessIsCodeWord, outOfReachExactly}
 use Rattle.demands.specs.Repairs.{Repairs, Demand3}
 
 short : (n e : ℕ) (w before : List ℕ) → refusal (refusals (length w) n e (length before)) ≡ told tt → length w ≤ 255

@@ -7,8 +7,8 @@
 -- Assumes nothing.
 use mathlib.Core.Path.{_≡_, sym, _∙_}
 pub use Rattle.codeword.proofs.Theorems.{encodedUnique as codeword-encoded, repairedUnique as codeword-repaired}
-pub use Rattle.adaptation.proofs.Theorems.{encodedUnique as al1m-encoded, receivedUnique as al1m-received}
-pub use Rattle.adaptation.proofs.Unique.{length-once, ended-once, passed-once, read-once, received-once}
+pub use Rattle.adaptation.proofs.Laws.{encodedUnique as al1m-encoded, receivedUnique as al1m-received}
+pub use Rattle.adaptation.proofs.Laws.{length-once, ended-once, passed-once, read-once, received-once}
 pub use Rattle.kyteblossom.proofs.Unique.{encode-once, receive-once}
 pub use Rattle.table.proofs.Theorems.{replacedUnique}
 pub use Rattle.multiplex.proofs.Unique.{after-once, posted-once, demultiplexed-once, multiplexed-once, sending-once, taking-once}

@@ -36,8 +36,8 @@ use Rattle.adaptation.specs.Receiving.{isWord, refusals, isBare, badgeOf, isCor
 use Rattle.adaptation.specs.declared.Badge.{Badge}
 use Rattle.adaptation.specs.declared.Badge.the-variants.{Clean, Corrected, OutOfReach, CheckFailed}
 use Rattle.adaptation.specs.declared.al1m.Received.the-variants as al1m
-use Rattle.adaptation.proofs.Refusals.{refused-not}
-use Rattle.adaptation.proofs.Theorems.{receivedUnique}
+use Rattle.adaptation.proofs.Laws.{refused-not}
+use Rattle.adaptation.proofs.Laws.{receivedUnique}
 use Rattle.table.specs.Form.{many, headAt, elementAt, listAt, isEntry}
 use Rattle.table.specs.Slots.{copies, skip, inTurn, elementSlots, listSlots, slots, cut, pieces, channelsOf}
 use Rattle.demands.specs.Small.{ReceivedAs, Small}

@@ -7,7 +7,7 @@ use mathlib.Core.List.{List}
 use Prim.Native.Nat.{ℕ}
 use lib.IntN.{ℤ}
 use Rattle.calls.specs.Refusal.{says}
-use Rattle.adaptation.proofs.Theorems.{encodedUnique, receivedUnique}
+use Rattle.adaptation.proofs.Laws.{encodedUnique, receivedUnique}
 use Rattle.calls.specs.declared.Length.{Length}
 use Rattle.kyteblossom.specs.Answer.{answer, receiveAnswer, EncodeIs, ReceiveIs}
 

@@ -17,27 +17,27 @@ use borrow.Author.Tests.{le-ltb}
 use lib.ListN.{length, take}
 use Rattle.octets.specs.Written.{written, written-front}
 use Rattle.calls.specs.Refusal.{Ended, leaving}
-use Rattle.table.specs.Slots.{Slot, pieces, octetsOf, cut}
-use Rattle.table.specs.Laws.{cut-octets, pieces-filled, pieces-most, pieces-cut}
-use Rattle.table.specs.Table.{entryOf, isDefined}
+use Rattle.table.specs.Slots.{Slot, payloadSlots, octetsOf, cut, numbersOf}
+use Rattle.table.proofs.Laws.{cut-octets, payloadSlots-filled, payloadSlots-most, payloadSlots-cut}
+use Rattle.table.specs.Table.{entryOf, isDefined, longestPayload}
 use Rattle.channels.specs.declared.Channels.{Channels}
-use Rattle.channels.specs.Channels.{channelAt}
-use Rattle.multiplex.specs.Pieces.{Piece, placed, allOpen, lastPlace, total}
-use Rattle.multiplex.specs.Demultiplexer.{Delivery, Lent, nothing, fits, delivery, tooSmall, writes, delivered, sorted, demultiplexed}
+use Rattle.channels.specs.Channels.{channelAt, allOpen}
+use Rattle.multiplex.specs.Pieces.{Piece, placed, lastPlace, total}
+use Rattle.multiplex.specs.Demultiplexer.{Delivery, DemuxLent, nothing, fits, delivery, tooSmall, writes, delivered, demultiplexed}
 use Rattle.multiplex.specs.Multiplexer.{Walk, walked, gathered}
-use Rattle.multiplex.specs.Runs.{UnitOn, unitsIn}
+use Rattle.multiplex.specs.Units.{UnitOn, unitsIn, enoughOutput, enoughUnits}
 use Rattle.multiplex.proofs.Records.{Tells, tells-nothing, tells-read, records-length}
 use Rattle.multiplex.proofs.Matching.{Matched}
 use Rattle.multiplex.proofs.Agreeing.{Agrees, walk-agrees}
 use Rattle.multiplex.proofs.Passing.{Sound}
 use Rattle.multiplex.proofs.Carrying.{carried, Carried, walk-carried}
 
-pub record Welcome (x : Lent) (t : List ℕ) (c : ℕ) (mark : Bool) (l : List Piece) (xs : List ℕ) : Type 0 where
-  pub short : length xs ≤ 255
+pub record Welcome (x : DemuxLent) (t : List ℕ) (c : ℕ) (mark : Bool) (l : List Piece) (xs : List ℕ) : Type 0 where
+  pub short : length xs ≤ longestPayload
   pub defined : isDefined t c ≡ true
-  pub enough : length xs ≤ octetsOf (pieces (entryOf t c) (length xs))
-  pub opened : allOpen (x .channels) (pieces (entryOf t c) (length xs)) ≡ true
-  pub pieced : placed (x .channels) (pieces (entryOf t c) (length xs)) ≡ l
+  pub enough : length xs ≤ octetsOf (payloadSlots (entryOf t c) (length xs))
+  pub opened : allOpen (x .channels) (numbersOf (payloadSlots (entryOf t c) (length xs))) ≡ true
+  pub pieced : placed (x .channels) (payloadSlots (entryOf t c) (length xs)) ≡ l
   pub marked : mark ≡ true → channelAt (x .channels) (lastPlace l) .segmentable ≡ true
   pub fitting : fits (x .channels) l ≡ true
   pub octets : length (delivery (x .channels) (x .held) mark l xs .octets) ≤ length (x .output)
@@ -47,8 +47,8 @@ unmarked : (m g : Bool) → (m ≡ true → g ≡ true) → (m && not g) ≡ fal
 unmarked true g f = ap not (f refl)
 unmarked false g f = refl
 
-module _ {x : Lent} {t : List ℕ} {c : ℕ} {mark : Bool} {l : List Piece} {xs : List ℕ} (k : Welcome x t c mark l xs) where
-  abbrev told : Ended ℕ Lent
+module _ {x : DemuxLent} {t : List ℕ} {c : ℕ} {mark : Bool} {l : List Piece} {xs : List ℕ} (k : Welcome x t c mark l xs) where
+  abbrev told : Ended ℕ DemuxLent
   told = leaving (delivery (x .channels) (x .held) mark l xs .count) (writes (delivery (x .channels) (x .held) mark l xs) (x .output) (x .units))
 
   small : tooSmall (delivery (x .channels) (x .held) mark l xs) (x .output) (x .units) ≡ false
@@ -59,15 +59,15 @@ module _ {x : Lent} {t : List ℕ} {c : ℕ} {mark : Bool} {l : List Piece} {xs 
   last-welcome = rw (unmarked mark (channelAt (x .channels) (lastPlace l) .segmentable) (k .marked), k .fitting, small)
 
   pub welcome : demultiplexed x t c mark xs ≡ told
-  unfolding demultiplexed sorted
-  welcome = rw (le-ltb 255 (length xs) (k .short), k .defined, le-ltb (octetsOf (pieces (entryOf t c) (length xs))) (length xs) (k .enough), k .opened, k .pieced) last-welcome
+  unfolding demultiplexed delivered
+  welcome = rw (le-ltb longestPayload (length xs) (k .short), k .defined, le-ltb (octetsOf (payloadSlots (entryOf t c) (length xs))) (length xs) (k .enough), k .opened, k .pieced) last-welcome
 
 -- ---- what a walk sends
 
 module _ {s : Channels} {w : List ℕ} {r : Channels} {h : List ℕ} {sent got : List UnitOn} (m : Matched s w r h sent got) (t : List ℕ) (c room : ℕ)
-    (defined : isDefined t c ≡ true) (small : room ≤ 255) (known : walked s (pieces (entryOf t c) room) .allOpen ≡ true) where
+    (defined : isDefined t c ≡ true) (small : room ≤ longestPayload) (known : walked s (payloadSlots (entryOf t c) room) .allOpen ≡ true) where
   abbrev l : List Slot
-  l = pieces (entryOf t c) room
+  l = payloadSlots (entryOf t c) room
 
   abbrev x : Walk
   x = walked s l
@@ -76,10 +76,10 @@ module _ {s : Channels} {w : List ℕ} {r : Channels} {h : List ℕ} {sent got :
   octets = gathered s w (x .pieces)
 
   agrees : Agrees r l x
-  agrees = walk-agrees l r s (pieces-filled (entryOf t c) room) (m .alike)
+  agrees = walk-agrees l r s (payloadSlots-filled (entryOf t c) room) (m .alike)
 
   carries : Carried s w sent got (nothing r h) x
-  carries = walk-carried w sent got l s (nothing r h) (pieces-filled (entryOf t c) room)
+  carries = walk-carried w sent got l s (nothing r h) (payloadSlots-filled (entryOf t c) room)
       (record { units = []; tells = tells-nothing r h; matched = subst (Matched s w r h sent) (sym (append-nil got)) m }) known
 
   abbrev result : Delivery
@@ -90,26 +90,26 @@ module _ {s : Channels} {w : List ℕ} {r : Channels} {h : List ℕ} {sent got :
   is-carried = refl
 
   within : total (x .pieces) ≤ room
-  within = omega (arith, agrees .within, pieces-most (entryOf t c) room)
+  within = omega (arith, agrees .within, payloadSlots-most (entryOf t c) room)
 
   pub sent-length : length octets ≡ total (x .pieces)
   sent-length = carries .size
 
   -- the receiver's slots are the sender's, cut to what was sent
-  same-slots : pieces (entryOf t c) (length octets) ≡ cut (total (x .pieces)) l
+  same-slots : payloadSlots (entryOf t c) (length octets) ≡ cut (total (x .pieces)) l
   same-slots =
       let e : min (total (x .pieces)) room ≡ length octets = omega (arith, within, sent-length) in
-      sym (pieces-cut (entryOf t c) (total (x .pieces)) room ∙ ap (pieces (entryOf t c)) e)
+      sym (payloadSlots-cut (entryOf t c) (total (x .pieces)) room ∙ ap (payloadSlots (entryOf t c)) e)
 
-  module _ (output units : List ℕ) (roomy : 1279 ≤ length output) (listed : 765 ≤ length units) where
-    abbrev lent : Lent
+  module _ (output units : List ℕ) (roomy : enoughOutput ≤ length output) (listed : enoughUnits ≤ length units) where
+    abbrev lent : DemuxLent
     lent = record { channels = r; held = h; output = output; units = units }
 
     welcomed : Welcome lent t c (x .mark) (x .pieces) octets
     welcomed =
         let tells = subst (λ (a : Delivery). Tells a (carries .sound .units)) is-carried (carries .sound .tells) in
         let sizes : octetsOf (cut (total (x .pieces)) l) ≡ total (x .pieces) = omega (arith, cut-octets (total (x .pieces)) l, agrees .within) in
-        let few : length (x .pieces) ≤ 255 = omega (arith, agrees .many, within) in
+        let few : length (x .pieces) ≤ longestPayload = omega (arith, agrees .many, within) in
         let counts : result .count ≤ length (x .pieces) = omega (arith, ap (λ (a : Delivery). a .count) is-carried, carries .count) in
         let records : length (result .units) ≡ 3 * result .count
         = ap (λ (a : List ℕ). length a) (tells .units) ∙ records-length (carries .sound .units) 0 ∙ ap (λ (a : ℕ). 3 * a) (sym (tells .count)) in
@@ -117,7 +117,7 @@ module _ {s : Channels} {w : List ℕ} {r : Channels} {h : List ℕ} {sent got :
           short = omega (arith, within, sent-length);
           defined = defined;
           enough = omega (arith, ap octetsOf same-slots, sizes, sent-length);
-          opened = ap (allOpen r) same-slots ∙ agrees .opened;
+          opened = ap (λ (l : List Slot). allOpen r (numbersOf l)) same-slots ∙ agrees .opened;
           pieced = ap (placed r) same-slots ∙ agrees .same;
           marked = carries .marked;
           fitting = carries .fitting;

@@ -20,19 +20,19 @@ use borrow.Author.Tests.{eqb-true, eqb-false, ltb-true, ne-eqb}
 use lib.Dec.{eqb, ltb}
 use lib.ListN.{length}
 use Rattle.octets.specs.Tests.{never}
-use Rattle.table.specs.Slots.{Slot, cut, octetsOf}
-use Rattle.table.specs.Laws.{Filled, cut-none}
+use Rattle.table.specs.Slots.{Slot, cut, octetsOf, numbersOf}
+use Rattle.table.proofs.Laws.{Filled, cut-none}
 use Rattle.channels.specs.declared.Channel.{Channel}
 use Rattle.channels.specs.declared.Channels.{Channels}
-use Rattle.channels.specs.Channels.{channelAt, placeOf, isIn, waits, waiting}
-use Rattle.multiplex.specs.Pieces.{Piece, placed, allOpen, total}
+use Rattle.channels.specs.Channels.{channelAt, placeOf, isIn, waits, waiting, allOpen}
+use Rattle.multiplex.specs.Pieces.{Piece, placed, total}
 use Rattle.multiplex.specs.Multiplexer.{Walk, isBlocked, goesOn, moved, left, stopped, sending, ending, walked}
 use Rattle.calls.proofs.Laws.{by-test}
-use Rattle.multiplex.proofs.Seats.{seats, place-seats, seats-put}
+use Rattle.channels.proofs.Laws.{seats, place-seats, seats-put}
 
 pub record Agrees (r : Channels) (l : List Slot) (x : Walk) : Type 0 where
   pub same : placed r (cut (total (x .pieces)) l) ≡ x .pieces
-  pub opened : allOpen r (cut (total (x .pieces)) l) ≡ true
+  pub opened : allOpen r (numbersOf (cut (total (x .pieces)) l)) ≡ true
   pub within : total (x .pieces) ≤ octetsOf l
   pub many : length (x .pieces) ≤ total (x .pieces)
   pub last : x .mark ≡ true → x .pieces ≡ [] → ⊥

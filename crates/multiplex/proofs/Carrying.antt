@@ -20,17 +20,16 @@ use lib.Dec.{leb, ltb, eqb}
 use lib.ListN.{length, take, drop, length-append, length-take}
 use lib.Seq.{take-at, drop-at}
 use Rattle.octets.specs.Tests.{never}
-use Rattle.adaptation.specs.Handed.{longest}
 use Rattle.table.specs.Slots.{Slot}
-use Rattle.table.specs.Laws.{Filled}
+use Rattle.table.proofs.Laws.{Filled}
 use Rattle.channels.specs.declared.Channel.{Channel}
 use Rattle.channels.specs.declared.Channels.{Channels}
-use Rattle.channels.specs.Channels.{placeOf, channelAt, holding, isIn, waits, heldOf, waitingOf}
+use Rattle.channels.specs.Channels.{placeOf, channelAt, holding, isIn, waits, heldOf, waitingOf, placeCount, placeOctets}
 use Rattle.multiplex.specs.Pieces.{Piece, lastPlace, total}
 use Rattle.multiplex.specs.Demultiplexer.{Delivery, finished, grown, joined, took, tookAll, closed, counted, hasRoom, fits}
-use Rattle.multiplex.specs.Multiplexer.{Walk, isBlocked, goesOn, moved, left, stopped, piece, sending, ending, walked, gathered}
-use Rattle.multiplex.specs.Runs.{UnitOn}
-use Rattle.multiplex.proofs.Seats.{Seat, seats, seats-put, seat-at, put-there}
+use Rattle.multiplex.specs.Multiplexer.{Walk, isBlocked, goesOn, moved, left, stopped, pieceAt, sending, ending, walked, gathered}
+use Rattle.multiplex.specs.Units.{UnitOn}
+use Rattle.channels.proofs.Laws.{Seat, seats, seats-put, seat-at, put-there}
 use Rattle.multiplex.proofs.Matching.{full-there}
 use Rattle.calls.proofs.Laws.{by-test}
 use Rattle.multiplex.proofs.Agreeing.{neither, waits-some, walk-agrees}
@@ -73,7 +72,7 @@ pub record Step (s : Channels) (w : List ℕ) (r : Delivery) (p k : ℕ) (r′ :
   pub count : r′ .count ≤ r .count + 1
   pub alike : seats (r .channels) ≡ seats (r′ .channels)
 
-module _ {s : Channels} {w : List ℕ} {sent base : List UnitOn} {r : Delivery} (o : Sound s w sent base r) (n p : ℕ) (place : placeOf s n ≡ p) (inside : p < 16) (k : ℕ) (most : k ≤ waits (channelAt s p)) where
+module _ {s : Channels} {w : List ℕ} {sent base : List UnitOn} {r : Delivery} (o : Sound s w sent base r) (n p : ℕ) (place : placeOf s n ≡ p) (inside : p < placeCount) (k : ℕ) (most : k ≤ waits (channelAt s p)) where
   abbrev x : List ℕ
   x = take k (waitingOf s w p)
 
@@ -87,7 +86,7 @@ module _ {s : Channels} {w : List ℕ} {sent base : List UnitOn} {r : Delivery} 
   step-joined g = record {
     taken = ap (λ (t : Bool). cond t (joined r p x) (finished r (d .number) x)) g;
     size = size;
-    room = ap (λ (t : Bool). not (d .segmentable) || t) (le-leb (d .held + k) longest (omega (arith, o .matched .each p .bounded))) ∙ or-true (not (d .segmentable));
+    room = ap (λ (t : Bool). not (d .segmentable) || t) (le-leb (d .held + k) placeOctets (omega (arith, o .matched .each p .bounded))) ∙ or-true (not (d .segmentable));
     counts = ap (λ (t : Bool). cond t (grown (r .channels) p k) (r .channels)) g ∙ ap (λ (j : ℕ). grown (r .channels) p j) (sym size);
     octets = omega arith;
     count = omega arith;
@@ -98,7 +97,7 @@ module _ {s : Channels} {w : List ℕ} {sent base : List UnitOn} {r : Delivery} 
   step-finished g = record {
     taken = ap (λ (t : Bool). cond t (joined r p x) (finished r (d .number) x)) g;
     size = size;
-    room = ap (λ (t : Bool). not t || leb (d .held + k) longest) g;
+    room = ap (λ (t : Bool). not t || leb (d .held + k) placeOctets) g;
     counts = ap (λ (t : Bool). cond t (grown (r .channels) p k) (r .channels)) g;
     octets = omega (arith, length-append (r .octets) x, size);
     count = omega arith;
@@ -106,13 +105,13 @@ module _ {s : Channels} {w : List ℕ} {sent base : List UnitOn} {r : Delivery} 
   }
 
   -- what the closing mark then ends has at most 1,024 octets
-  closed-octets : length (closed (joined r p x) p .octets) ≤ length (r .octets) + 1024
+  closed-octets : length (closed (joined r p x) p .octets) ≤ length (r .octets) + placeOctets
   closed-octets =
       let more = holding d (d .held + length x) in
       let mid = joined r p x .channels in
       let at : channelAt mid p ≡ more = put-there (r .channels) (full-there (o .matched)) p more inside in
       let e : channelAt mid p .held ≡ d .held + length x = ap (λ (c : Channel). c .held) at in
-      omega (arith, length-append (r .octets) (heldOf mid (joined r p x .held) p), length-take (channelAt mid p .held) (drop (longest * p) (joined r p x .held)), e, size, o .matched .each p .bounded)
+      omega (arith, length-append (r .octets) (heldOf mid (joined r p x .held) p), length-take (channelAt mid p .held) (drop (placeOctets * p) (joined r p x .held)), e, size, o .matched .each p .bounded)
 
 -- ---- a walk
 
@@ -120,7 +119,7 @@ pub record Carried (s : Channels) (w : List ℕ) (sent base : List UnitOn) (r : 
   pub sound : Sound (x .channels) w sent base (carried r (x .mark) (x .pieces) (gathered s w (x .pieces)))
   pub size : length (gathered s w (x .pieces)) ≡ total (x .pieces)
   pub fitting : fits (r .channels) (x .pieces) ≡ true
-  pub octets : length (carried r (x .mark) (x .pieces) (gathered s w (x .pieces)) .octets) ≤ length (r .octets) + total (x .pieces) + 1024
+  pub octets : length (carried r (x .mark) (x .pieces) (gathered s w (x .pieces)) .octets) ≤ length (r .octets) + total (x .pieces) + placeOctets
   pub count : carried r (x .mark) (x .pieces) (gathered s w (x .pieces)) .count ≤ r .count + length (x .pieces)
   pub marked : x .mark ≡ true → channelAt (r .channels) (lastPlace (x .pieces)) .segmentable ≡ true
 
@@ -176,7 +175,7 @@ module _ {w : List ℕ} {sent base : List UnitOn} {s : Channels} {r : Delivery} 
         }
 
     closing-carried : Sound (left s p k) w sent base (closed r′ p) → channelAt (r .channels) p .segmentable ≡ true
-        → length (closed r′ p .octets) ≤ length (r .octets) + 1024 → r′ .count ≡ r .count → Carried s w sent base r (ending (of p k) (left s p k) true)
+        → length (closed r′ p .octets) ≤ length (r .octets) + placeOctets → r′ .count ≡ r .count → Carried s w sent base r (ending (of p k) (left s p k) true)
     unfolding gathered total fits lastPlace
     closing-carried o g short same =
         let y = take k (waitingOf s w p) in
@@ -192,7 +191,7 @@ module _ {w : List ℕ} {sent base : List UnitOn} {s : Channels} {r : Delivery} 
 
 -- ---- a slot that is not blocked
 
-module _ {w : List ℕ} {sent base : List UnitOn} {s : Channels} {r : Delivery} (o : Sound s w sent base r) (j p : ℕ) (place : placeOf s j ≡ p) (inside : p < 16) (n : ℕ) (free : isBlocked (channelAt s p) n ≡ false) where
+module _ {w : List ℕ} {sent base : List UnitOn} {s : Channels} {r : Delivery} (o : Sound s w sent base r) (j p : ℕ) (place : placeOf s j ≡ p) (inside : p < placeCount) (n : ℕ) (free : isBlocked (channelAt s p) n ≡ false) where
   abbrev c : Channel
   c = channelAt s p
 
@@ -215,7 +214,7 @@ module _ {w : List ℕ} {sent base : List UnitOn} {s : Channels} {r : Delivery} 
       ltb-false n (waits c) h
 
   going : (g : Bool) → c .segmentable ≡ g → cond g (ltb n (waits c)) (eqb (waits c) n) ≡ true → (x : Walk) → (x .mark ≡ true → x .pieces ≡ [] → ⊥)
-      → ((a : Delivery) → Sound (left s p k) w sent base a → Carried (left s p k) w sent base a x) → Carried s w sent base r (sending (piece s p n) x)
+      → ((a : Delivery) → Sound (left s p k) w sent base a → Carried (left s p k) w sent base a x) → Carried s w sent base r (sending (pieceAt s p n) x)
   going true e f x last ih =
       let l : k < waits c = omega (arith, ltb-true n (waits c) f) in
       sending-carried p k (joined r p (take k (waitingOf s w p))) (step-joined o j p place inside k most (there true e)) x last
@@ -225,7 +224,7 @@ module _ {w : List ℕ} {sent base : List UnitOn} {s : Channels} {r : Delivery} 
       sending-carried p k (finished r (channelAt (r .channels) p .number) (take k (waitingOf s w p))) (step-finished o j p place inside k most (there false e)) x last
       (ih (finished r (channelAt (r .channels) p .number) (take k (waitingOf s w p))) (sound-finished o j p place inside k l some (there false e)))
 
-  stopping : (g : Bool) → c .segmentable ≡ g → cond g (ltb n (waits c)) (eqb (waits c) n) ≡ false → Carried s w sent base r (ending (piece s p n) (left s p k) g)
+  stopping : (g : Bool) → c .segmentable ≡ g → cond g (ltb n (waits c)) (eqb (waits c) n) ≡ false → Carried s w sent base r (ending (pieceAt s p n) (left s p k) g)
   stopping true e f =
       let l : k ≡ waits c = omega (arith, ltb-false n (waits c) f) in
       closing-carried p k (joined r p (take k (waitingOf s w p))) (step-joined o j p place inside k most (there true e))
@@ -247,8 +246,8 @@ walk-carried w sent base (y ∷ l) s r f o =
     by-test Good (isIn s (y .channel))
     (λ i. by-test Good (isBlocked c n) (λ b e. stopped-carried o)
     (λ b. by-test Good (goesOn c n)
-    (λ g e. going o (y .channel) p refl (ltb-true p 16 i) n b (c .segmentable) refl g (walked (left s p (moved c n)) l)
+    (λ g e. going o (y .channel) p refl (ltb-true p placeCount i) n b (c .segmentable) refl g (walked (left s p (moved c n)) l)
     (walk-agrees l (left s p (moved c n)) (left s p (moved c n)) (f .1) refl .last)
     (λ a q. walk-carried w sent base l (left s p (moved c n)) a (f .1) q e))
-    (λ g e. stopping o (y .channel) p refl (ltb-true p 16 i) n b (c .segmentable) refl g)))
+    (λ g e. stopping o (y .channel) p refl (ltb-true p placeCount i) n b (c .segmentable) refl g)))
     (λ i e. never (cc))

@@ -27,14 +27,13 @@ use lib.ListN.{length, getD, set, take, drop, length-set, length-drop, List·get
 use lib.Seq.{length-take-le, getD-set-same}
 use Rattle.octets.specs.Written.{written-length, written-nothing}
 use Rattle.octets.specs.Tests.{both-true, never}
-use Rattle.adaptation.specs.Handed.{longest}
 use Rattle.channels.specs.declared.Channel.{Channel}
 use Rattle.channels.specs.declared.Channels.{Channels}
 use Rattle.multiplex.specs.declared.demultiplexer.Tally.{Tally}
-use Rattle.channels.specs.Channels.{vacant, channelAt, holding, heldOf}
-use Rattle.multiplex.specs.Pieces.{Piece, laid, lastPlace, total}
+use Rattle.channels.specs.Channels.{vacant, channelAt, holding, heldOf, placeCount, allOctets, placeOctets}
+use Rattle.multiplex.specs.Pieces.{paired, Piece, laid, lastPlace, total}
 use Rattle.multiplex.specs.Demultiplexer.{Delivery, joined, finished, took, tookAll, closed, counted, hasRoom, fits, nothing, delivery}
-use Rattle.multiplex.specs.Tally.{noTally, counts, tallied, closing, closes, Draft, noted, putsAll, ends, Within}
+use Rattle.multiplex.specs.Tally.{noTally, counts, tallied, closing, closes, Draft, noted, putsAll, ends, AllPlaces}
 use Rattle.multiplex.proofs.Tallying.{counts-ind, counts-held, counts-channels, counts-most, room-held}
 use Rattle.multiplex.proofs.Delivering.{tallyOf, shown, Even, Room, counts-took, tallied-took, tookAll-even, putsAll-shown, closed-counts, closed-even, closed-least, closed-shown}
 
@@ -42,16 +41,16 @@ use Rattle.multiplex.proofs.Delivering.{tallyOf, shown, Even, Room, cou
 
 unfoldable pub Placed : List Piece → Type 0
 Placed [] = Unit {0}
-Placed (q ∷ l) = (q .place < 16) × Placed l
+Placed (q ∷ l) = (q .place < placeCount) × Placed l
 
-pub within-laid : (ps ls : List ℕ) → Within ps → Placed (laid ps ls)
-unfolding Placed laid
+pub within-laid : (ps ls : List ℕ) → AllPlaces ps → Placed (laid ps ls)
+unfolding Placed paired
 within-laid [] ls w = tt
 within-laid (p ∷ ps) [] w = tt
 within-laid (p ∷ ps) (n ∷ ls) w = (w 0 (omega arith), within-laid ps ls (λ j h. w (suc j) (omega arith)))
 
-pub last-laid : (ps ls : List ℕ) → length ps ≡ length ls → lastPlace (laid ps ls) ≡ getD ps (length ps - 1) 16
-unfolding laid lastPlace
+pub last-laid : (ps ls : List ℕ) → length ps ≡ length ls → lastPlace (laid ps ls) ≡ getD ps (length ps - 1) placeCount
+unfolding paired lastPlace
 last-laid [] ls e = refl
 last-laid (p ∷ ps) [] e = absurd (omega arith)
 last-laid (p ∷ []) (n ∷ ls) e = refl
@@ -64,17 +63,17 @@ last-laid (p ∷ q ∷ ps) (n ∷ m ∷ ls) e =
 took-channels : (r : Delivery) (p : ℕ) (x : List ℕ) → took r p x .channels ≡ counted (r .channels) p (length x)
 took-channels r p x = sym (ap (λ (t : Tally). t .channels) (counts-took r p x)) ∙ counts-channels (tallyOf r) p (length x)
 
-held-took : (r : Delivery) (p : ℕ) (x : List ℕ) → p < 16 → hasRoom (r .channels) p (length x) ≡ true → length (r .held) ≡ 16384 → length (took r p x .held) ≡ 16384
+held-took : (r : Delivery) (p : ℕ) (x : List ℕ) → p < placeCount → hasRoom (r .channels) p (length x) ≡ true → length (r .held) ≡ allOctets → length (took r p x .held) ≡ allOctets
 held-took r p x h room e = by (channelAt (r .channels) p .segmentable) refl
   where
     by : (b : Bool) → channelAt (r .channels) p .segmentable ≡ b
-        → length (cond b (joined r p x) (finished r (channelAt (r .channels) p .number) x) .held) ≡ 16384
+        → length (cond b (joined r p x) (finished r (channelAt (r .channels) p .number) x) .held) ≡ allOctets
     by true g =
-        written-length (r .held) (longest * p + channelAt (r .channels) p .held) x (omega (arith, room-held (channelAt (r .channels) p) (length x) room g)) ∙ e
+        written-length (r .held) (placeOctets * p + channelAt (r .channels) p .held) x (omega (arith, room-held (channelAt (r .channels) p) (length x) room g)) ∙ e
     by false g = e
 
 pub held-tookAll : (r : Delivery) (l : List Piece) (xs : List ℕ) → fits (r .channels) l ≡ true → Placed l → total l ≤ length xs
-    → length (r .held) ≡ 16384 → length (tookAll r l xs .held) ≡ 16384
+    → length (r .held) ≡ allOctets → length (tookAll r l xs .held) ≡ allOctets
 unfolding fits Placed total tookAll
 held-tookAll r [] xs f w h e = e
 held-tookAll r (q ∷ l) xs f w h e =
@@ -89,7 +88,7 @@ held-tookAll r (q ∷ l) xs f w h e =
 
 pub tallied-most : (t : Tally) (ps ls : List ℕ)
     → (tallied t (laid ps ls) .octets ≤ t .octets + total (laid ps ls)) × (tallied t (laid ps ls) .units ≤ t .units + length ps)
-unfolding tallied laid total
+unfolding tallied paired total
 tallied-most t [] ls = (omega arith, omega arith)
 tallied-most t (p ∷ ps) [] = (omega arith, omega arith)
 tallied-most t (p ∷ ps) (n ∷ ls) =
@@ -118,7 +117,7 @@ module _ (t : Tally) (p n : ℕ) where
   counts-places = counts-ind t p n (λ r. length (r .channels .at) ≡ length (t .channels .at)) (λ e. simp length-set) (λ e. refl)
 
   counts-room : fits (t .channels) (record { place = p; octets = n } ∷ []) ≡ true → p < length (t .channels .at)
-      → channelAt (t .channels) p .segmentable ≡ true → channelAt (counts t p n .channels) p .held ≤ longest
+      → channelAt (t .channels) p .segmentable ≡ true → channelAt (counts t p n .channels) p .held ≤ placeOctets
   unfolding fits
   counts-room f h g =
       rw (counts-held t p n g, getD-set-same (t .channels .at) p (holding (channelAt (t .channels) p) (channelAt (t .channels) p .held + n)) vacant h)
@@ -130,10 +129,10 @@ fits-behind t q l f =
     ap (λ (s : Channels). fits s l) (counts-channels t (q .place) (q .octets))
     ∙ both-true (hasRoom (t .channels) (q .place) (q .octets)) (fits (counted (t .channels) (q .place) (q .octets)) l) f .1
 
-pub last-held : (t : Tally) (l : List Piece) → fits (t .channels) l ≡ true → Placed l → length (t .channels .at) ≡ 16
-    → channelAt (t .channels) (lastPlace l) .segmentable ≡ true → channelAt (tallied t l .channels) (lastPlace l) .held ≤ longest
+pub last-held : (t : Tally) (l : List Piece) → fits (t .channels) l ≡ true → Placed l → length (t .channels .at) ≡ placeCount
+    → channelAt (t .channels) (lastPlace l) .segmentable ≡ true → channelAt (tallied t l .channels) (lastPlace l) .held ≤ placeOctets
 unfolding Placed tallied lastPlace
-last-held t [] f w e g = rw (List·getD-eq-default (t .channels .at) vacant {n = 16} (omega arith)) zero-le
+last-held t [] f w e g = rw (List·getD-eq-default (t .channels .at) vacant {n = placeCount} (omega arith)) zero-le
 last-held t (q ∷ []) f w e g = counts-room t (q .place) (q .octets) f (omega (arith, w .0)) g
 last-held t (q ∷ r ∷ l) f w e g =
     last-held (counts t (q .place) (q .octets)) (r ∷ l) (fits-behind t q (r ∷ l) f) (w .1) (counts-places t (q .place) (q .octets) ∙ e)
@@ -146,17 +145,17 @@ mark-not true true e f = refl
 mark-not true false e f = never (cc)
 mark-not false g e f = never (cc)
 
-segmentable-place : (s : Channels) (p : ℕ) → length (s .at) ≡ 16 → channelAt s p .segmentable ≡ true → p < 16
-segmentable-place s p e g = by (ltb p 16) refl
+segmentable-place : (s : Channels) (p : ℕ) → length (s .at) ≡ placeCount → channelAt s p .segmentable ≡ true → p < placeCount
+segmentable-place s p e g = by (ltb p placeCount) refl
   where
-    by : (b : Bool) → ltb p 16 ≡ b → p < 16
-    by true h = ltb-true p 16 h
+    by : (b : Bool) → ltb p placeCount ≡ b → p < placeCount
+    by true h = ltb-true p placeCount h
     by false h =
-        let v : channelAt s p ≡ vacant = List·getD-eq-default (s .at) vacant {n = p} (omega (arith, ltb-false p 16 h)) in
+        let v : channelAt s p ≡ vacant = List·getD-eq-default (s .at) vacant {n = p} (omega (arith, ltb-false p placeCount h)) in
         never (cc)
 
-pub mark-right : (s : Channels) (m : Bool) (p : ℕ) → length (s .at) ≡ 16 → (m && not (channelAt s p .segmentable)) ≡ false
-    → m ≡ true → (channelAt s p .segmentable ≡ true) × (p < 16)
+pub mark-right : (s : Channels) (m : Bool) (p : ℕ) → length (s .at) ≡ placeCount → (m && not (channelAt s p .segmentable)) ≡ false
+    → m ≡ true → (channelAt s p .segmentable ≡ true) × (p < placeCount)
 mark-right s m p e right f =
     let g = mark-not m (channelAt s p .segmentable) right f in
     (g, segmentable-place s p e g)
@@ -164,8 +163,8 @@ mark-right s m p e right f =
 -- ---- the whole payload
 
 pub record Accepted (s : Channels) (h : List ℕ) (mark : Bool) (l : List Piece) (xs : List ℕ) : Type 0 where
-  pub sixteen : length (s .at) ≡ 16
-  pub whole : length h ≡ 16384
+  pub sixteen : length (s .at) ≡ placeCount
+  pub whole : length h ≡ allOctets
   pub placed : Placed l
   pub enough : total l ≤ length xs
   pub fit : fits s l ≡ true
@@ -181,7 +180,7 @@ module _ (s : Channels) (h : List ℕ) (mark : Bool) (l : List Piece) (xs : List
   pub same-tally : tallied (noTally s) l ≡ tallyOf r
   same-tally = tallied-took (nothing s h) l xs (a .enough)
 
-  pub held-most : mark ≡ true → (p < 16) × (channelAt (tallied (noTally s) l .channels) p .held ≤ longest)
+  pub held-most : mark ≡ true → (p < placeCount) × (channelAt (tallied (noTally s) l .channels) p .held ≤ placeOctets)
   held-most m =
       let g = mark-right s mark p (a .sixteen) (a .right) m in
       (g .1, last-held (noTally s) l (a .fit) (a .placed) (a .sixteen) (g .0))
@@ -190,8 +189,8 @@ module _ (s : Channels) (h : List ℕ) (mark : Bool) (l : List Piece) (xs : List
   held-exact m =
       let g = held-most m in
       let k = rw same-tally at (g .1) in
-      length-take-le (channelAt (r .channels) p .held) (drop (longest * p) (r .held))
-      (omega (arith, g .0, k, length-drop (longest * p) (r .held), held-tookAll (nothing s h) l xs (a .fit) (a .placed) (a .enough) (a .whole)))
+      length-take-le (channelAt (r .channels) p .held) (drop (placeOctets * p) (r .held))
+      (omega (arith, g .0, k, length-drop (placeOctets * p) (r .held), held-tookAll (nothing s h) l xs (a .fit) (a .placed) (a .enough) (a .whole)))
 
   pub delivery-tally : closes (tallied (noTally s) l) mark p ≡ tallyOf (delivery s h mark l xs)
   unfolding closes delivery

@@ -25,7 +25,8 @@ use Rattle.multiplex.specs.declared.demultiplexer.Tally.{Tally}
 use Rattle.channels.specs.Channels.{channelAt, heldOf}
 use Rattle.multiplex.specs.Pieces.{Piece, total}
 use Rattle.multiplex.specs.Demultiplexer.{Delivery, finished, joined, took, tookAll, closed}
-use Rattle.multiplex.specs.Tally.{heldMore, oneUnit, counts, tallied, closing, Draft, entry, gained, noted, puts, putsAll}
+use Rattle.multiplex.specs.Tally.{heldMore, oneUnit, counts, tallied, closing, Draft, gained, noted, puts, putsAll}
+use Rattle.multiplex.specs.Units.{listed}
 use Rattle.multiplex.proofs.Pouring.{puts-held, puts-unit}
 
 abbrev pub tallyOf : Delivery → Tally
@@ -59,12 +60,12 @@ module _ (r : Delivery) (p : ℕ) (x : List ℕ) where
       by false = rw (length-append (r .octets) x)
 
   pub took-even : Even r → Even (took r p x)
-  took-even e = took-ind r p x Even e (length-append (r .units) (entry (number r p) (length (r .octets)) (length x)) ∙ omega arith)
+  took-even e = took-ind r p x Even e (length-append (r .units) (listed (number r p) (length (r .octets)) (length x)) ∙ omega arith)
 
   pub took-least : (length (r .octets) ≤ length (took r p x .octets)) × (length (r .units) ≤ length (took r p x .units))
   took-least =
       took-ind r p x (λ d. (length (r .octets) ≤ length (d .octets)) × (length (r .units) ≤ length (d .units))) (le-refl _, le-refl _)
-      (omega (arith, length-append (r .octets) x), omega (arith, length-append (r .units) (entry (number r p) (length (r .octets)) (length x))))
+      (omega (arith, length-append (r .octets) x), omega (arith, length-append (r .units) (listed (number r p) (length (r .octets)) (length x))))
 
 module _ (r : Delivery) (p : ℕ) where
   pub closed-counts : length (heldOf (r .channels) (r .held) p) ≡ channelAt (r .channels) p .held → closing (tallyOf r) p ≡ tallyOf (closed r p)
@@ -72,12 +73,12 @@ module _ (r : Delivery) (p : ℕ) where
 
   pub closed-even : Even r → Even (closed r p)
   closed-even e =
-      length-append (r .units) (entry (number r p) (length (r .octets)) (length (heldOf (r .channels) (r .held) p))) ∙ omega arith
+      length-append (r .units) (listed (number r p) (length (r .octets)) (length (heldOf (r .channels) (r .held) p))) ∙ omega arith
 
   pub closed-least : (length (r .octets) ≤ length (closed r p .octets)) × (length (r .units) ≤ length (closed r p .units))
   closed-least = (
     omega (arith, length-append (r .octets) (heldOf (r .channels) (r .held) p)),
-    omega (arith, length-append (r .units) (entry (number r p) (length (r .octets)) (length (heldOf (r .channels) (r .held) p)))),
+    omega (arith, length-append (r .units) (listed (number r p) (length (r .octets)) (length (heldOf (r .channels) (r .held) p)))),
   )
 
 pub tallied-took : (r : Delivery) (l : List Piece) (xs : List ℕ) → total l ≤ length xs → tallied (tallyOf r) l ≡ tallyOf (tookAll r l xs)
@@ -114,13 +115,13 @@ module _ (o u : List ℕ) where
       tally = t;
       held = r .held;
       output = written o 0 (r .octets ++ x);
-      units = written u 0 (r .units ++ entry n (length (r .octets)) (length x));
+      units = written u 0 (r .units ++ listed n (length (r .octets)) (length x));
     }
     noted-shown t n x =
         ap₂ (λ (a b : List ℕ). record { tally = t; held = r .held; output = a; units = b })
         (written-next o (r .octets) x (room .0))
-        (ap (λ (k : ℕ). written (written u 0 (r .units)) k (entry n (length (r .octets)) (length x))) (sym even)
-        ∙ written-next u (r .units) (entry n (length (r .octets)) (length x)) (room .1))
+        (ap (λ (k : ℕ). written (written u 0 (r .units)) k (listed n (length (r .octets)) (length x))) (sym even)
+        ∙ written-next u (r .units) (listed n (length (r .octets)) (length x)) (room .1))
 
     pub closed-shown : (p : ℕ) → length (heldOf (r .channels) (r .held) p) ≡ channelAt (r .channels) p .held
         → noted (shown r o u) (closing (tallyOf r) p) (number r p) (heldOf (r .channels) (r .held) p) ≡ shown (closed r p) o u

@@ -11,14 +11,16 @@ use mathlib.Core.List.{List, [], _∷_, append-nil}
 use Prim.Native.Nat.{ℕ, _≤_}
 use native.Mathlib.Omega.{arith}
 use lib.ListN.{length, replicate, length-replicate}
-use Rattle.table.specs.Slots.{slots, listSlots, inTurn, elementSlots, cut, pieces}
+use Rattle.table.specs.Slots.{slots, listSlots, inTurn, elementSlots, cut, payloadSlots}
 use Rattle.table.specs.Table.{entryOf, isDefined}
 use Rattle.channels.specs.Search.{first}
-use Rattle.channels.specs.Channels.{start, placeOf, posted}
+use Rattle.channels.specs.Channels.{start, placeOf, posted, allOctets}
 use Rattle.multiplex.specs.Pieces.{total}
 use Rattle.multiplex.specs.Demultiplexer.{demultiplexed}
-use Rattle.multiplex.specs.Multiplexer.{walked, packed, multiplexed}
-use Rattle.multiplex.specs.Runs.{unitsOn, unitsIn, withoutLast, World, begin, Event, posting, paying, step, run, whollySent, Delivers, Demand2, Demultiplexer, idle, refuser}
+use Rattle.multiplex.specs.Multiplexer.{walked, multiplexed}
+use Rattle.multiplex.specs.Units.{unitsOn, unitsIn, enoughOutput, enoughUnits}
+use Rattle.multiplex.specs.Calls.{Demultiplexer, calledBy}
+use Rattle.multiplex.specs.Runs.{withoutLast, World, begin, Event, post, pay, step, run, whollySent, Delivers, Demand2, idle, refuser}
 use Rattle.multiplex.proofs.Running.{demand-met}
 
 blank : ℕ → List ℕ
@@ -32,7 +34,7 @@ enough : (n : ℕ) → n ≤ length (blank n)
 enough n = omega (arith, blank-length n)
 
 abbrev sent : List Event → List Event
-sent l = posting 0 (1 ∷ []) ∷ paying 0 1 (0 ∷ []) (blank 1279) (blank 765) (enough 1279) (enough 765) ∷ l
+sent l = post 0 (1 ∷ []) ∷ pay 0 1 (0 ∷ []) (blank enoughOutput) (blank enoughUnits) (enough enoughOutput) (enough enoughUnits) ∷ l
 
 abbrev once : List Event
 once = sent []
@@ -41,26 +43,26 @@ abbrev twice : List Event
 twice = sent (sent [])
 
 abbrev fresh : World
-fresh = begin (blank 16384) (blank 16384)
+fresh = begin [] (blank allOctets) (blank allOctets) []
 
 one-sent : whollySent (run (λ j. demultiplexed) fresh once) 0 ≡ (1 ∷ []) ∷ []
-unfolding run step start placeOf first posted multiplexed packed walked pieces cut slots listSlots inTurn elementSlots entryOf isDefined total unitsOn withoutLast
+unfolding run step calledBy start placeOf first posted multiplexed walked payloadSlots cut slots listSlots inTurn elementSlots entryOf isDefined total unitsOn withoutLast
 one-sent = refl
 
 two-sent : whollySent (run idle fresh twice) 0 ≡ (1 ∷ []) ∷ (1 ∷ []) ∷ []
-unfolding run step start placeOf first posted multiplexed packed walked pieces cut slots listSlots inTurn elementSlots entryOf isDefined total unitsOn withoutLast
+unfolding run step calledBy start placeOf first posted multiplexed walked payloadSlots cut slots listSlots inTurn elementSlots entryOf isDefined total unitsOn withoutLast
 two-sent = refl
 
 no-more : run idle fresh twice .delivered ≡ run (λ j. demultiplexed) fresh once .delivered
-unfolding run step start placeOf first posted multiplexed packed walked pieces cut slots listSlots inTurn elementSlots entryOf isDefined total unitsIn
+unfolding run step calledBy start placeOf first posted multiplexed walked payloadSlots cut slots listSlots inTurn elementSlots entryOf isDefined total unitsIn
 no-more = append-nil _
 
 one-refused : (k : ℕ) → run (refuser k) fresh once .refusals ≡ 1
-unfolding run step start placeOf first posted multiplexed packed walked pieces cut slots listSlots inTurn elementSlots entryOf isDefined total
+unfolding run step calledBy start placeOf first posted multiplexed walked payloadSlots cut slots listSlots inTurn elementSlots entryOf isDefined total
 one-refused k = refl
 
-tried : (D : Demultiplexer) → Demand2 D → (es : List Event) → Delivers (run D fresh es)
-tried D d es = d (blank 16384) (blank 16384) (blank-length 16384) (blank-length 16384) es
+tried : (D : ℕ → Demultiplexer) → Demand2 D → (es : List Event) → Delivers (run D fresh es)
+tried D d es = d [] (blank allOctets) (blank allOctets) [] (blank-length allOctets) (blank-length allOctets) es
 
 pub idle-fails : Demand2 idle → ⊥
 idle-fails d =

@@ -17,11 +17,11 @@ use lib.ListN.{length, take, drop, getD, length-drop}
 use lib.Seq.{length-take-le, take-take, getD-take}
 use Rattle.octets.specs.Written.{written, written-length, written-append, written-nothing}
 use Rattle.channels.specs.declared.Channels.{Channels}
-use Rattle.channels.specs.Channels.{channelAt, waits, waitingFrom, waitingOf}
-use Rattle.multiplex.specs.Pieces.{Piece, laid, total}
+use Rattle.channels.specs.Channels.{channelAt, waits, waitingFrom, waitingOf, placeCount, allOctets}
+use Rattle.multiplex.specs.Pieces.{piece, Piece, laid, total}
 use Rattle.multiplex.specs.Multiplexer.{left, gathered}
 use Rattle.multiplex.specs.Walks.{Sendable}
-use Rattle.multiplex.proofs.Slotting.{laid-at, laid-end}
+use Rattle.multiplex.proofs.Slotting.{paired-at, paired-end}
 
 pub record Gathering (s₀ : Channels) (w : List ℕ) (l₀ : List Piece) (d₀ d : List ℕ) (s : Channels) (at : ℕ) (l : List Piece) : Type 0 where
   pub sendable : Sendable s l
@@ -42,7 +42,7 @@ module _ (s₀ : Channels) (w : List ℕ) (l₀ : List Piece) (d₀ d : List ℕ
   unfolding gathered
   gathers-end n ps ls j a h g =
       let e : length (take n ps) ≤ j = rw (length-take-le n ps a) h in
-      sym (g .gathers ∙ ap (λ (l : List Piece). written d at (gathered s w l)) (laid-end (take n ps) (take n ls) j e) ∙ written-nothing d at)
+      sym (g .gathers ∙ ap (λ (l : List Piece). written d at (gathered s w l)) (paired-end piece (take n ps) (take n ls) j e) ∙ written-nothing d at)
 
   pub gathers-at : (n : ℕ) (ps ls : List ℕ) (j : ℕ) → n ≤ length ps → n ≤ length ls → j < n
       → Gathering s₀ w l₀ d₀ d s at (drop j (laid (take n ps) (take n ls)))
@@ -51,15 +51,15 @@ module _ (s₀ : Channels) (w : List ℕ) (l₀ : List Piece) (d₀ d : List ℕ
       let a′ : j < length (take n ps) = rw (length-take-le n ps a) h in
       let b′ : j < length (take n ls) = rw (length-take-le n ls b) h in
       subst (λ (l : List Piece). Gathering s₀ w l₀ d₀ d s at l)
-      (laid-at (take n ps) (take n ls) j a′ b′ ∙ rw (getD-take n ps j 0 h, getD-take n ls j 0 h))
+      (paired-at piece (take n ps) (take n ls) j a′ b′ ∙ rw (getD-take n ps j 0 h, getD-take n ls j 0 h))
       g
 
   module _ (q : Piece) (l : List Piece) (g : Gathering s₀ w l₀ d₀ d s at (q ∷ l)) where
-    pub first-moves : (q .place < 16) × (q .octets ≤ waits (channelAt s (q .place))) × (at + q .octets ≤ length d)
+    pub first-moves : (q .place < placeCount) × (q .octets ≤ waits (channelAt s (q .place))) × (at + q .octets ≤ length d)
     unfolding Sendable total
     first-moves = (g .sendable .0, g .sendable .1, omega (arith, g .fits))
 
-    module _ (e : length w ≡ 16384) where
+    module _ (e : length w ≡ allOctets) where
       within : from s q + q .octets ≤ length w
       within = omega (arith, e, first-moves .0, first-moves .1)
 

@@ -24,18 +24,17 @@ use lib.Dec.{eqb, leb}
 use lib.ListN.{length, take, drop, length-drop}
 use lib.Seq.{length-take-le}
 use Rattle.octets.specs.Tests.{both-true}
-use Rattle.adaptation.specs.Handed.{longest}
-use Rattle.table.specs.Slots.{Slot, copies, octetsOf, channelsOf}
+use Rattle.table.specs.Slots.{Slot, copies, octetsOf, channelsOf, numbersOf}
 use Rattle.channels.specs.declared.Channel.{Channel}
 use Rattle.channels.specs.declared.Channels.{Channels}
-use Rattle.channels.specs.Channels.{placeOf, isIn, channelAt, put, holding, heldOf}
-use Rattle.multiplex.specs.Pieces.{placed, allOpen, lastPlace}
+use Rattle.channels.specs.Channels.{placeOf, isIn, channelAt, put, holding, heldOf, placeCount, placeOctets, allOpen}
+use Rattle.multiplex.specs.Pieces.{placed, lastPlace}
 use Rattle.multiplex.specs.Demultiplexer.{Delivery, finished, joined, took, tookAll, closed, counted, hasRoom, fits}
-use Rattle.multiplex.specs.Runs.{UnitOn, unitsOn}
-use Rattle.multiplex.specs.Claims.{goingTo, Orderly}
-use Rattle.multiplex.proofs.Seats.{Seat, seats, seats-put, seat-at, seats-length, place-number, place-unique, put-there, put-elsewhere}
+use Rattle.multiplex.specs.Units.{UnitOn, unitsOn}
+use Rattle.channels.specs.Claims.{Orderly}
+use Rattle.multiplex.specs.Claims.{goingTo}
+use Rattle.channels.proofs.Laws.{Seat, seats, seats-put, seat-at, seats-length, place-number, place-unique, put-there, put-elsewhere, heldAt, held-grown, held-else, orderly-joined, orderly-emptied}
 use Rattle.multiplex.proofs.Records.{unitOn, Tells, tells-finished, on-this, on-other}
-use Rattle.multiplex.proofs.Holding.{heldAt, held-grown, held-else, orderly-joined, orderly-emptied}
 
 flatten-snoc : (l : List (List ℕ)) (u : List ℕ) → flatten (l ++ u ∷ []) ≡ flatten l ++ u
 unfolding flatten
@@ -68,11 +67,11 @@ pub record Holds (s : Channels) (n : ℕ) (u : List ℕ) (r : Delivery) : Type 0
   pub alike : seats (r .channels) ≡ seats s
   pub all : u ≡ flatten (unitsOn n units) ++ heldOf (r .channels) (r .held) (placeOf s n)
 
-module _ {s : Channels} {n : ℕ} {u : List ℕ} {r : Delivery} (o : Holds s n u r) (m p : ℕ) (place : placeOf s m ≡ p) (inside : p < 16) where
+module _ {s : Channels} {n : ℕ} {u : List ℕ} {r : Delivery} (o : Holds s n u r) (m p : ℕ) (place : placeOf s m ≡ p) (inside : p < placeCount) where
   abbrev there : Channel
   there = channelAt (r .channels) p
 
-  full : length (s .at) ≡ 16
+  full : length (s .at) ≡ placeCount
   full = sym (seats-length (r .channels) s (o .alike)) ∙ o .orderly .full
 
   number-there : there .number ≡ m
@@ -102,7 +101,7 @@ module _ {s : Channels} {n : ℕ} {u : List ℕ} {r : Delivery} (o : Holds s n u
 
     -- they join what is held
 
-    module _ (room : there .held + length x ≤ longest) where
+    module _ (room : there .held + length x ≤ placeOctets) where
       abbrev more : Channel
       more = holding there (there .held + length x)
 
@@ -139,7 +138,7 @@ module _ {s : Channels} {n : ℕ} {u : List ℕ} {r : Delivery} (o : Holds s n u
     finished-all g (yes e) =
         let q : placeOf s n ≡ p = ap (placeOf s) (sym e) ∙ place in
         let none : heldOf (r .channels) (r .held) (placeOf s n) ≡ []
-        = ap (heldOf (r .channels) (r .held)) q ∙ ap (λ (j : ℕ). take j (drop (longest * p) (r .held))) (o .orderly .whole p g) in
+        = ap (heldOf (r .channels) (r .held)) q ∙ ap (λ (j : ℕ). take j (drop (placeOctets * p) (r .held))) (o .orderly .whole p g) in
         let before : u ≡ flatten (unitsOn n (o .units)) = o .all ∙ ap (λ (v : List ℕ). flatten (unitsOn n (o .units)) ++ v) none ∙ append-nil (flatten (unitsOn n (o .units))) in
         this-with e ∙ ap (λ (v : List ℕ). v ++ x) before ∙ sym (this-unit x e) ∙ sym (append-nil (flatten (unitsOn n (o .units ++ unitOn (there .number) x ∷ []))))
         ∙ ap (λ (v : List ℕ). flatten (unitsOn n (o .units ++ unitOn (there .number) x ∷ [])) ++ v) (sym none)
@@ -157,9 +156,9 @@ module _ {s : Channels} {n : ℕ} {u : List ℕ} {r : Delivery} (o : Holds s n u
     took-holds : hasRoom (r .channels) p (length x) ≡ true → Holds s n with (took r p x)
     took-holds h = by (there .segmentable) refl h
       where
-        by : (g : Bool) → there .segmentable ≡ g → (not g || leb (there .held + length x) longest) ≡ true
+        by : (g : Bool) → there .segmentable ≡ g → (not g || leb (there .held + length x) placeOctets) ≡ true
             → Holds s n with (cond g (joined r p x) (finished r (there .number) x))
-        by true g h = joined-holds (leb-true (there .held + length x) longest h) g
+        by true g h = joined-holds (leb-true (there .held + length x) placeOctets h) g
         by false g h = finished-holds g
 
   -- the unit is ended
@@ -199,7 +198,7 @@ either-channels : (g : Bool) (a b : Delivery) → cond g (a .channels) (b .chann
 either-channels true a b = refl
 either-channels false a b = refl
 
-pub slots-hold : {s : Channels} {n : ℕ} (l : List Slot) {u : List ℕ} {r : Delivery} (xs : List ℕ) → Holds s n u r → allOpen s l ≡ true
+pub slots-hold : {s : Channels} {n : ℕ} (l : List Slot) {u : List ℕ} {r : Delivery} (xs : List ℕ) → Holds s n u r → allOpen s (numbersOf l) ≡ true
     → fits (r .channels) (placed s l) ≡ true → octetsOf l ≤ length xs → Holds s n (u ++ goingTo n (channelsOf l) xs) (tookAll r (placed s l) xs)
 unfolding allOpen fits placed octetsOf channelsOf goingTo tookAll
 slots-hold {s} {n} [] {u} {r} xs o a f h = subst (λ (v : List ℕ). Holds s n v r) (sym (append-nil u)) o
@@ -209,18 +208,18 @@ slots-hold {s} {n} (y ∷ l) {u} {r} xs o a f h =
     let x = take k xs in
     let c = channelAt (r .channels) p in
     let size : length x ≡ k = length-take-le k xs (omega arith) in
-    let known = both-true (isIn s (y .channel)) (allOpen s l) a in
+    let known = both-true (isIn s (y .channel)) (allOpen s (numbersOf l)) a in
     let fitting = both-true (hasRoom (r .channels) p k) (fits (counted (r .channels) p k) (placed s l)) f in
     let room : hasRoom (r .channels) p (length x) ≡ true = ap (hasRoom (r .channels) p) size ∙ fitting .0 in
     let same : counted (r .channels) p k ≡ took r p x .channels
     = ap (counted (r .channels) p) (sym size) ∙ either-channels (c .segmentable) (joined r p x) (finished r (c .number) x) in
-    let next = took-holds o (y .channel) p refl (ltb-true p 16 (known .0)) x room in
+    let next = took-holds o (y .channel) p refl (ltb-true p placeCount (known .0)) x room in
     let rest = slots-hold l (drop k xs) next (known .1) (ap (λ (t : Channels). fits t (placed s l)) (sym same) ∙ fitting .1) (rw (length-drop k xs) (omega arith)) in
     subst (λ (v : List ℕ). Holds s n v (tookAll (took r p x) (placed s l) (drop k xs)))
     (append-assoc u (cond (eqb (y .channel) n) x []) (goingTo n (channelsOf l) (drop k xs))
     ∙ ap (λ (v : List ℕ). u ++ v) (sym (going-first n (y .channel) k (channelsOf l) xs (omega arith)))) rest
 
-pub last-known : (s : Channels) (l : List Slot) → lastPlace (placed s l) < 16 → (m : ℕ) × (placeOf s m ≡ lastPlace (placed s l))
+pub last-known : (s : Channels) (l : List Slot) → lastPlace (placed s l) < placeCount → (m : ℕ) × (placeOf s m ≡ lastPlace (placed s l))
 unfolding placed lastPlace
 last-known s [] h = absurd (omega arith)
 last-known s (y ∷ []) h = (y .channel, refl)

@@ -1,7 +1,4 @@
-pub mod Seats
-pub mod Parts
 pub mod Records
-pub mod Holding
 pub mod Matching
 pub mod Opening
 pub mod Agreeing

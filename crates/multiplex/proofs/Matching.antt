@@ -22,14 +22,12 @@ use borrow.Author.Tests.{le-leb}
 use lib.Dec.{leb}
 use lib.ListN.{length, take, drop}
 use Rattle.octets.specs.Written.{written, written-length, written-part}
-use Rattle.adaptation.specs.Handed.{longest}
 use Rattle.channels.specs.declared.Channel.{Channel}
 use Rattle.channels.specs.declared.Channels.{Channels}
-use Rattle.channels.specs.Channels.{placeOf, channelAt, put, waiting, waits, waitingFrom}
-use Rattle.multiplex.specs.Runs.{UnitOn, unitsOn}
-use Rattle.multiplex.proofs.Seats.{seat, seats, place-seats, seats-put, seats-length, place-unique, vacant-behind, put-there, put-elsewhere}
-use Rattle.multiplex.proofs.Parts.{apart, part-elsewhere}
-use Rattle.multiplex.proofs.Holding.{heldAt}
+use Rattle.channels.specs.Channels.{placeOf, channelAt, put, waiting, waits, waitingFrom, placeCount, allOctets, placeOctets}
+use Rattle.multiplex.specs.Units.{UnitOn, unitsOn}
+use Rattle.channels.proofs.Laws.{seat, seats, place-seats, seats-put, seats-length, place-unique, vacant-behind, put-there, put-elsewhere, heldAt}
+use Rattle.octets.specs.Parts.{apart, part-elsewhere}
 use Rattle.multiplex.proofs.Records.{unitOn, on-this, on-other}
 
 abbrev pub waitingAt : Channel → List ℕ → ℕ → List ℕ
@@ -39,15 +37,15 @@ abbrev pub way : Channel → List ℕ → Channel → List ℕ → ℕ → List 
 way c w d h p = cond (leb 1 (c .waiting)) ((heldAt d h p ++ waitingAt c w p) ∷ []) []
 
 pub record Twin (c d : Channel) : Type 0 where
-  pub bounded : d .held + c .waiting ≤ 1024
+  pub bounded : d .held + c .waiting ≤ placeOctets
   pub ended : c .waiting ≡ 0 → d .held ≡ 0
   pub whole : d .segmentable ≡ false → d .held ≡ 0
 
 pub record Matched (s : Channels) (w : List ℕ) (r : Channels) (h : List ℕ) (sent got : List UnitOn) : Type 0 where
   pub alike : seats s ≡ seats r
-  pub full : length (s .at) ≡ 16
-  pub waitingRoom : length w ≡ 16384
-  pub heldRoom : length h ≡ 16384
+  pub full : length (s .at) ≡ placeCount
+  pub waitingRoom : length w ≡ allOctets
+  pub heldRoom : length h ≡ allOctets
   pub each : (p : ℕ) → Twin (channelAt s p) (channelAt r p)
   pub log : (n : ℕ) → unitsOn n sent ≡ unitsOn n got ++ way (channelAt s (placeOf s n)) w (channelAt r (placeOf s n)) h (placeOf s n)
 
@@ -57,19 +55,19 @@ pub record Change (s : Channels) (w : List ℕ) (r : Channels) (h : List ℕ) (s
   pub seated : seat c ≡ seat (channelAt s p)
   pub alike : seats r′ ≡ seats r
   pub others : (q : ℕ) → q ≢ p → channelAt r′ q ≡ channelAt r q
-  pub waitingRoom : length w′ ≡ 16384
-  pub heldRoom : length h′ ≡ 16384
+  pub waitingRoom : length w′ ≡ allOctets
+  pub heldRoom : length h′ ≡ allOctets
   pub twin : Twin c (channelAt r′ p)
-  pub waits-else : (q : ℕ) → q < 16 → q ≢ p → waitingAt (channelAt s q) w′ q ≡ waitingAt (channelAt s q) w q
-  pub holds-else : (q : ℕ) → q < 16 → q ≢ p → heldAt (channelAt r q) h′ q ≡ heldAt (channelAt r q) h q
+  pub waits-else : (q : ℕ) → q < placeCount → q ≢ p → waitingAt (channelAt s q) w′ q ≡ waitingAt (channelAt s q) w q
+  pub holds-else : (q : ℕ) → q < placeCount → q ≢ p → heldAt (channelAt r q) h′ q ≡ heldAt (channelAt r q) h q
   pub here : (n : ℕ) → placeOf s n ≡ p → unitsOn n sent′ ≡ unitsOn n got′ ++ way c w′ (channelAt r′ p) h′ p
   pub elsewhere : (n : ℕ) → placeOf s n ≢ p → (unitsOn n sent′ ≡ unitsOn n sent) × (unitsOn n got′ ≡ unitsOn n got)
 
 module _ {s : Channels} {w : List ℕ} {r : Channels} {h : List ℕ} {sent got : List UnitOn} (m : Matched s w r h sent got) where
-  pub full-there : length (r .at) ≡ 16
+  pub full-there : length (r .at) ≡ placeCount
   full-there = sym (seats-length s r (m .alike)) ∙ m .full
 
-  module _ {p : ℕ} {c : Channel} {w′ : List ℕ} {r′ : Channels} {h′ : List ℕ} {sent′ got′ : List UnitOn} (inside : p < 16) (x : Change s w r h sent got p c w′ r′ h′ sent′ got′) where
+  module _ {p : ℕ} {c : Channel} {w′ : List ℕ} {r′ : Channels} {h′ : List ℕ} {sent′ got′ : List UnitOn} (inside : p < placeCount) (x : Change s w r h sent got p c w′ r′ h′ sent′ got′) where
     same-place : (n : ℕ) → placeOf (put s p c) n ≡ placeOf s n
     same-place = place-seats (put s p c) s (seats-put s p c (x .seated))
 
@@ -78,7 +76,7 @@ module _ {s : Channels} {w : List ℕ} {r : Channels} {h : List ℕ} {sent got :
     twins q (no f) = rw (put-elsewhere s p q c f, x .others q f) (m .each q)
 
     -- the way at another place
-    same-way : (q : ℕ) → Dec (q < 16) → q ≢ p
+    same-way : (q : ℕ) → Dec (q < placeCount) → q ≢ p
         → way (channelAt (put s p c) q) w′ (channelAt r′ q) h′ q ≡ way (channelAt s q) w (channelAt r q) h q
     same-way q (yes l) f = rw (put-elsewhere s p q c f, x .others q f, x .waits-else q l f, x .holds-else q l f)
     same-way q (no l) f = rw (put-elsewhere s p q c f, vacant-behind s (m .full) q (omega arith))
@@ -88,7 +86,7 @@ module _ {s : Channels} {w : List ℕ} {r : Channels} {h : List ℕ} {sent got :
     logs n (yes e) = rw (e, put-there s (m .full) p c inside) (x .here n e)
     logs n (no f) =
         x .elsewhere n f .0 ∙ m .log n
-        ∙ ap₂ (λ (a b : List (List ℕ)). a ++ b) (sym (x .elsewhere n f .1)) (sym (same-way (placeOf s n) (decLt (placeOf s n) 16) f))
+        ∙ ap₂ (λ (a b : List (List ℕ)). a ++ b) (sym (x .elsewhere n f .1)) (sym (same-way (placeOf s n) (decLt (placeOf s n) placeCount) f))
 
     pub changed : Matched (put s p c) w′ r′ h′ sent′ got′
     changed = record {
@@ -103,9 +101,9 @@ module _ {s : Channels} {w : List ℕ} {r : Channels} {h : List ℕ} {sent got :
 -- ---- a post
 
 module _ {s : Channels} {w : List ℕ} {r : Channels} {h : List ℕ} {sent got : List UnitOn} (m : Matched s w r h sent got) (n : ℕ) (u : List ℕ)
-    (some : 1 ≤ length u) (fits : length u ≤ 1024) (p : ℕ) (place : placeOf s n ≡ p) (inside : p < 16) (free : channelAt s p .waiting ≡ 0) where
+    (some : 1 ≤ length u) (fits : length u ≤ placeOctets) (p : ℕ) (place : placeOf s n ≡ p) (inside : p < placeCount) (free : channelAt s p .waiting ≡ 0) where
   abbrev at : ℕ
-  at = longest * p + (longest - length u)
+  at = placeOctets * p + (placeOctets - length u)
 
   abbrev with : Channel
   with = waiting (channelAt s p) (length u)
@@ -116,7 +114,7 @@ module _ {s : Channels} {w : List ℕ} {r : Channels} {h : List ℕ} {sent got :
   none-held : channelAt r p .held ≡ 0
   none-held = m .each p .ended free
 
-  post-else : (q : ℕ) → q < 16 → q ≢ p → waitingAt (channelAt s q) (written w at u) q ≡ waitingAt (channelAt s q) w q
+  post-else : (q : ℕ) → q < placeCount → q ≢ p → waitingAt (channelAt s q) (written w at u) q ≡ waitingAt (channelAt s q) w q
   post-else q l f =
       part-elsewhere w at u room (waits (channelAt s q)) (waitingFrom (channelAt s q) q)
       (⊎-elim {C = (waitingFrom (channelAt s q) q + waits (channelAt s q) ≤ at) ⊎ (at + length u ≤ waitingFrom (channelAt s q) q)}
@@ -124,7 +122,7 @@ module _ {s : Channels} {w : List ℕ} {r : Channels} {h : List ℕ} {sent got :
 
   post-way : way with (written w at u) (channelAt r p) h p ≡ u ∷ []
   post-way =
-      let e : min (length u) 1024 ≡ length u = omega arith in
+      let e : min (length u) placeOctets ≡ length u = omega arith in
       rw (le-leb 1 (length u) some, none-held, e) (ap (λ (x : List ℕ). x ∷ []) (written-part w at u room))
 
   none-under-way : (k : ℕ) → placeOf s k ≡ p → unitsOn k sent ≡ unitsOn k got

@@ -9,16 +9,16 @@ use mathlib.Core.Path.{_≡_, refl, sym, ap, _∙_}
 use mathlib.Core.Logic.{_≢_}
 use mathlib.Core.Bool.{Bool, true, false}
 use mathlib.Core.List.{List, [], _∷_, _++_, map}
-use Prim.Native.Nat.{ℕ, zero, suc, _≤_, _<_}
+use Prim.Native.Nat.{ℕ, zero, suc, _≤_, _<_, _-_}
 use native.Mathlib.Decide.{ℕ-discrete}
 use native.Mathlib.Omega.{arith}
 use borrow.Author.Tests.{ne-eqb, eq-eqb, not-true}
 use lib.ListN.{length, getD, set, length-set, replicate}
 use Rattle.octets.specs.Tests.{never}
 use Rattle.channels.specs.declared.Channels.{Channels}
-use Rattle.channels.specs.Channels.{vacant, fresh, start, isChannel, isFree, placeOf, freePlace, channelAt, put}
-use Rattle.multiplex.specs.Runs.{UnitOn, unitsOn}
-use Rattle.multiplex.proofs.Seats.{Seat, seat, first-found, first-set, first-put, vacant-behind, put-there, put-elsewhere}
+use Rattle.channels.specs.Channels.{vacant, fresh, start, isChannel, isFree, placeOf, freePlace, channelAt, put, placeCount, allOctets}
+use Rattle.multiplex.specs.Units.{UnitOn, unitsOn}
+use Rattle.channels.proofs.Laws.{Seat, seat, first-found, first-set, first-put, vacant-behind, put-there, put-elsewhere}
 use Rattle.multiplex.proofs.Matching.{way, Twin, Matched, full-there}
 
 map-set : {A B : Type 0} (f : A → B) (l : List A) (i : ℕ) (a : A) → map f (set l i a) ≡ set (map f l) i (f a)
@@ -30,7 +30,7 @@ twin-fresh : (n : ℕ) (g : Bool) → Twin (fresh n g) (fresh n g)
 twin-fresh n g = record { bounded = omega arith; ended = λ e. refl; whole = λ e. refl }
 
 module _ {s : Channels} {w : List ℕ} {r : Channels} {h : List ℕ} {sent got : List UnitOn} (m : Matched s w r h sent got) (n : ℕ) (g : Bool)
-    (p : ℕ) (place : freePlace s ≡ p) (inside : p < 16) (unknown : 16 ≤ placeOf s n) where
+    (p : ℕ) (place : freePlace s ≡ p) (inside : p < placeCount) (unknown : placeCount ≤ placeOf s n) where
   is-free : channelAt s p .«open» ≡ false
   unfolding freePlace
   is-free =
@@ -88,14 +88,14 @@ none-waits (suc n) (suc i) = none-waits n i
 start-each : (p : ℕ) → Twin (channelAt start p) (channelAt start p)
 unfolding start
 start-each zero = twin-fresh 0 true
-start-each (suc p) = rw (none-waits 15 p) (record { bounded = omega arith; ended = λ e. refl; whole = λ e. refl })
+start-each (suc p) = rw (none-waits (placeCount - 1) p) (record { bounded = omega arith; ended = λ e. refl; whole = λ e. refl })
 
 start-way : (w h : List ℕ) (p : ℕ) → way (channelAt start p) w (channelAt start p) h p ≡ []
 unfolding start
 start-way w h zero = refl
-start-way w h (suc p) = rw (none-waits 15 p)
+start-way w h (suc p) = rw (none-waits (placeCount - 1) p)
 
-pub start-matched : (w h : List ℕ) → length w ≡ 16384 → length h ≡ 16384 → Matched start w start h [] []
+pub start-matched : (w h : List ℕ) → length w ≡ allOctets → length h ≡ allOctets → Matched start w start h [] []
 unfolding start unitsOn
 start-matched w h e f = record {
   alike = refl;

@@ -26,17 +26,15 @@ use lib.ListN.{length, take, drop, length-take, length-drop, length-set, take-ap
 use lib.Seq.{length-take-le, take-all}
 use Rattle.octets.specs.Tests.{never}
 use Rattle.octets.specs.Written.{written}
-use Rattle.adaptation.specs.Handed.{longest}
 use Rattle.channels.specs.declared.Channel.{Channel}
 use Rattle.channels.specs.declared.Channels.{Channels}
-use Rattle.channels.specs.Channels.{placeOf, channelAt, put, waiting, holding, waits, waitingFrom, waitingOf}
+use Rattle.channels.specs.Channels.{placeOf, channelAt, put, waiting, holding, waits, waitingFrom, waitingOf, placeCount, allOctets, placeOctets}
 use Rattle.multiplex.specs.Demultiplexer.{Delivery, finished, joined, closed}
 use Rattle.multiplex.specs.Multiplexer.{left}
-use Rattle.multiplex.specs.Runs.{UnitOn, unitsOn}
-use Rattle.multiplex.specs.Claims.{Orderly}
-use Rattle.multiplex.proofs.Seats.{seats, Seat, seats-put, seat-at, place-number, place-unique, put-there, put-elsewhere}
-use Rattle.multiplex.proofs.Parts.{part-next}
-use Rattle.multiplex.proofs.Holding.{heldAt, filled-room, held-grown, held-else}
+use Rattle.multiplex.specs.Units.{UnitOn, unitsOn}
+use Rattle.channels.specs.Claims.{Orderly}
+use Rattle.channels.proofs.Laws.{seats, Seat, seats-put, seat-at, place-number, place-unique, put-there, put-elsewhere, heldAt, filled-room, held-grown, held-else}
+use Rattle.octets.specs.Parts.{part-next}
 use Rattle.multiplex.proofs.Records.{unitOn, Tells, tells-finished, on-this, on-other}
 use Rattle.multiplex.proofs.Matching.{waitingAt, way, Twin, Matched, full-there, changed}
 
@@ -48,7 +46,7 @@ orderly m = record {
   whole = λ p. m .each p .whole;
 }
 
-module _ {s : Channels} {w : List ℕ} {r : Channels} {h : List ℕ} {sent got : List UnitOn} (m : Matched s w r h sent got) (n p : ℕ) (place : placeOf s n ≡ p) (inside : p < 16) where
+module _ {s : Channels} {w : List ℕ} {r : Channels} {h : List ℕ} {sent got : List UnitOn} (m : Matched s w r h sent got) (n p : ℕ) (place : placeOf s n ≡ p) (inside : p < placeCount) where
   abbrev here : Channel
   here = channelAt s p
 
@@ -90,15 +88,15 @@ module _ {s : Channels} {w : List ℕ} {r : Channels} {h : List ℕ} {sent got :
     more = holding there (there .held + length x)
 
     abbrev filled : List ℕ
-    filled = written h (longest * p + there .held) x
+    filled = written h (placeOctets * p + there .held) x
 
-    pub fitting : there .held + length x ≤ longest
+    pub fitting : there .held + length x ≤ placeOctets
     fitting = omega (arith, m .each p .bounded, piece-length k most)
 
     waiting-left : waitingAt (waiting here (waits here - k)) w p ≡ drop k (waitingAt here w p)
     waiting-left =
-        let e : min (waits here - k) 1024 ≡ waits here - k = omega arith in
-        let f : longest * p + (longest - (waits here - k)) ≡ waitingFrom here p + k = omega arith in
+        let e : min (waits here - k) placeOctets ≡ waits here - k = omega arith in
+        let f : placeOctets * p + (placeOctets - (waits here - k)) ≡ waitingFrom here p + k = omega arith in
         rw (e, f) (part-next k (waits here) (waitingFrom here p) w most)
 
     module _ (less : k < waits here) where
@@ -140,8 +138,8 @@ module _ {s : Channels} {w : List ℕ} {r : Channels} {h : List ℕ} {sent got :
   -- ---- the last piece of a unit
 
   module _ (k : ℕ) (last : k ≡ waits here) (some : 1 ≤ waits here) (r′ : Channels) (h′ : List ℕ) (alike : seats r′ ≡ seats r)
-      (others : (q : ℕ) → q ≢ p → channelAt r′ q ≡ channelAt r q) (roomy : length h′ ≡ 16384) (none : channelAt r′ p .held ≡ 0)
-      (else : (q : ℕ) → q < 16 → q ≢ p → heldAt (channelAt r q) h′ q ≡ heldAt (channelAt r q) h q) where
+      (others : (q : ℕ) → q ≢ p → channelAt r′ q ≡ channelAt r q) (roomy : length h′ ≡ allOctets) (none : channelAt r′ p .held ≡ 0)
+      (else : (q : ℕ) → q < placeCount → q ≢ p → heldAt (channelAt r q) h′ q ≡ heldAt (channelAt r q) h q) where
     abbrev unit : List ℕ
     unit = heldAt there h p ++ waitingAt here w p
 
@@ -184,7 +182,7 @@ pub record Sound (s : Channels) (w : List ℕ) (sent base : List UnitOn) (r : De
   pub tells : Tells r units
   pub matched : Matched s w (r .channels) (r .held) sent (base ++ units)
 
-module _ {s : Channels} {w : List ℕ} {sent base : List UnitOn} {r : Delivery} (o : Sound s w sent base r) (n p : ℕ) (place : placeOf s n ≡ p) (inside : p < 16) (k : ℕ) where
+module _ {s : Channels} {w : List ℕ} {sent base : List UnitOn} {r : Delivery} (o : Sound s w sent base r) (n p : ℕ) (place : placeOf s n ≡ p) (inside : p < placeCount) (k : ℕ) where
   abbrev piece : List ℕ
   piece = take k (waitingOf s w p)
 
@@ -203,7 +201,7 @@ module _ {s : Channels} {w : List ℕ} {sent base : List UnitOn} {r : Delivery} 
   sound-finished e some g =
       let none : channelAt (r .channels) p .held ≡ 0 = o .matched .each p .whole g in
       let f : heldAt (channelAt (r .channels) p) (r .held) p ++ waitingAt (channelAt s p) w p ≡ piece
-      = ap (λ (j : ℕ). take j (drop (longest * p) (r .held)) ++ waitingAt (channelAt s p) w p) none ∙ sym (piece-all (o .matched) n p place inside k e) in
+      = ap (λ (j : ℕ). take j (drop (placeOctets * p) (r .held)) ++ waitingAt (channelAt s p) w p) none ∙ sym (piece-all (o .matched) n p place inside k e) in
       record {
         units = o .units ++ unitOn number piece ∷ [];
         tells = tells-finished r (o .units) number piece (o .tells);

@@ -19,12 +19,12 @@ use native.Mathlib.Omega.{arith}
 use lib.ListN.{length, getD, take, drop, length-drop}
 use lib.Seq.{length-take-le, drop-drop}
 use Rattle.octets.specs.Written.{written}
-use Rattle.adaptation.specs.Handed.{longest}
 use Rattle.channels.specs.declared.Channel.{Channel}
 use Rattle.multiplex.specs.declared.demultiplexer.Tally.{Tally}
-use Rattle.channels.specs.Channels.{channelAt, heldOf}
+use Rattle.channels.specs.Channels.{channelAt, heldOf, placeOctets}
 use Rattle.multiplex.specs.Pieces.{Piece, laid}
-use Rattle.multiplex.specs.Tally.{counts, closing, closes, Draft, entry, gained, noted, heldWith, outputWith, unitsWith, puts, putsAll, ends}
+use Rattle.multiplex.specs.Tally.{counts, closing, closes, Draft, gained, noted, heldWith, outputWith, unitsWith, puts, putsAll, ends}
+use Rattle.multiplex.specs.Units.{listed}
 use Rattle.multiplex.proofs.Tallying.{laid-at, laid-end}
 
 either : (b : Bool) (u v : Draft) (t : Tally) → u .tally ≡ t → v .tally ≡ t → cond b u v .tally ≡ t
@@ -57,9 +57,9 @@ module _ (w : Draft) (p : ℕ) (x : List ℕ) where
     where
       by : (b : Bool) → record {
         tally = after;
-        held = cond b (written (w .held) (longest * p + on .held) x) (w .held);
+        held = cond b (written (w .held) (placeOctets * p + on .held) x) (w .held);
         output = cond b (w .output) (written (w .output) (w .tally .octets) x);
-        units = cond b (w .units) (written (w .units) (3 * w .tally .units) (entry (on .number) (w .tally .octets) (length x)));
+        units = cond b (w .units) (written (w .units) (3 * w .tally .units) (listed (on .number) (w .tally .octets) (length x)));
       } ≡ cond b (gained w after p x) (noted w after (on .number) x)
       by true = refl
       by false = refl
@@ -101,7 +101,7 @@ module _ (w : Draft) (mark : Bool) (p : ℕ) where
     tally = closes (w .tally) mark p;
     held = w .held;
     output = written (w .output) (w .tally .octets) (heldOf (w .tally .channels) (w .held) p);
-    units = written (w .units) (3 * w .tally .units) (entry (here .number) (w .tally .octets) (here .held));
+    units = written (w .units) (3 * w .tally .units) (listed (here .number) (w .tally .octets) (here .held));
   }
   unfolding ends closes
   ends-marked m e = rw (m, e)

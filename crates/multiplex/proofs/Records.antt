@@ -25,7 +25,7 @@ use lib.Seq.{take-append-seam, drop-append-seam, drop-drop}
 use Rattle.octets.specs.Written.{written}
 use Rattle.channels.specs.declared.Channels.{Channels}
 use Rattle.multiplex.specs.Demultiplexer.{Delivery, nothing, finished}
-use Rattle.multiplex.specs.Runs.{UnitOn, unitsOn, unitsIn}
+use Rattle.multiplex.specs.Units.{UnitOn, unitsOn, unitsIn}
 
 abbrev pub unitOn : ℕ → List ℕ → UnitOn
 unitOn n u = record { channel = n; octets = u }

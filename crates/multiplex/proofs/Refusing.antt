@@ -16,7 +16,7 @@ use lib.ListN.{length}
 use Rattle.calls.specs.Refusal.{leaving, refusing}
 use Rattle.channels.specs.Channels.{channelAt}
 use Rattle.multiplex.specs.Pieces.{Piece, lastPlace}
-use Rattle.multiplex.specs.Demultiplexer.{Delivery, Lent, fits, delivery, tooSmall, writes, delivered}
+use Rattle.multiplex.specs.Demultiplexer.{Delivery, DemuxLent, fits, delivery, tooSmall, writes, delivered}
 
 module _ (r : Delivery) (o u : List ℕ) where
   pub small-octets : length o < length (r .octets) → tooSmall r o u ≡ true
@@ -28,7 +28,7 @@ module _ (r : Delivery) (o u : List ℕ) where
   pub small-not : length (r .octets) ≤ length o → length (r .units) ≤ length u → tooSmall r o u ≡ false
   small-not h k = rw (le-ltb _ _ h, le-ltb _ _ k)
 
-module _ (x : Lent) (mark : Bool) (l : List Piece) (xs : List ℕ) where
+module _ (x : DemuxLent) (mark : Bool) (l : List Piece) (xs : List ℕ) where
   abbrev wrong : Bool
   wrong = mark && not (channelAt (x .channels) (lastPlace l) .segmentable)
 

@@ -19,26 +19,28 @@ use lib.Dec.{leb, ltb, eqb}
 use lib.ListN.{length, take}
 use Rattle.octets.specs.Tests.{both-true}
 use Rattle.octets.specs.Written.{written}
-use Rattle.calls.specs.Refusal.{Ended, leaving, refusing}
-use Rattle.table.specs.Slots.{pieces}
-use Rattle.table.specs.Table.{entryOf, isDefined, replaced}
+use Rattle.calls.specs.Refusal.{Ended, ended, leaving, refusing}
+use Rattle.table.specs.Slots.{payloadSlots}
+use Rattle.table.specs.Table.{entryOf, isDefined, replaced, longestPayload}
 use Rattle.channels.specs.declared.Channels.{Channels}
-use Rattle.channels.specs.Channels.{placeOf, freePlace, channelAt, put, fresh, isIn, isUnit, opened, postTests, posted, Post, waiting}
+use Rattle.channels.specs.Channels.{placeOf, freePlace, channelAt, put, fresh, isIn, opened, postTests, posted, Post, waiting, placeCount, placeOctets}
 use Rattle.multiplex.specs.Pieces.{total}
-use Rattle.multiplex.specs.Demultiplexer.{Lent, demultiplexed}
-use Rattle.multiplex.specs.Multiplexer as sending
-use Rattle.multiplex.specs.Multiplexer.{Payload, walked, packed, multiplexed}
-use Rattle.multiplex.specs.Runs.{UnitOn, unitsOn, withoutLast, World, begin, Event, opening, replacing, posting, paying, afterPost, afterPayload, afterPaying, paid, step, run, isWaiting, Delivers, Demand2}
-use Rattle.multiplex.proofs.Seats.{free-seats, place-seats}
+use Rattle.multiplex.specs.Demultiplexer.{DemuxLent, demultiplexed}
+use Rattle.multiplex.specs.Multiplexer.{MuxLent, Payload, Walk, walked, gathered, multiplexTests, multiplexed}
+use Rattle.multiplex.specs.Units.{UnitOn, unitsOn, enoughOutput, enoughUnits}
+use Rattle.multiplex.specs.Calls.{with, done, finished, made, telling, calledBy}
+use Rattle.multiplex.specs.Runs.{withoutLast, World, begin, Event, bothOpen, bothReplace, post, pay, afterPost, afterPayload, afterMaking, step, run, isWaiting, Delivers, Demand2}
+use Rattle.channels.proofs.Laws.{free-seats, place-seats}
 use Rattle.multiplex.proofs.Matching.{Matched, posted-matched}
 use Rattle.multiplex.proofs.Opening.{opened-matched, start-matched}
-use Rattle.calls.proofs.Laws.{by-test, by-tests}
+use Rattle.calls.proofs.Laws.{by-tests}
+use Rattle.adaptation.specs.Handed.{isUnit}
 use Rattle.multiplex.proofs.Accepting.{accepted, carried-over, payload-front}
 
 pub record Kept (x : World) : Type 0 where
   pub tables : x .sender .table ≡ x .receiver .table
   pub unrefused : x .refusals ≡ 0
-  pub matched : Matched (x .sender .channels) (x .sender .octets) (x .receiver .channels) (x .receiver .octets) (x .posted) (x .delivered)
+  pub matched : Matched (x .sender .channels) (x .sender .waiting) (x .receiver .channels) (x .receiver .held) (x .posted) (x .delivered)
 
 -- ---- opening
 
@@ -49,14 +51,14 @@ module _ (s r : Channels) (w h : List ℕ) (sent got : List UnitOn) (m : Matched
   pub opening-kept : Opened (opened s n g) (opened r n g)
   unfolding opened
   opening-kept =
-      rw (← (place-seats s r (m .alike) n), ← (free-seats s r (m .alike))) (by (ltb (placeOf s n) 16) (leb 16 (freePlace s)) refl refl)
+      rw (← (place-seats s r (m .alike) n), ← (free-seats s r (m .alike))) (by (ltb (placeOf s n) placeCount) (leb placeCount (freePlace s)) refl refl)
     where
-      by : (a b : Bool) → ltb (placeOf s n) 16 ≡ a → leb 16 (freePlace s) ≡ b
+      by : (a b : Bool) → ltb (placeOf s n) placeCount ≡ a → leb placeCount (freePlace s) ≡ b
           → Opened (cond a (refusing s 13) (cond b (refusing s 12) (leaving tt (put s (freePlace s) (fresh n g)))))
           (cond a (refusing r 13) (cond b (refusing r 12) (leaving tt (put r (freePlace s) (fresh n g)))))
       by true b e f = m
       by false true e f = m
-      by false false e f = opened-matched m n g (freePlace s) refl (leb-false 16 (freePlace s) f) (ltb-false (placeOf s n) 16 e)
+      by false false e f = opened-matched m n g (freePlace s) refl (leb-false placeCount (freePlace s) f) (ltb-false (placeOf s n) placeCount e)
 
 -- ---- posting
 
@@ -68,95 +70,101 @@ module _ (x : World) (k : Kept x) (n : ℕ) (u : List ℕ) where
   unit = record { channel = n; octets = u }
 
   abbrev Posted : Ended (Unit {0}) Post → Type 0
-  Posted r = Kept (afterPost x unit r)
+  Posted r =
+      Kept (afterPost x unit
+      (ended (telling (r .answer) (λ t. done)) (record { channels = r .left .channels; held = x .sender .held; waiting = r .left .octets; table = x .sender .table })))
 
-  same-kept : (i : ℕ) → Kept (afterPost x unit (refusing (record { channels = s; octets = x .sender .octets }) i))
+  same-kept : (i : ℕ) → Posted (refusing (record { channels = s; octets = x .sender .waiting }) i)
   same-kept i = record {
     tables = k .tables;
     unrefused = k .unrefused;
-    matched = subst (λ (l : List UnitOn). Matched s (x .sender .octets) (x .receiver .channels) (x .receiver .octets) l (x .delivered)) (sym (append-nil (x .posted))) (k .matched);
+    matched = subst (λ (l : List UnitOn). Matched s (x .sender .waiting) (x .receiver .channels) (x .receiver .held) l (x .delivered)) (sym (append-nil (x .posted))) (k .matched);
   }
 
-  pub posting-kept : Kept (afterPost x unit (posted s (x .sender .octets) n u))
+  pub posting-kept : Posted (posted s (x .sender .waiting) n u)
   unfolding posted
   posting-kept =
-      by-tests Posted (refusing (record { channels = s; octets = x .sender .octets })) (postTests s n u) _ same-kept (λ none.
-      let long : not (isUnit u) ≡ false = search none in
+      by-tests Posted (refusing (record { channels = s; octets = x .sender .waiting })) (postTests s n u) _ same-kept (λ none.
+      let long : not (isUnit placeOctets u) ≡ false = search none in
       let closed : not (isIn s n) ≡ false = search none in
       let some : leb 1 (channelAt s (placeOf s n) .waiting) ≡ false = search none in
-      let two = both-true (leb 1 (length u)) (leb (length u) 1024) (not-false (isUnit u) long) in
+      let two = both-true (leb 1 (length u)) (leb (length u) placeOctets) (not-false (isUnit placeOctets u) long) in
       let free : channelAt s (placeOf s n) .waiting ≡ 0 = omega (arith, leb-false 1 (channelAt s (placeOf s n) .waiting) some) in
       record {
         tables = k .tables;
         unrefused = k .unrefused;
-        matched = posted-matched (k .matched) n u (leb-true 1 (length u) (two .0)) (leb-true (length u) 1024 (two .1)) (placeOf s n) refl
-            (ltb-true (placeOf s n) 16 (not-false (isIn s n) closed)) free;
+        matched = posted-matched (k .matched) n u (leb-true 1 (length u) (two .0)) (leb-true (length u) placeOctets (two .1)) (placeOf s n) refl
+            (ltb-true (placeOf s n) placeCount (not-false (isIn s n) closed)) free;
       })
 
 -- ---- paying
 
-module _ (x : World) (k : Kept x) (c room : ℕ) (payload output units : List ℕ) (roomy : 1279 ≤ length output) (listed : 765 ≤ length units) where
-  abbrev Paid : Ended Payload sending.Lent → Type 0
-  Paid r = Kept (afterPaying (λ j. demultiplexed) x c output units (r .answer) (r .left))
+module _ (x : World) (k : Kept x) (c room : ℕ) (payload output units : List ℕ) (roomy : enoughOutput ≤ length output) (listed : enoughUnits ≤ length units) where
+  abbrev t : List ℕ
+  t = x .sender .table
 
-  abbrev lent : sending.Lent
+  abbrev Paid : Ended Payload MuxLent → Type 0
+  Paid r =
+      Kept (afterMaking (λ j. demultiplexed) x c output units (telling (r .answer) (λ p. made p (r .left .payload))) (with (x .sender) (r .left .channels)))
+
+  abbrev lent : MuxLent
   lent = record { channels = x .sender .channels; payload = payload }
 
+  abbrev walk : Walk
+  walk = walked (x .sender .channels) (payloadSlots (entryOf t c) room)
+
+  abbrev octets : List ℕ
+  octets = gathered (x .sender .channels) (x .sender .waiting) (walk .pieces)
+
+  abbrev here : DemuxLent
+  here = record { channels = x .receiver .channels; held = x .receiver .held; output = output; units = units }
+
+  -- the receiver's call, as the run sees it
+  abbrev Got : Ended ℕ DemuxLent → Type 0
+  Got r =
+      Kept (afterPayload x (with (x .sender) (walk .channels))
+      (ended (telling (r .answer) (λ j. finished j (r .left .output) (r .left .units)))
+      (record { channels = r .left .channels; held = r .left .held; waiting = x .receiver .waiting; table = x .receiver .table })))
+
   -- the payload that was made is accepted
-  module _ (defined : isDefined (x .sender .table) c ≡ true) (small : room ≤ 255) (enough : room ≤ length payload)
-      (known : walked (x .sender .channels) (pieces (entryOf (x .sender .table) c) room) .allOpen ≡ true) where
-    abbrev t : List ℕ
-    t = x .sender .table
+  made-kept : isDefined t c ≡ true → room ≤ longestPayload → room ≤ length payload → walk .allOpen ≡ true
+      → Got (demultiplexed here (x .receiver .table) c (walk .mark) (take (total (walk .pieces)) (written payload 0 octets)))
+  made-kept defined small enough known =
+      let called : demultiplexed here (x .receiver .table) c (walk .mark) (take (total (walk .pieces)) (written payload 0 octets)) ≡ demultiplexed here t c (walk .mark) octets
+      = ap₂ (λ (a b : List ℕ). demultiplexed here a c (walk .mark) b) (sym (k .tables)) (payload-front (k .matched) t c room defined small known payload enough) in
+      subst Got (sym (called ∙ accepted (k .matched) t c room defined small known output units roomy listed))
+      (record {
+        tables = k .tables;
+        unrefused = omega (arith, k .unrefused);
+        matched = carried-over (k .matched) t c room defined small known output units roomy listed;
+      })
 
-    abbrev walk : sending.Walk
-    walk = walked (x .sender .channels) (pieces (entryOf t c) room)
-
-    abbrev octets : List ℕ
-    octets = sending.gathered (x .sender .channels) (x .sender .octets) (walk .pieces)
-
-    abbrev here : Lent
-    here = record { channels = x .receiver .channels; held = x .receiver .octets; output = output; units = units }
-
-    called : demultiplexed here (x .receiver .table) c (walk .mark) (take (total (walk .pieces)) (written payload 0 octets)) ≡ demultiplexed here t c (walk .mark) octets
-    called =
-        ap₂ (λ (a b : List ℕ). demultiplexed here a c (walk .mark) b) (sym (k .tables)) (payload-front (k .matched) t c room defined small known payload enough)
-
-    made-kept : Kept (afterPayload x (walk .channels) (demultiplexed here (x .receiver .table) c (walk .mark) (take (total (walk .pieces)) (written payload 0 octets))))
-    made-kept =
-        subst (λ (r : Ended ℕ Lent). Kept (afterPayload x (walk .channels) r))
-        (sym (called ∙ accepted (k .matched) t c room defined small known output units roomy listed))
-        (record {
-          tables = k .tables;
-          unrefused = omega (arith, k .unrefused);
-          matched = carried-over (k .matched) t c room defined small known output units roomy listed;
-        })
-
-  pub paying-kept : Paid (paid x c room payload)
-  unfolding multiplexed packed
+  pub paying-kept : Paid (multiplexed lent (x .sender .waiting) t c room)
+  unfolding multiplexed calledBy
   paying-kept =
-      by-test Paid (ltb 255 room) (λ a. k)
-      (λ a. by-test Paid (not (isDefined (x .sender .table) c)) (λ b. k)
-      (λ b. by-test Paid (ltb (length payload) room) (λ d. k)
-      (λ d. by-test Paid (not (walked (x .sender .channels) (pieces (entryOf (x .sender .table) c) room) .allOpen)) (λ e. k)
-      (λ e. by-test Paid (eqb (total (walked (x .sender .channels) (pieces (entryOf (x .sender .table) c) room) .pieces)) 0) (λ f. k)
-      (λ f. made-kept (not-false _ b) (ltb-false 255 room a) (ltb-false (length payload) room d) (not-false _ e))))))
+      by-tests Paid (refusing lent) (multiplexTests lent t c room) _ (λ i. k) (λ none.
+      let a : ltb longestPayload room ≡ false = search none in
+      let b : not (isDefined t c) ≡ false = search none in
+      let d : ltb (length payload) room ≡ false = search none in
+      let e : not (walk .allOpen) ≡ false = search none in
+      made-kept (not-false _ b) (ltb-false longestPayload room a) (ltb-false (length payload) room d) (not-false _ e))
 
 -- ---- a run
 
 step-kept : (x : World) (e : Event) → Kept x → Kept (step (λ j. demultiplexed) x e)
-unfolding step
-step-kept x (opening n g) k = record {
+unfolding step calledBy
+step-kept x (bothOpen n g) k = record {
   tables = k .tables;
   unrefused = k .unrefused;
-  matched = opening-kept (x .sender .channels) (x .receiver .channels) (x .sender .octets) (x .receiver .octets) (x .posted) (x .delivered) (k .matched) n g;
+  matched = opening-kept (x .sender .channels) (x .receiver .channels) (x .sender .waiting) (x .receiver .held) (x .posted) (x .delivered) (k .matched) n g;
 }
-step-kept x (replacing c s) k = record {
+step-kept x (bothReplace c s) k = record {
   tables = ap (λ (t : List ℕ). replaced t c s .left) (k .tables);
   unrefused = k .unrefused;
   matched = k .matched;
 }
-step-kept x (posting n u) k = posting-kept x k n u
-step-kept x (paying c room payload output units m l) k = paying-kept x k c room payload output units m l
+step-kept x (post n u) k = posting-kept x k n u
+step-kept x (pay c room payload output units m l) k = paying-kept x k c room payload output units m l
 
 pub run-kept : (es : List Event) (x : World) → Kept x → Kept (run (λ j. demultiplexed) x es)
 unfolding run
@@ -182,6 +190,6 @@ delivers x k = record {
 }
 
 pub demand-met : Demand2 (λ j. demultiplexed)
-demand-met w h e f es =
-    delivers (run (λ j. demultiplexed) (begin w h) es)
-    (run-kept es (begin w h) (record { tables = refl; unrefused = refl; matched = start-matched w h e f }))
+demand-met h w h′ w′ e f es =
+    delivers (run (λ j. demultiplexed) (begin h w h′ w′) es)
+    (run-kept es (begin h w h′ w′) (record { tables = refl; unrefused = refl; matched = start-matched w h′ e f }))

@@ -3,8 +3,6 @@
 --   paired-at      what two lists give from place j on: what stands there, and what stands behind it
 --   paired-end     .. and nothing, past the end
 --   paired-next    one more in each
---   laid-paired    the pieces of two lists are such
---   laid-at, laid-end, laid-next   .. so the same holds of them
 --   slotted-back   the channels and lengths of slots give these slots
 --   total-append   the octets of pieces, one behind another
 --
@@ -17,8 +15,8 @@ use native.Mathlib.Numerals.{add-one}
 use native.Mathlib.Omega.{arith}
 use lib.ListN.{length, drop, getD}
 use Rattle.table.specs.Slots.{Slot}
-use Rattle.multiplex.specs.Pieces.{Piece, laid, total}
-use Rattle.multiplex.specs.Walks.{paired, slotted}
+use Rattle.multiplex.specs.Pieces.{paired, Piece, laid, total}
+use Rattle.multiplex.specs.Walks.{slotted}
 
 module _ {A : Type 0} (f : ℕ → ℕ → A) where
   at-suc : (xs ys : List ℕ) (j : ℕ) → j < length xs → j < length ys
@@ -49,26 +47,6 @@ module _ {A : Type 0} (f : ℕ → ℕ → A) where
   paired-next (m ∷ xs) (n ∷ ys) a b e = ap (λ (l : List A). f m n ∷ l) (paired-next xs ys a b (omega arith))
 
 -- ---- pieces
-
-abbrev piece : ℕ → ℕ → Piece
-piece p n = record { place = p; octets = n }
-
-pub laid-paired : (ps ls : List ℕ) → laid ps ls ≡ paired piece ps ls
-unfolding laid paired
-laid-paired [] ls = refl
-laid-paired (p ∷ ps) [] = refl
-laid-paired (p ∷ ps) (n ∷ ls) = ap (λ (l : List Piece). piece p n ∷ l) (laid-paired ps ls)
-
-module _ (ps ls : List ℕ) where
-  pub laid-at : (j : ℕ) → j < length ps → j < length ls
-      → drop j (laid ps ls) ≡ record { place = getD ps j 0; octets = getD ls j 0 } ∷ drop (j + 1) (laid ps ls)
-  laid-at j h k = rw (laid-paired ps ls) (paired-at piece ps ls j h k)
-
-  pub laid-end : (j : ℕ) → length ps ≤ j → drop j (laid ps ls) ≡ []
-  laid-end j h = rw (laid-paired ps ls) (paired-end piece ps ls j h)
-
-  pub laid-next : (p n : ℕ) → length ps ≡ length ls → laid (ps ++ p ∷ []) (ls ++ n ∷ []) ≡ laid ps ls ++ record { place = p; octets = n } ∷ []
-  laid-next p n e = rw (laid-paired ps ls, laid-paired (ps ++ p ∷ []) (ls ++ n ∷ [])) (paired-next piece ps ls p n e)
 
 pub total-append : (k l : List Piece) → total (k ++ l) ≡ total k + total l
 unfolding total

@@ -1,11 +1,9 @@
 -- From the slots that the table lays down to the pieces that are delivered, and refusals 2, 4, 6, 5 in their order.
 --
 --   placed-laid        slots whose channels have their places are the pieces
---   all-open           every channel of the slots is open where every number is
 --   placed-total       the pieces have the slots' octets
 --   Found              places and lengths that can be delivered: they are the pieces of the slots
 --   slotted-found      .. as they are once all channels have been found
---   defined-most       a code that has an entry is at most 15
 --   demultiplexed-long, demultiplexed-none, demultiplexed-some   refusals 2 and 4, and neither
 --   sorted-long, sorted-closed, sorted-all   refusals 6 and 5, and neither
 --
@@ -21,27 +19,21 @@ use lib.ListN.{length, take, length-map}
 use Rattle.octets.specs.Tests.{both-true}
 use Rattle.calls.specs.Refusal.{refusing}
 use Rattle.table.specs.declared.walk.Laid.{Laid}
-use Rattle.table.specs.Slots.{Slot, endless, pieces, octetsOf}
-use Rattle.table.specs.Table.{entryOf, isDefined, highestCode}
+use Rattle.table.specs.Slots.{Slot, payloadSlots, octetsOf, numbersOf, lengthsOf}
+use Rattle.table.specs.Table.{entryOf, isDefined, highestCode, longestPayload}
 use Rattle.channels.specs.declared.Channels.{Channels}
-use Rattle.channels.specs.Channels.{placeOf, isIn}
-use Rattle.channels.specs.Places.{allIn}
-use Rattle.multiplex.specs.Pieces.{laid, placed, allOpen, total}
-use Rattle.multiplex.specs.Tally.{Within}
-use Rattle.channels.proofs.Placing.{in-placed}
-use Rattle.multiplex.proofs.Laying.{numbersOf, lengthsOf, Slotted}
-use Rattle.multiplex.specs.Demultiplexer.{Lent, delivered, sorted, demultiplexed}
+use Rattle.channels.specs.Channels.{placeOf, allOpen}
+use Rattle.multiplex.specs.Pieces.{paired, laid, placed, total}
+use Rattle.multiplex.specs.Tally.{AllPlaces}
+use Rattle.channels.proofs.Laws.{in-placed}
+use Rattle.multiplex.proofs.Laying.{Slotted}
+use Rattle.multiplex.specs.Demultiplexer.{DemuxLent, delivered, sorted, demultiplexed}
 
 module _ (s : Channels) where
   pub placed-laid : (l : List Slot) → laid (map (placeOf s) (numbersOf l)) (lengthsOf l) ≡ placed s l
-  unfolding laid placed
+  unfolding paired placed
   placed-laid [] = refl
   placed-laid (x ∷ l) = rw (placed-laid l)
-
-  pub all-open : (l : List Slot) → allIn s (numbersOf l) ≡ allOpen s l
-  unfolding allIn allOpen
-  all-open [] = refl
-  all-open (x ∷ l) = ap (λ (b : Bool). isIn s (x .channel) && b) (all-open l)
 
   pub placed-total : (l : List Slot) → total (placed s l) ≡ octetsOf l
   unfolding total placed octetsOf
@@ -51,14 +43,14 @@ module _ (s : Channels) where
 -- ---- the places of the slots
 
 pub record Found (s : Channels) (l : List Slot) (n : ℕ) (ps ls : List ℕ) : Type 0 where
-  pub within : Within ps
+  pub within : AllPlaces ps
   pub same : length ps ≡ length ls
-  pub few : length ps ≤ 255
+  pub few : length ps ≤ longestPayload
   pub most : total (laid ps ls) ≤ n
   pub pieces : laid ps ls ≡ placed s l
 
 pub slotted-found : (s : Channels) (l : List Slot) (n : ℕ) (r : Laid) (cs ls : List ℕ) → Slotted l n r cs ls → (ps : List ℕ)
-    → ps ≡ map (placeOf s) (numbersOf l) → allIn s (numbersOf l) ≡ true → Found s l n ps (take (r .count) ls)
+    → ps ≡ map (placeOf s) (numbersOf l) → allOpen s (numbersOf l) ≡ true → Found s l n ps (take (r .count) ls)
 slotted-found s l n r cs ls slotted ps e all =
     let c = length-map l (λ (x : Slot). x .channel) in
     let m = length-map (numbersOf l) (placeOf s) in
@@ -75,23 +67,19 @@ slotted-found s l n r cs ls slotted ps e all =
 
 -- ---- the refusals
 
-pub defined-most : (t : List ℕ) (c : ℕ) → isDefined t c ≡ true → c ≤ 15
-unfolding isDefined
-defined-most t c e = leb-true _ _ (both-true (leb c highestCode) _ e .0)
-
-module _ (x : Lent) (mark : Bool) (xs : List ℕ) where
+module _ (x : DemuxLent) (mark : Bool) (xs : List ℕ) where
   module _ (t : List ℕ) (c : ℕ) where
-    pub demultiplexed-long : endless < length xs → demultiplexed x t c mark xs ≡ refusing x 2
+    pub demultiplexed-long : longestPayload < length xs → demultiplexed x t c mark xs ≡ refusing x 2
     unfolding demultiplexed
     demultiplexed-long h = rw (lt-ltb _ _ h)
 
-    pub demultiplexed-none : length xs ≤ endless → isDefined t c ≡ false → demultiplexed x t c mark xs ≡ refusing x 4
+    pub demultiplexed-none : length xs ≤ longestPayload → isDefined t c ≡ false → demultiplexed x t c mark xs ≡ refusing x 4
     unfolding demultiplexed
     demultiplexed-none h e = rw (le-ltb _ _ h, e)
 
-    pub demultiplexed-some : length xs ≤ endless → isDefined t c ≡ true
-        → demultiplexed x t c mark xs ≡ sorted x mark (pieces (entryOf t c) (length xs)) xs
-    unfolding demultiplexed
+    pub demultiplexed-some : length xs ≤ longestPayload → isDefined t c ≡ true
+        → demultiplexed x t c mark xs ≡ sorted x mark (payloadSlots (entryOf t c) (length xs)) xs
+    unfolding demultiplexed sorted delivered
     demultiplexed-some h e = rw (le-ltb _ _ h, e)
 
   module _ (l : List Slot) where
@@ -99,10 +87,10 @@ module _ (x : Lent) (mark : Bool) (xs : List ℕ) where
     unfolding sorted
     sorted-long h = rw (lt-ltb _ _ h)
 
-    pub sorted-closed : length xs ≤ octetsOf l → allOpen (x .channels) l ≡ false → sorted x mark l xs ≡ refusing x 5
+    pub sorted-closed : length xs ≤ octetsOf l → allOpen (x .channels) (numbersOf l) ≡ false → sorted x mark l xs ≡ refusing x 5
     unfolding sorted
     sorted-closed h e = rw (le-ltb _ _ h, e)
 
-    pub sorted-all : length xs ≤ octetsOf l → allOpen (x .channels) l ≡ true → sorted x mark l xs ≡ delivered x mark (placed (x .channels) l) xs
+    pub sorted-all : length xs ≤ octetsOf l → allOpen (x .channels) (numbersOf l) ≡ true → sorted x mark l xs ≡ delivered x mark (placed (x .channels) l) xs
     unfolding sorted
     sorted-all h e = rw (le-ltb _ _ h, e)

@@ -19,15 +19,16 @@ use native.Mathlib.Numerals.{add-one}
 use native.Mathlib.Omega.{arith}
 use lib.ListN.{length, take, drop, getD, set, length-set}
 use lib.Seq.{length-take-le, take-suc-set, getD-take, getD-set-other}
+use Rattle.table.specs.Table.{longestPayload}
 use Rattle.table.specs.Slots.{Slot}
 use Rattle.channels.specs.declared.Channels.{Channels}
 use Rattle.multiplex.specs.declared.multiplexer.Turn.{Turn}
 use Rattle.multiplex.specs.declared.multiplexer.Turn.the-variants.{Stop, On, Last}
-use Rattle.channels.specs.Channels.{placeOf, channelAt}
-use Rattle.multiplex.specs.Pieces.{Piece, laid, total}
+use Rattle.channels.specs.Channels.{placeOf, channelAt, placeCount, placeOctets}
+use Rattle.multiplex.specs.Pieces.{piece, paired, Piece, laid, total}
 use Rattle.multiplex.specs.Multiplexer.{left, Walk, stopped, walked}
 use Rattle.multiplex.specs.Walks.{turned, slotted, WalkIs}
-use Rattle.multiplex.proofs.Slotting.{paired-at, paired-end, laid-next, total-append}
+use Rattle.multiplex.proofs.Slotting.{paired-at, paired-end, paired-next, total-append}
 use Rattle.multiplex.proofs.Walking.{turn-on, byTurn, walked-closed, walked-open}
 
 abbrev pub before : List Piece → Walk → Walk
@@ -38,7 +39,7 @@ given n ns ls = slotted (take n ns) (take n ls)
 
 pub record Walking (n : ℕ) (ns₀ ls₀ : List ℕ) (s₀ : Channels) (ns ls : List ℕ) (s : Channels) (octets j : ℕ) : Type 0 where
   pub within : j ≤ n
-  pub most : octets ≤ 1024 * j
+  pub most : octets ≤ placeOctets * j
   pub numbers : length ns ≡ length ns₀
   pub lengths : length ls ≡ length ls₀
   pub later-numbers : (i : ℕ) → j ≤ i → getD ns i 0 ≡ getD ns₀ i 0
@@ -47,7 +48,7 @@ pub record Walking (n : ℕ) (ns₀ ls₀ : List ℕ) (s₀ : Channels) (ns ls :
   pub walk : walked s₀ (given n ns₀ ls₀) ≡ before (laid (take j ns) (take j ls)) (walked s (drop j (given n ns₀ ls₀)))
 
 pub begun : (n : ℕ) (ns ls : List ℕ) (s : Channels) → Walking n ns ls s ns ls s 0 0
-unfolding laid total
+unfolding paired total
 begun n ns ls s = record {
   within = omega arith;
   most = omega arith;
@@ -60,7 +61,7 @@ begun n ns ls s = record {
 }
 
 module _ (n : ℕ) (ns₀ ls₀ : List ℕ) (s₀ : Channels) (ns ls : List ℕ) (s : Channels) (octets j : ℕ)
-    (fits : (n ≤ 255) × (n ≤ length ns₀) × (n ≤ length ls₀)) (w : Walking n ns₀ ls₀ s₀ ns ls s octets j) where
+    (fits : (n ≤ longestPayload) × (n ≤ length ns₀) × (n ≤ length ls₀)) (w : Walking n ns₀ ls₀ s₀ ns ls s octets j) where
   abbrev all : List Slot
   all = given n ns₀ ls₀
 
@@ -100,11 +101,11 @@ module _ (n : ℕ) (ns₀ ls₀ : List ℕ) (s₀ : Channels) (ns ls : List ℕ)
         paired-at _ (take n ns₀) (take n ls₀) j a b
         ∙ rw (getD-take n ns₀ j 0 h, getD-take n ls₀ j 0 h, w .later-numbers j i, w .later-lengths j i)
 
-    pub closed : 16 ≤ p → WalkIs (walked s₀ all) (record { count = j; octets = octets; mark = false; all_open = false; channels = s }) ns ls
+    pub closed : placeCount ≤ p → WalkIs (walked s₀ all) (record { count = j; octets = octets; mark = false; all_open = false; channels = s }) ns ls
     unfolding here
     closed far = stops false (ap (walked s) at ∙ walked-closed s here (drop (j + 1) all) p e far)
 
-    module _ (near : p < 16) where
+    module _ (near : p < placeCount) where
       turned-at : (t : Turn) → t ≡ turned (channelAt s p) (getD ls j 0) → walked s (drop j all) ≡ byTurn s p (λ r. walked r (drop (j + 1) all)) t
       unfolding here
       turned-at t f = ap (walked s) at ∙ walked-open s here (drop (j + 1) all) p e near ∙ ap (byTurn s p (λ r. walked r (drop (j + 1) all))) (sym f)
@@ -120,7 +121,7 @@ module _ (n : ℕ) (ns₀ ls₀ : List ℕ) (s₀ : Channels) (ns ls : List ℕ)
             let a : j < length ns = omega (arith, w .numbers) in
             let b : j < length ls = omega (arith, w .lengths) in
             let c : length (take j ns) ≡ length (take j ls) = length-take-le j ns (omega arith) ∙ sym (length-take-le j ls (omega arith)) in
-            rw (add-one j, take-suc-set ns j p a, take-suc-set ls j k b) (laid-next (take j ns) (take j ls) p k c)
+            rw (add-one j, take-suc-set ns j p a, take-suc-set ls j k b) (paired-next piece (take j ns) (take j ls) p k c)
 
         counts : octets + k ≡ total (laid (take (j + 1) (set ns j p)) (take (j + 1) (set ls j k)))
         unfolding total

@@ -28,12 +28,11 @@ use lib.Dec.{leb}
 use lib.ListN.{length, getD, drop, drop-of-length-le}
 use lib.Seq.{drop-cons, set-getD}
 use Rattle.octets.specs.Tests.{both-true}
-use Rattle.adaptation.specs.Handed.{longest}
 use Rattle.channels.specs.declared.Channel.{Channel}
 use Rattle.channels.specs.declared.Channels.{Channels}
 use Rattle.multiplex.specs.declared.demultiplexer.Tally.{Tally}
-use Rattle.channels.specs.Channels.{vacant, channelAt, put}
-use Rattle.multiplex.specs.Pieces.{Piece, laid, total}
+use Rattle.channels.specs.Channels.{vacant, channelAt, put, placeOctets}
+use Rattle.multiplex.specs.Pieces.{paired, Piece, laid, total}
 use Rattle.multiplex.specs.Demultiplexer.{counted, roomIn, hasRoom, fits}
 use Rattle.multiplex.specs.Tally.{heldMore, oneUnit, counts, joins, atOnce, tallied}
 
@@ -93,17 +92,17 @@ module _ (t : Tally) (p n : ℕ) where
   pub counts-most : (counts t p n .octets ≤ t .octets + n) × (counts t p n .units ≤ t .units + 1)
   counts-most = counts-ind (λ r. (r .octets ≤ t .octets + n) × (r .units ≤ t .units + 1)) (λ e. (omega arith, omega arith)) (λ e. (le-refl _, le-refl _))
 
-pub room-held : (c : Channel) (n : ℕ) → roomIn c n ≡ true → c .segmentable ≡ true → c .held + n ≤ longest
-room-held c n h g = leb-true _ _ (sym (ap (λ (b : Bool). not b || leb (c .held + n) longest) g) ∙ h)
+pub room-held : (c : Channel) (n : ℕ) → roomIn c n ≡ true → c .segmentable ≡ true → c .held + n ≤ placeOctets
+room-held c n h g = leb-true _ _ (sym (ap (λ (b : Bool). not b || leb (c .held + n) placeOctets) g) ∙ h)
 
 module _ (ps ls : List ℕ) (j : ℕ) where
   pub laid-at : j < length ps → j < length ls
       → laid (drop j ps) (drop j ls) ≡ record { place = getD ps j 0; octets = getD ls j 0 } ∷ laid (drop (j + 1) ps) (drop (j + 1) ls)
-  unfolding laid
+  unfolding paired
   laid-at h k = rw (add-one, drop-cons ps j 0, drop-cons ls j 0)
 
   pub laid-end : length ps ≤ j → laid (drop j ps) (drop j ls) ≡ []
-  unfolding laid
+  unfolding paired
   laid-end h = rw (drop-of-length-le ps h)
 
   pub total-at : j < length ps → j < length ls → total (laid (drop j ps) (drop j ls)) ≡ getD ls j 0 + total (laid (drop (j + 1) ps) (drop (j + 1) ls))

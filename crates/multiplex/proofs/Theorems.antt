@@ -15,17 +15,18 @@ use borrow.Author.Tests.{not-false}
 use lib.ListN.{length}
 use Rattle.octets.specs.Tests.{never}
 use Rattle.calls.specs.Refusal.{Told, refused, told, Ended, leaving, refusing}
-use Rattle.table.specs.Slots.{Slot, pieces, octetsOf, channelsOf}
-use Rattle.table.specs.Laws.{pieces-most}
+use Rattle.table.specs.Slots.{Slot, payloadSlots, octetsOf, channelsOf, numbersOf}
+use Rattle.table.proofs.Laws.{payloadSlots-most}
 use Rattle.table.specs.Table.{entryOf}
 use Rattle.channels.specs.declared.Channels.{Channels}
-use Rattle.channels.specs.Channels.{placeOf, channelAt, heldOf}
-use Rattle.multiplex.specs.Pieces.{Piece, placed, allOpen, lastPlace}
-use Rattle.multiplex.specs.Demultiplexer.{Lent, Delivery, nothing, fits, tookAll, delivery, writes, callTests, slotTests, pieceTests, delivered, sorted, demultiplexed}
-use Rattle.multiplex.specs.Runs.{UnitOn, unitsOn, unitsIn}
-use Rattle.multiplex.specs.Claims.{DemandMet, IdleFails, RefuserFails, goingTo, Orderly, OctetsOnce, OrderKept}
+use Rattle.channels.specs.Channels.{placeOf, channelAt, heldOf, placeCount, allOpen}
+use Rattle.multiplex.specs.Pieces.{Piece, placed, lastPlace}
+use Rattle.multiplex.specs.Demultiplexer.{DemuxLent, Delivery, nothing, fits, tookAll, delivery, writes, demultiplexTests, demultiplexed}
+use Rattle.multiplex.specs.Units.{UnitOn, unitsOn, unitsIn}
+use Rattle.channels.specs.Claims.{Orderly}
+use Rattle.multiplex.specs.Claims.{DemandMet, IdleFails, RefuserFails, goingTo, OctetsOnce, OrderKept}
 use Rattle.calls.proofs.Laws.{by-tests}
-use Rattle.multiplex.proofs.Seats.{place-seats, vacant-behind}
+use Rattle.channels.proofs.Laws.{place-seats, vacant-behind}
 use Rattle.multiplex.proofs.Records.{tells-nothing, tells-read}
 use Rattle.multiplex.proofs.Keeping.{Holds, slots-hold, closed-holds, last-known}
 use Rattle.multiplex.proofs.Running as running
@@ -42,38 +43,36 @@ refuser-fails = failing.refuser-fails
 
 -- ---- an accepted payload
 
-not-refused : {A : Type 0} (x y : Lent) (i k : ℕ) → _≡_ {A = Ended ℕ Lent} (refusing x i) (leaving k y) → A
+not-refused : {A : Type 0} (x y : DemuxLent) (i k : ℕ) → _≡_ {A = Ended ℕ DemuxLent} (refusing x i) (leaving k y) → A
 not-refused x y i k e =
-    let f : _≡_ {A = Told ℕ} (refused i) (told k) = ap (λ (z : Ended ℕ Lent). z .answer) e in
+    let f : _≡_ {A = Told ℕ} (refused i) (told k) = ap (λ (z : Ended ℕ DemuxLent). z .answer) e in
     never (cc)
 
 -- what was accepted met none of the refusals, and leaves its delivery
-record Accepted (x y : Lent) (mark : Bool) (l : List Slot) (xs : List ℕ) (k : ℕ) : Type 0 where
-  opened : allOpen (x .channels) l ≡ true
+record Accepted (x y : DemuxLent) (mark : Bool) (l : List Slot) (xs : List ℕ) (k : ℕ) : Type 0 where
+  opened : allOpen (x .channels) (numbersOf l) ≡ true
   marked : (mark && not (channelAt (x .channels) (lastPlace (placed (x .channels) l)) .segmentable)) ≡ false
   fitting : fits (x .channels) (placed (x .channels) l) ≡ true
   count : delivery (x .channels) (x .held) mark (placed (x .channels) l) xs .count ≡ k
   left : writes (delivery (x .channels) (x .held) mark (placed (x .channels) l) xs) (x .output) (x .units) ≡ y
 
-is-accepted : (x y : Lent) (t : List ℕ) (c : ℕ) (mark : Bool) (xs : List ℕ) (k : ℕ) → demultiplexed x t c mark xs ≡ leaving k y
-    → Accepted x y mark (pieces (entryOf t c) (length xs)) xs k
-unfolding demultiplexed sorted delivered
+is-accepted : (x y : DemuxLent) (t : List ℕ) (c : ℕ) (mark : Bool) (xs : List ℕ) (k : ℕ) → demultiplexed x t c mark xs ≡ leaving k y
+    → Accepted x y mark (payloadSlots (entryOf t c) (length xs)) xs k
+unfolding demultiplexed
 is-accepted x y t c mark xs k =
-    by-tests Ends (refusing _) (callTests t c xs) _ (refuses _) (λ call.
-    by-tests Ends (refusing _) (slotTests x l xs) _ (refuses _) (λ slots.
-    by-tests Ends (refusing _) (pieceTests x mark ps xs) (leaving (d .count) (writes d (x .output) (x .units))) (refuses _) (λ rest e.
-    let closed : not (allOpen (x .channels) l) ≡ false = search slots in
+    by-tests Ends (refusing x) (demultiplexTests x t c mark xs) (leaving (d .count) (writes d (x .output) (x .units))) (refuses x) (λ rest e.
+    let closed : not (allOpen (x .channels) (numbersOf l)) ≡ false = search rest in
     let full : not (fits (x .channels) ps) ≡ false = search rest in
     record {
-      opened = not-false (allOpen (x .channels) l) closed;
+      opened = not-false (allOpen (x .channels) (numbersOf l)) closed;
       marked = search rest;
       fitting = not-false (fits (x .channels) ps) full;
-      count = same-told (d .count) k (ap (λ (r : Ended ℕ Lent). r .answer) e);
-      left = ap (λ (r : Ended ℕ Lent). r .left) e;
-    })))
+      count = same-told (d .count) k (ap (λ (r : Ended ℕ DemuxLent). r .answer) e);
+      left = ap (λ (r : Ended ℕ DemuxLent). r .left) e;
+    })
   where
     l : List Slot
-    l = pieces (entryOf t c) (length xs)
+    l = payloadSlots (entryOf t c) (length xs)
 
     ps : List Piece
     ps = placed (x .channels) l
@@ -81,16 +80,16 @@ is-accepted x y t c mark xs k =
     d : Delivery
     d = delivery (x .channels) (x .held) mark ps xs
 
-    Ends : Ended ℕ Lent → Type 0
+    Ends : Ended ℕ DemuxLent → Type 0
     Ends r = r ≡ leaving k y → Accepted x y mark l xs k
 
-    refuses : (z : Lent) (i : ℕ) → Ends (refusing z i)
+    refuses : (z : DemuxLent) (i : ℕ) → Ends (refusing z i)
     refuses z i = not-refused z y i k
 
     same-told : (a b : ℕ) → _≡_ {A = Told ℕ} (told a) (told b) → a ≡ b
     same-told a b e = cc
 
-module _ (x y : Lent) (mark : Bool) (l : List Slot) (xs : List ℕ) (k n : ℕ) (o : Orderly (x .channels) (x .held)) (most : octetsOf l ≤ length xs) (a : Accepted x y mark l xs k) where
+module _ (x y : DemuxLent) (mark : Bool) (l : List Slot) (xs : List ℕ) (k n : ℕ) (o : Orderly (x .channels) (x .held)) (most : octetsOf l ≤ length xs) (a : Accepted x y mark l xs k) where
   abbrev s : Channels
   s = x .channels
 
@@ -105,7 +104,7 @@ module _ (x y : Lent) (mark : Bool) (l : List Slot) (xs : List ℕ) (k n : ℕ) 
   all-taken = slots-hold l xs first (a .opened) (a .fitting) most
 
   -- the closing mark is on a segmentable channel, so on an open one
-  inside : channelAt s (lastPlace (placed s l)) .segmentable ≡ true → Dec (lastPlace (placed s l) < 16) → lastPlace (placed s l) < 16
+  inside : channelAt s (lastPlace (placed s l)) .segmentable ≡ true → Dec (lastPlace (placed s l) < placeCount) → lastPlace (placed s l) < placeCount
   inside g (yes h) = h
   inside g (no h) =
       let v = vacant-behind s (o .full) (lastPlace (placed s l)) (omega arith) in
@@ -117,24 +116,24 @@ module _ (x y : Lent) (mark : Bool) (l : List Slot) (xs : List ℕ) (k n : ℕ) 
     where
       by : (b : Bool) → (b && not (channelAt s (lastPlace (placed s l)) .segmentable)) ≡ false → Holds s n all (delivery s (x .held) b (placed s l) xs)
       by true e =
-          let h = inside (not-false (channelAt s (lastPlace (placed s l)) .segmentable) e) (decLt (lastPlace (placed s l)) 16) in
+          let h = inside (not-false (channelAt s (lastPlace (placed s l)) .segmentable) e) (decLt (lastPlace (placed s l)) placeCount) in
           let m = last-known s l h in
           closed-holds all-taken (m .0) (lastPlace (placed s l)) (m .1) h
       by false e = all-taken
 
 pub octets-once : OctetsOnce
 octets-once x y t c mark xs k n o e =
-    let l = pieces (entryOf t c) (length xs) in
+    let l = payloadSlots (entryOf t c) (length xs) in
     let a = is-accepted x y t c mark xs k e in
     let d = delivery (x .channels) (x .held) mark (placed (x .channels) l) xs in
-    let h = payload-holds x y mark l xs k n o (pieces-most (entryOf t c) (length xs)) a in
+    let h = payload-holds x y mark l xs k n o (payloadSlots-most (entryOf t c) (length xs)) a in
     h .all
     ∙ ap₂ (λ (u : List UnitOn) (p : ℕ). flatten (unitsOn n u) ++ heldOf (d .channels) (d .held) p)
     (sym (tells-read d (h .units) (x .output) (x .units) (h .tells))) (sym (place-seats (d .channels) (x .channels) (h .alike) n))
-    ∙ ap₂ (λ (z : Lent) (j : ℕ). flatten (unitsOn n (unitsIn (z .output) (z .units) j)) ++ heldOf (z .channels) (z .held) (placeOf (z .channels) n)) (a .left) (a .count)
+    ∙ ap₂ (λ (z : DemuxLent) (j : ℕ). flatten (unitsOn n (unitsIn (z .output) (z .units) j)) ++ heldOf (z .channels) (z .held) (placeOf (z .channels) n)) (a .left) (a .count)
 
 pub order-kept : OrderKept
 order-kept x y t c mark xs k o e =
     let a = is-accepted x y t c mark xs k e in
-    let h = payload-holds x y mark (pieces (entryOf t c) (length xs)) xs k 0 o (pieces-most (entryOf t c) (length xs)) a in
-    subst (λ (z : Lent). Orderly (z .channels) (z .held)) (a .left) (h .orderly)
+    let h = payload-holds x y mark (payloadSlots (entryOf t c) (length xs)) xs k 0 o (payloadSlots-most (entryOf t c) (length xs)) a in
+    subst (λ (z : DemuxLent). Orderly (z .channels) (z .held)) (a .left) (h .orderly)

@@ -20,7 +20,7 @@ use Rattle.channels.specs.declared.Channel.{Channel}
 use Rattle.channels.specs.declared.Channels.{Channels}
 use Rattle.multiplex.specs.declared.multiplexer.Turn.{Turn}
 use Rattle.multiplex.specs.declared.multiplexer.Turn.the-variants.{Stop, On, Last}
-use Rattle.channels.specs.Channels.{placeOf, isIn, channelAt, waits}
+use Rattle.channels.specs.Channels.{placeOf, isIn, channelAt, waits, placeCount}
 use Rattle.multiplex.specs.Pieces.{total}
 use Rattle.multiplex.specs.Multiplexer.{isBlocked, goesOn, moved, left, Walk, stopped, sending, ending, visit, walked}
 use Rattle.multiplex.specs.Walks.{turned, Sendable}
@@ -103,18 +103,18 @@ visit-turn s p n rest = by (isBlocked (channelAt s p) n) (goesOn (channelAt s p)
     by false false k = refl
 
 module _ (s : Channels) (x : Slot) (l : List Slot) (p : ℕ) (e : p ≡ placeOf s (x .channel)) where
-  pub walked-closed : 16 ≤ p → walked s (x ∷ l) ≡ stopped s false
+  pub walked-closed : placeCount ≤ p → walked s (x ∷ l) ≡ stopped s false
   unfolding walked
   walked-closed h = rw (← e, le-ltb _ _ h)
 
-  pub walked-open : p < 16 → walked s (x ∷ l) ≡ byTurn s p (λ r. walked r l) (turned (channelAt s p) (x .octets))
+  pub walked-open : p < placeCount → walked s (x ∷ l) ≡ byTurn s p (λ r. walked r l) (turned (channelAt s p) (x .octets))
   unfolding walked
   walked-open h = rw (← e, lt-ltb _ _ h) (visit-turn s p (x .octets) (λ r. walked r l))
 
 -- ---- the pieces of a walk
 
 module _ (s : Channels) (p n : ℕ) (rest : Channels → Walk) where
-  turn-sendable : (t : Turn) → p < 16 → taken t ≤ waits (channelAt s p) → ((k : ℕ) → Sendable (left s p k) (rest (left s p k) .pieces))
+  turn-sendable : (t : Turn) → p < placeCount → taken t ≤ waits (channelAt s p) → ((k : ℕ) → Sendable (left s p k) (rest (left s p k) .pieces))
       → Sendable s (byTurn s p rest t .pieces)
   unfolding Sendable
   turn-sendable Stop h m more = tt
@@ -129,7 +129,7 @@ module _ (s : Channels) (p n : ℕ) (rest : Channels → Walk) where
 
 -- whether a slot's channel is open
 by-place : (P : Walk → Type 0) (s : Channels) (x : Slot) (l : List Slot) → P (stopped s false)
-    → (placeOf s (x .channel) < 16 → P (byTurn s (placeOf s (x .channel)) (λ r. walked r l) (turned (channelAt s (placeOf s (x .channel))) (x .octets))))
+    → (placeOf s (x .channel) < placeCount → P (byTurn s (placeOf s (x .channel)) (λ r. walked r l) (turned (channelAt s (placeOf s (x .channel))) (x .octets))))
     → P (walked s (x ∷ l))
 by-place P s x l closed is = by (isIn s (x .channel)) refl
   where
@@ -137,8 +137,8 @@ by-place P s x l closed is = by (isIn s (x .channel)) refl
     p = placeOf s (x .channel)
 
     by : (b : Bool) → isIn s (x .channel) ≡ b → P (walked s (x ∷ l))
-    by true e = subst P (sym (walked-open s x l p refl (ltb-true p 16 e))) (is (ltb-true p 16 e))
-    by false e = subst P (sym (walked-closed s x l p refl (ltb-false p 16 e))) closed
+    by true e = subst P (sym (walked-open s x l p refl (ltb-true p placeCount e))) (is (ltb-true p placeCount e))
+    by false e = subst P (sym (walked-closed s x l p refl (ltb-false p placeCount e))) closed
 
 pub walked-sendable : (s : Channels) (l : List Slot) → Sendable s (walked s l .pieces)
 unfolding walked Sendable

@@ -1,35 +1,43 @@
--- Any calls in any order, and the bounds that they keep. The definitions of the calls are total: they say what is answered in any
--- state, a made-up one too. This says that no call leads to a made-up one.
+-- Any calls in any order: what each answers, and the state that it leaves. The definitions of the calls are total: they say what is
+-- answered in any state, a made-up one too. That no call leads to a made-up one is claimed here as well.
 --
---   Link           one end's whole state: the channels, the octets held, the octets that wait, and the table
---   Call           any call: what it names and what it is lent
---   after x c      the state after one call; a refused one leaves it
---   led x cs       .. after one call behind another
---   begun h w      the state at first, with any octets in its arrays
---   Sound x        every array has its length, no place holds more than 1,024 octets or has more waiting, and only a segmentable
---                  channel holds any
---   AlwaysSound    whatever is called, the state is sound
+--   Link             one end's whole state: the channels, the octets held, the octets that wait, and the table
+--   with x s         .. with other channels
+--   Call             any call: what it names and what it is lent
+--   Answer           what a call answers that is not refused, with what it leaves of what it was lent
+--   telling t f      an answer made of what a call tells
+--   Demultiplexer    what may stand for the demultiplexer
+--   calledBy D x c   how the call c ends in state x, where D is the demultiplexer
+--   called x c       .. where it is ours
+--   led x cs         the state after one call behind another; a refused one leaves it
+--   begun h w        the state at first, with any octets in its arrays
+--   Sound x          the channels keep their bounds, and the table its length
+--   AlwaysSound      whatever is called, the state is sound
 --
 -- Assumes nothing.
 use mathlib.Core.Path.{_≡_}
 use mathlib.Core.Bool.{Bool}
 use mathlib.Core.List.{List, [], _∷_}
-use Prim.Native.Nat.{ℕ, _≤_}
+use Prim.Native.Nat.{ℕ}
 use lib.ListN.{length, replicate}
-use Rattle.adaptation.specs.Handed.{longest}
-use Rattle.table.specs.Table.{replaced}
+use Rattle.calls.specs.Refusal.{Told, refused, told, Ended, ended}
+use Rattle.adaptation.specs.AL2.{Receipt}
+use Rattle.table.specs.Table.{tableNumbers, replaced}
 use Rattle.channels.specs.declared.Channels.{Channels}
-use Rattle.channels.specs.Channels.{start, channelAt, opened, closed, reset, posted}
-use Rattle.multiplex.specs.Demultiplexer as demux
-use Rattle.multiplex.specs.Multiplexer as mux
+use Rattle.channels.specs.Channels.{allOctets, start, opened, closed, reset, posted}
 use Rattle.channels.specs.Layers as layers
-use Rattle.multiplex.specs.Claims.{Orderly}
+use Rattle.channels.specs.Claims.{Bounded}
+use Rattle.multiplex.specs.Demultiplexer.{DemuxLent, demultiplexed}
+use Rattle.multiplex.specs.Multiplexer.{Payload, multiplexed}
 
 pub record Link : Type 0 where
   pub channels : Channels
   pub held : List ℕ
   pub waiting : List ℕ
   pub table : List ℕ
+
+abbrev pub with : Link → Channels → Link
+with x s = record { channels = s; held = x .held; waiting = x .waiting; table = x .table }
 
 pub data Call : Type 0 where
   opening : (n : ℕ) → (segmentable : Bool) → Call
@@ -42,41 +50,56 @@ pub data Call : Type 0 where
   sending : (n : ℕ) → (numbered : Bool) → (unit output : List ℕ) → Call
   taking : (n : ℕ) → (numbered : Bool) → (whole : List ℕ) → Call
 
--- the state with other channels
-abbrev pub with : Link → Channels → Link
-with x s = record { channels = s; held = x .held; waiting = x .waiting; table = x .table }
+pub data Answer : Type 0 where
+  done : Answer
+  finished : (count : ℕ) → (output units : List ℕ) → Answer
+  made : Payload → (payload : List ℕ) → Answer
+  sent : (octets : ℕ) → (output : List ℕ) → Answer
+  taken : Receipt → Answer
 
-abbrev pub lentTo : Link → (output units : List ℕ) → demux.Lent
-lentTo x output units = record { channels = x .channels; held = x .held; output = output; units = units }
+abbrev pub telling : {A : Type 0} → Told A → (A → Answer) → Told Answer
+telling (refused k) f = refused k
+telling (told a) f = told (f a)
 
-unfoldable pub after : Link → Call → Link
-after x (opening n g) = with x (opened (x .channels) n g .left)
-after x (closing n) = with x (closed (x .channels) n .left)
-after x (resetting n) = with x (reset (x .channels) n .left)
-after x (posting n u) =
-    let r = posted (x .channels) (x .waiting) n u .left in
-    record { channels = r .channels; held = x .held; waiting = r .octets; table = x .table }
-after x (replacing c s) = record { channels = x .channels; held = x .held; waiting = x .waiting; table = replaced (x .table) c s .left }
-after x (demultiplexing c mark xs output units) =
-    let r = demux.demultiplexed (lentTo x output units) (x .table) c mark xs .left in
-    record { channels = r .channels; held = r .held; waiting = x .waiting; table = x .table }
-after x (multiplexing c room payload) =
-    with x (mux.multiplexed (record { channels = x .channels; payload = payload }) (x .waiting) (x .table) c room .left .channels)
-after x (sending n has u out) = with x (layers.sending (record { channels = x .channels; output = out }) n has u .left .channels)
-after x (taking n has w) = with x (layers.taking (x .channels) n has w .left)
+abbrev pub Demultiplexer : Type 0
+Demultiplexer = DemuxLent → (table : List ℕ) → (code : ℕ) → (mark : Bool) → List ℕ → Ended ℕ DemuxLent
+
+unfoldable pub calledBy : Demultiplexer → Link → Call → Ended Answer Link
+calledBy D x (opening n g) = let r = opened (x .channels) n g in ended (telling (r .answer) (λ u. done)) (with x (r .left))
+calledBy D x (closing n) = let r = closed (x .channels) n in ended (telling (r .answer) (λ u. done)) (with x (r .left))
+calledBy D x (resetting n) = let r = reset (x .channels) n in ended (telling (r .answer) (λ u. done)) (with x (r .left))
+calledBy D x (posting n u) =
+    let r = posted (x .channels) (x .waiting) n u in
+    ended (telling (r .answer) (λ t. done)) (record { channels = r .left .channels; held = x .held; waiting = r .left .octets; table = x .table })
+calledBy D x (replacing c s) =
+    let r = replaced (x .table) c s in
+    ended (telling (r .answer) (λ u. done)) (record { channels = x .channels; held = x .held; waiting = x .waiting; table = r .left })
+calledBy D x (demultiplexing c mark xs output units) =
+    let r = D (record { channels = x .channels; held = x .held; output = output; units = units }) (x .table) c mark xs in
+    ended (telling (r .answer) (λ k. finished k (r .left .output) (r .left .units)))
+    (record { channels = r .left .channels; held = r .left .held; waiting = x .waiting; table = x .table })
+calledBy D x (multiplexing c room payload) =
+    let r = multiplexed (record { channels = x .channels; payload = payload }) (x .waiting) (x .table) c room in
+    ended (telling (r .answer) (λ p. made p (r .left .payload))) (with x (r .left .channels))
+calledBy D x (sending n numbered u output) =
+    let r = layers.sending (record { channels = x .channels; output = output }) n numbered u in
+    ended (telling (r .answer) (λ k. sent k (r .left .output))) (with x (r .left .channels))
+calledBy D x (taking n numbered w) =
+    let r = layers.taking (x .channels) n numbered w in ended (telling (r .answer) taken) (with x (r .left))
+
+abbrev pub called : Link → Call → Ended Answer Link
+called = calledBy demultiplexed
 
 unfoldable pub led : Link → List Call → Link
 led x [] = x
-led x (c ∷ cs) = led (after x c) cs
+led x (c ∷ cs) = led (called x c .left) cs
 
 abbrev pub begun : (held waiting : List ℕ) → Link
-begun h w = record { channels = start; held = h; waiting = w; table = replicate 1455 0 }
+begun h w = record { channels = start; held = h; waiting = w; table = replicate tableNumbers 0 }
 
 pub record Sound (x : Link) : Type 0 where
-  pub orderly : Orderly (x .channels) (x .held)
-  pub waits : (p : ℕ) → channelAt (x .channels) p .waiting ≤ longest
-  pub room : length (x .waiting) ≡ 16384
-  pub entries : length (x .table) ≡ 1455
+  pub bounded : Bounded (x .channels) (x .held) (x .waiting)
+  pub entries : length (x .table) ≡ tableNumbers
 
 abbrev pub AlwaysSound : Type 0
-AlwaysSound = (h w : List ℕ) → length h ≡ 16384 → length w ≡ 16384 → (cs : List Call) → Sound (led (begun h w) cs)
+AlwaysSound = (h w : List ℕ) → length h ≡ allOctets → length w ≡ allOctets → (cs : List Call) → Sound (led (begun h w) cs)

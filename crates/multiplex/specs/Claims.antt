@@ -4,26 +4,25 @@
 --   IdleFails          one that serves the first payload and afterwards moves no octet does not
 --   RefuserFails       one that refuses everything does not
 --   goingTo n ns xs    of the octets xs, whose channels are ns, those of channel n
---   Orderly s h        arrays of their lengths; no place holds more than 1,024 octets, and only a segmentable channel holds any
 --   OctetsOnce         after an accepted payload each of its octets is in a finished unit or held, once, in order: on each channel what was
 --                      held and what came is what the finished units have and what is held then
 --   OrderKept          .. and the state is orderly again
 --
 -- Assumes nothing.
 use mathlib.Core.Path.{_≡_}
-use mathlib.Core.Bool.{Bool, false, cond}
+use mathlib.Core.Bool.{Bool, cond}
 use mathlib.Core.List.{List, [], _∷_, _++_, flatten}
-use Prim.Native.Nat.{ℕ, _≤_}
+use Prim.Native.Nat.{ℕ}
 use lib.Dec.{eqb}
 use lib.ListN.{length}
-use Rattle.adaptation.specs.Handed.{longest}
 use Rattle.calls.specs.Refusal.{leaving}
-use Rattle.table.specs.Slots.{pieces, channelsOf}
+use Rattle.table.specs.Slots.{payloadSlots, channelsOf}
 use Rattle.table.specs.Table.{entryOf}
-use Rattle.channels.specs.declared.Channels.{Channels}
-use Rattle.channels.specs.Channels.{placeOf, channelAt, heldOf}
-use Rattle.multiplex.specs.Demultiplexer.{Lent, demultiplexed}
-use Rattle.multiplex.specs.Runs.{unitsOn, unitsIn, Demand2, idle, refuser}
+use Rattle.channels.specs.Channels.{placeOf, heldOf}
+use Rattle.channels.specs.Claims.{Orderly}
+use Rattle.multiplex.specs.Demultiplexer.{DemuxLent, demultiplexed}
+use Rattle.multiplex.specs.Units.{unitsOn, unitsIn}
+use Rattle.multiplex.specs.Runs.{Demand2, idle, refuser}
 
 abbrev pub DemandMet : Type 0
 DemandMet = Demand2 (λ before. demultiplexed)
@@ -41,20 +40,14 @@ goingTo n [] xs = []
 goingTo n (m ∷ ns) [] = []
 goingTo n (m ∷ ns) (x ∷ xs) = cond (eqb m n) (x ∷ goingTo n ns xs) (goingTo n ns xs)
 
-pub record Orderly (s : Channels) (h : List ℕ) : Type 0 where
-  pub full : length (s .at) ≡ 16
-  pub room : length h ≡ 16384
-  pub bounded : (p : ℕ) → channelAt s p .held ≤ longest
-  pub whole : (p : ℕ) → channelAt s p .segmentable ≡ false → channelAt s p .held ≡ 0
-
 abbrev pub OctetsOnce : Type 0
 OctetsOnce =
-    (x y : Lent) (t : List ℕ) (c : ℕ) (mark : Bool) (xs : List ℕ) (k n : ℕ) → Orderly (x .channels) (x .held)
+    (x y : DemuxLent) (t : List ℕ) (c : ℕ) (mark : Bool) (xs : List ℕ) (k n : ℕ) → Orderly (x .channels) (x .held)
     → demultiplexed x t c mark xs ≡ leaving k y
-    → heldOf (x .channels) (x .held) (placeOf (x .channels) n) ++ goingTo n (channelsOf (pieces (entryOf t c) (length xs))) xs
+    → heldOf (x .channels) (x .held) (placeOf (x .channels) n) ++ goingTo n (channelsOf (payloadSlots (entryOf t c) (length xs))) xs
     ≡ flatten (unitsOn n (unitsIn (y .output) (y .units) k)) ++ heldOf (y .channels) (y .held) (placeOf (y .channels) n)
 
 abbrev pub OrderKept : Type 0
 OrderKept =
-    (x y : Lent) (t : List ℕ) (c : ℕ) (mark : Bool) (xs : List ℕ) (k : ℕ) → Orderly (x .channels) (x .held)
+    (x y : DemuxLent) (t : List ℕ) (c : ℕ) (mark : Bool) (xs : List ℕ) (k : ℕ) → Orderly (x .channels) (x .held)
     → demultiplexed x t c mark xs ≡ leaving k y → Orderly (y .channels) (y .held)

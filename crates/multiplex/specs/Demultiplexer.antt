@@ -7,14 +7,22 @@
 --   took r p x         .. with the octets x of one piece taken: they join what a segmentable channel holds; else they are a unit
 --   tookAll r l xs     .. with the octets xs taken, piece by piece
 --   closed r p         .. with what place p holds ended as a unit
+--   emptied r p        .. with nothing held at place p
 --   grown s p n        the channels after n octets came to place p
---   roomIn c n         n more octets would not take what c holds past 1,024
---   fits s l           no held unit passes 1,024 octets on the way
---   Lent               what a call is lent to write to: the channels, the octets held, the output and the list of units
+--   counted s p n      .. where the channel there is segmentable; else the channels as they are
+--   roomIn c n         n more octets would not take what c holds past the octets of a place
+--   hasRoom s p n      .. of the channel at place p
+--   fits s l           no held unit passes the octets of a place on the way
+--   DemuxLent          what a call is lent to write to: the channels, the octets held, the output and the list of units
+--   nothing            no octet has been taken yet
 --   delivery           what an accepted payload leads to
---   callTests, slotTests, pieceTests   what refuses it, in this order: of the call, its slots, and the pieces at their places
+--   tooSmall           the output or the list of units has less room than the finished octets and units need
+--   writes             what is left of what was lent, where the payload is accepted
+--   callTests, slotTests, pieceTests   what refuses it: of the call, its slots, and the pieces at their places
+--   demultiplexTests   .. all of these, in this order
+--   delivered, sorted  how the call ends, where only the last of these, and the last two, are looked at
 --   demultiplexed      how the call ends: with the number of finished units, or a refusal
---   ends               what an answer says, and what it leaves
+--   finishedSays       what an answer says
 --
 -- Assumes nothing.
 use mathlib.Core.Bool.{Bool, true, cond, not, _&&_, _||_}
@@ -23,16 +31,15 @@ use Prim.Native.Nat.{ℕ, _+_, _*_}
 use lib.Dec.{leb, ltb}
 use lib.ListN.{length, take, drop}
 use Rattle.octets.specs.Written.{written}
-use Rattle.calls.specs.Refusal.{Ended, leaving, refusing, Test, _when_, checked}
-use Rattle.adaptation.specs.Handed.{longest}
-use Rattle.table.specs.Slots.{Slot, endless, pieces, octetsOf}
-use Rattle.table.specs.Table.{entryOf, isDefined}
+use Rattle.calls.specs.Refusal.{Told, refused, told, Ended, leaving, refusing, Test, _when_, checked}
+use Rattle.table.specs.Slots.{Slot, payloadSlots, octetsOf, numbersOf}
+use Rattle.table.specs.Table.{longestPayload, entryOf, isDefined}
 use Rattle.channels.specs.declared.Channel.{Channel}
 use Rattle.channels.specs.declared.Channels.{Channels}
 use Rattle.multiplex.specs.declared.demultiplexer.Finished.{Finished}
 use Rattle.multiplex.specs.declared.demultiplexer.Finished.the-variants.{Units, Refused}
-use Rattle.channels.specs.Channels.{channelAt, put, holding, heldOf}
-use Rattle.multiplex.specs.Pieces.{Piece, placed, allOpen, lastPlace}
+use Rattle.channels.specs.Channels.{placeOctets, allOpen, channelAt, put, holding, heldOf}
+use Rattle.multiplex.specs.Pieces.{Piece, placed, lastPlace}
 
 pub record Delivery : Type 0 where
   pub channels : Channels
@@ -56,7 +63,7 @@ grown s p n = put s p (holding (channelAt s p) (channelAt s p .held + n))
 abbrev pub joined : Delivery → ℕ → List ℕ → Delivery
 joined r p x = record {
   channels = grown (r .channels) p (length x);
-  held = written (r .held) (longest * p + channelAt (r .channels) p .held) x;
+  held = written (r .held) (placeOctets * p + channelAt (r .channels) p .held) x;
   octets = r .octets;
   units = r .units;
   count = r .count;
@@ -87,7 +94,7 @@ abbrev pub counted : Channels → ℕ → ℕ → Channels
 counted s p n = cond (channelAt s p .segmentable) (grown s p n) s
 
 abbrev pub roomIn : Channel → ℕ → Bool
-roomIn c n = not (c .segmentable) || leb (c .held + n) longest
+roomIn c n = not (c .segmentable) || leb (c .held + n) placeOctets
 
 abbrev pub hasRoom : Channels → ℕ → ℕ → Bool
 hasRoom s p n = roomIn (channelAt s p) n
@@ -98,7 +105,7 @@ fits s (q ∷ l) = hasRoom s (q .place) (q .octets) && fits (counted s (q .place
 
 -- ---- the call
 
-pub record Lent : Type 0 where
+pub record DemuxLent : Type 0 where
   pub channels : Channels
   pub held : List ℕ
   pub output : List ℕ
@@ -113,8 +120,8 @@ delivery s h mark l xs = cond mark (closed (tookAll (nothing s h) l xs) (lastPla
 abbrev pub tooSmall : Delivery → (output units : List ℕ) → Bool
 tooSmall r output units = ltb (length output) (length (r .octets)) || ltb (length units) (length (r .units))
 
--- what behind the finished units stands in what was lent stays
-abbrev pub writes : Delivery → (output units : List ℕ) → Lent
+-- what stands past the finished octets and units in what was lent stays
+abbrev pub writes : Delivery → (output units : List ℕ) → DemuxLent
 writes r output units = record {
   channels = r .channels;
   held = r .held;
@@ -122,35 +129,39 @@ writes r output units = record {
   units = written units 0 (r .units);
 }
 
-abbrev pub pieceTests : Lent → (mark : Bool) → List Piece → List ℕ → List Test
+abbrev pub pieceTests : DemuxLent → (mark : Bool) → List Piece → List ℕ → List Test
 pieceTests x mark l xs =
     7 when (mark && not (channelAt (x .channels) (lastPlace l) .segmentable))
     ∷ 8 when not (fits (x .channels) l)
     ∷ 3 when tooSmall (delivery (x .channels) (x .held) mark l xs) (x .output) (x .units)
     ∷ []
 
-unfoldable pub delivered : Lent → (mark : Bool) → List Piece → List ℕ → Ended ℕ Lent
+unfoldable pub delivered : DemuxLent → (mark : Bool) → List Piece → List ℕ → Ended ℕ DemuxLent
 delivered x mark l xs =
     checked (refusing x) (pieceTests x mark l xs)
     (leaving (delivery (x .channels) (x .held) mark l xs .count) (writes (delivery (x .channels) (x .held) mark l xs) (x .output) (x .units)))
 
-abbrev pub slotTests : Lent → List Slot → List ℕ → List Test
-slotTests x l xs = 6 when ltb (octetsOf l) (length xs) ∷ 5 when not (allOpen (x .channels) l) ∷ []
+abbrev pub slotTests : DemuxLent → List Slot → List ℕ → List Test
+slotTests x l xs = 6 when ltb (octetsOf l) (length xs) ∷ 5 when not (allOpen (x .channels) (numbersOf l)) ∷ []
 
-unfoldable pub sorted : Lent → (mark : Bool) → List Slot → List ℕ → Ended ℕ Lent
+unfoldable pub sorted : DemuxLent → (mark : Bool) → List Slot → List ℕ → Ended ℕ DemuxLent
 sorted x mark l xs =
     checked (refusing x) (slotTests x l xs)
     (delivered x mark (placed (x .channels) l) xs)
 
 abbrev pub callTests : (table : List ℕ) → (code : ℕ) → List ℕ → List Test
-callTests t c xs = 2 when ltb endless (length xs) ∷ 4 when not (isDefined t c) ∷ []
+callTests t c xs = 2 when ltb longestPayload (length xs) ∷ 4 when not (isDefined t c) ∷ []
 
-unfoldable pub demultiplexed : Lent → (table : List ℕ) → (code : ℕ) → (mark : Bool) → List ℕ → Ended ℕ Lent
+abbrev pub demultiplexTests : DemuxLent → (table : List ℕ) → (code : ℕ) → (mark : Bool) → List ℕ → List Test
+demultiplexTests x t c mark xs =
+    let l = payloadSlots (entryOf t c) (length xs) in
+    callTests t c xs ++ slotTests x l xs ++ pieceTests x mark (placed (x .channels) l) xs
+
+unfoldable pub demultiplexed : DemuxLent → (table : List ℕ) → (code : ℕ) → (mark : Bool) → List ℕ → Ended ℕ DemuxLent
 demultiplexed x t c mark xs =
-    checked (refusing x) (callTests t c xs)
-    (sorted x mark (pieces (entryOf t c) (length xs)) xs)
+    let d = delivery (x .channels) (x .held) mark (placed (x .channels) (payloadSlots (entryOf t c) (length xs))) xs in
+    checked (refusing x) (demultiplexTests x t c mark xs) (leaving (d .count) (writes d (x .output) (x .units)))
 
--- what an answer says, and what it leaves
-abbrev pub ends : Finished → Lent → Ended ℕ Lent
-ends (Units n) x = leaving n x
-ends (Refused k) x = refusing x k
+abbrev pub finishedSays : Finished → Told ℕ
+finishedSays (Units n) = told n
+finishedSays (Refused k) = refused k

@@ -6,13 +6,21 @@
 --   moved c n         how many octets the slot takes
 --   left s p n        the channels after n waiting octets of place p were sent
 --   Walk              what a walk gives: the pieces that are sent, the closing mark, whether every channel reached is open, and the
---                     channels behind it
+--                     channels as it leaves them
+--   stopped s o       a walk that sends nothing
+--   pieceAt s p n     the piece that a slot of n octets at place p gives
+--   sending q r       the walk r with the piece q before it
+--   ending q s mark   a walk whose last piece is q
+--   visit s p n f     the slot of n octets at place p, with f the walk over the rest
 --   walked s l        the walk over the slots l
 --   gathered s w l    the octets of the pieces l, from those that wait
---   Lent              what is lent to write to: the channels and the payload
+--   MuxLent              what is lent to write to: the channels and the payload
 --   Payload           what is answered: how many octets the payload has, and its closing mark
+--   walkTests r       what refuses, by the walk r
+--   multiplexTests    .. and all that refuses, in this order
+--   packed            how the call ends, where only the walk is looked at
 --   multiplexed       how the call ends
---   ends              what an answer says, and what it leaves
+--   madeSays          what an answer says
 --
 -- Assumes nothing.
 use mathlib.Core.Bool.{Bool, true, false, cond, not, _&&_, _||_}
@@ -21,15 +29,15 @@ use Prim.Native.Nat.{ℕ, _-_, min}
 use lib.Dec.{ltb, eqb}
 use lib.ListN.{length, take}
 use Rattle.octets.specs.Written.{written}
-use Rattle.calls.specs.Refusal.{Ended, leaving, refusing, _when_, checked}
-use Rattle.table.specs.Slots.{Slot, endless, pieces}
-use Rattle.table.specs.Table.{entryOf, isDefined}
+use Rattle.calls.specs.Refusal.{Told, refused, told, Ended, leaving, refusing, Test, _when_, checked}
+use Rattle.table.specs.Slots.{Slot, payloadSlots}
+use Rattle.table.specs.Table.{longestPayload, entryOf, isDefined}
 use Rattle.channels.specs.declared.Channel.{Channel}
 use Rattle.channels.specs.declared.Channels.{Channels}
-use Rattle.multiplex.specs.declared.multiplexer.Sent.{Sent}
-use Rattle.multiplex.specs.declared.multiplexer.Sent.the-variants as says
+use Rattle.multiplex.specs.declared.multiplexer.Made.{Made}
+use Rattle.multiplex.specs.declared.multiplexer.Made.the-variants as made
 use Rattle.channels.specs.Channels.{channelAt, put, placeOf, isIn, waits, waiting, waitingOf}
-use Rattle.multiplex.specs.Pieces.{Piece, total}
+use Rattle.multiplex.specs.Pieces.{Piece, piece, total}
 
 abbrev pub isBlocked : Channel → ℕ → Bool
 isBlocked c n = eqb (waits c) 0 || (not (c .segmentable) && ltb n (waits c))
@@ -52,8 +60,8 @@ pub record Walk : Type 0 where
 abbrev pub stopped : Channels → Bool → Walk
 stopped s isOpen = record { pieces = []; mark = false; allOpen = isOpen; channels = s }
 
-abbrev pub piece : Channels → ℕ → ℕ → Piece
-piece s p n = record { place = p; octets = moved (channelAt s p) n }
+abbrev pub pieceAt : Channels → ℕ → ℕ → Piece
+pieceAt s p n = piece p (moved (channelAt s p) n)
 
 abbrev pub sending : Piece → Walk → Walk
 sending q r = record { pieces = q ∷ r .pieces; mark = r .mark; allOpen = r .allOpen; channels = r .channels }
@@ -67,8 +75,8 @@ abbrev pub visit : Channels → ℕ → ℕ → (Channels → Walk) → Walk
 visit s p n rest =
     cond (isBlocked (channelAt s p) n) (stopped s true)
     (cond (goesOn (channelAt s p) n)
-    (sending (piece s p n) (rest (left s p (moved (channelAt s p) n))))
-    (ending (piece s p n) (left s p (moved (channelAt s p) n)) (channelAt s p .segmentable)))
+    (sending (pieceAt s p n) (rest (left s p (moved (channelAt s p) n))))
+    (ending (pieceAt s p n) (left s p (moved (channelAt s p) n)) (channelAt s p .segmentable)))
 
 unfoldable pub walked : Channels → List Slot → Walk
 walked s [] = stopped s true
@@ -78,7 +86,7 @@ unfoldable pub gathered : Channels → List ℕ → List Piece → List ℕ
 gathered s w [] = []
 gathered s w (q ∷ l) = take (q .octets) (waitingOf s w (q .place)) ++ gathered (left s (q .place) (q .octets)) w l
 
-pub record Lent : Type 0 where
+pub record MuxLent : Type 0 where
   pub channels : Channels
   pub payload : List ℕ
 
@@ -86,18 +94,29 @@ pub record Payload : Type 0 where
   pub octets : ℕ
   pub mark : Bool
 
-unfoldable pub packed : Lent → (waiting : List ℕ) → Walk → Ended Payload Lent
+abbrev pub walkTests : Walk → List Test
+walkTests r = 5 when not (r .allOpen) ∷ 9 when eqb (total (r .pieces)) 0 ∷ []
+
+unfoldable pub packed : MuxLent → (waiting : List ℕ) → Walk → Ended Payload MuxLent
 packed x w r =
-    checked (refusing x) (5 when not (r .allOpen) ∷ 9 when eqb (total (r .pieces)) 0 ∷ [])
+    checked (refusing x) (walkTests r)
     (leaving (record { octets = total (r .pieces); mark = r .mark })
     (record { channels = r .channels; payload = written (x .payload) 0 (gathered (x .channels) w (r .pieces)) }))
 
-unfoldable pub multiplexed : Lent → (waiting table : List ℕ) → (code room : ℕ) → Ended Payload Lent
-multiplexed x w t c room =
-    checked (refusing x) (2 when ltb endless room ∷ 4 when not (isDefined t c) ∷ 3 when ltb (length (x .payload)) room ∷ [])
-    (packed x w (walked (x .channels) (pieces (entryOf t c) room)))
+abbrev pub multiplexTests : MuxLent → (table : List ℕ) → (code room : ℕ) → List Test
+multiplexTests x t c room =
+    2 when ltb longestPayload room
+    ∷ 4 when not (isDefined t c)
+    ∷ 3 when ltb (length (x .payload)) room
+    ∷ walkTests (walked (x .channels) (payloadSlots (entryOf t c) room))
 
--- what an answer says, and what it leaves
-abbrev pub ends : Sent → Lent → Ended Payload Lent
-ends (says.Payload n mark) x = leaving (record { octets = n; mark = mark }) x
-ends (says.Refused k) x = refusing x k
+unfoldable pub multiplexed : MuxLent → (waiting table : List ℕ) → (code room : ℕ) → Ended Payload MuxLent
+multiplexed x w t c room =
+    let r = walked (x .channels) (payloadSlots (entryOf t c) room) in
+    checked (refusing x) (multiplexTests x t c room)
+    (leaving (record { octets = total (r .pieces); mark = r .mark })
+    (record { channels = r .channels; payload = written (x .payload) 0 (gathered (x .channels) w (r .pieces)) }))
+
+abbrev pub madeSays : Made → Told Payload
+madeSays (made.Payload n mark) = told (record { octets = n; mark = mark })
+madeSays (made.Refused k) = refused k

@@ -1,24 +1,17 @@
 -- Sequences of calls at two ends, and the demand on them: what is sent is delivered.
 --
---   UnitOn             a unit, and the channel that it is on
---   unitsOn n l        the units of l that are on channel n, in order
---   unitsIn            the units that a call's records tell of, as they stand in its output: channel, start and length of each
 --   withoutLast l      l without its last unit
---   End                one end: its channels, the octets that wait there or are held there, and its table
 --   World              both ends, how many payloads came to the receiver, how many of them it refused, and the units that were posted and
 --                      accepted, and those that were delivered, in order
---   begin w h          both ends fresh, with any contents w and h of their octets
---   Event              opening n g         channel n is opened at both ends, segmentable or not
---                      replacing c s       entry c is replaced by s at both ends
---                      posting n u         unit u is posted on channel n
---                      paying c room ..    a payload of at most `room` octets is made under code c; where one is made, the receiver gets it
---   Demultiplexer      what may stand at the receiver: it may go by how many payloads came before
---   openedEnd, replacedEnd, atBoth   one end, and both, after an opening or a replacing
+--   begin              both ends fresh, with any contents of their octets
+--   Event              bothOpen n g       channel n is opened at both ends, segmentable or not
+--                      bothReplace c s    entry c is replaced by s at both ends
+--                      post n u           unit u is posted on channel n
+--                      pay c room ..      a payload of at most `room` octets is made under code c; where one is made, the receiver gets it
 --   added t f          what an answer adds to a list; a refusal adds nothing
 --   refusedOnce t      1 for a refusal, 0 for an answer
---   afterPost, afterPayload, afterNone, afterPaying   both ends after a post, a payload, none made, and either
---   paid, call         the sender's call, and the receiver's
---   step, run          one event, and one behind another
+--   atBoth, afterPost, afterPayload, afterMaking   both ends after a call at both, a post, a payload, and a call for one
+--   step, run          one event, and one behind another; the demultiplexer may go by how many payloads came before
 --   isWaiting s n      octets of channel n wait
 --   whollySent x n     the units posted on channel n, without the last if octets of it still wait
 --   Delivers x         no payload was refused, and on each channel the units delivered, in order, are those wholly sent
@@ -30,30 +23,14 @@ use mathlib.Core.Path.{_≡_}
 use mathlib.Core.Bool.{Bool, cond}
 use mathlib.Core.List.{List, [], _∷_, _++_}
 use Prim.Native.Nat.{ℕ, zero, suc, _+_, _≤_}
-use lib.Dec.{leb, eqb}
-use lib.ListN.{length, getD, take, drop, replicate}
+use lib.Dec.{leb}
+use lib.ListN.{length, take}
 use Rattle.calls.specs.Refusal.{Told, refused, told, Ended, leaving, refusing}
-use Rattle.table.specs.Table.{replaced}
 use Rattle.channels.specs.declared.Channels.{Channels}
-use Rattle.channels.specs.Channels.{start, placeOf, channelAt, opened, posted, Post}
-use Rattle.multiplex.specs.Demultiplexer.{Lent, demultiplexed}
-use Rattle.multiplex.specs.Multiplexer as sending
-use Rattle.multiplex.specs.Multiplexer.{Payload, multiplexed}
-
--- ---- units
-
-pub record UnitOn : Type 0 where
-  pub channel : ℕ
-  pub octets : List ℕ
-
-unfoldable pub unitsOn : ℕ → List UnitOn → List (List ℕ)
-unitsOn n [] = []
-unitsOn n (u ∷ l) = cond (eqb (u .channel) n) (u .octets ∷ unitsOn n l) (unitsOn n l)
-
-unfoldable pub unitsIn : (output units : List ℕ) → (count : ℕ) → List UnitOn
-unitsIn output units zero = []
-unitsIn output units (suc k) =
-    record { channel = getD units 0 0; octets = take (getD units 2 0) (drop (getD units 1 0) output) } ∷ unitsIn output (drop 3 units) k
+use Rattle.channels.specs.Channels.{allOctets, placeOf, channelAt}
+use Rattle.multiplex.specs.Demultiplexer.{demultiplexed}
+use Rattle.multiplex.specs.Units.{UnitOn, unitsOn, unitsIn, enoughOutput, enoughUnits}
+use Rattle.multiplex.specs.Calls.{Link, Call, opening, replacing, posting, multiplexing, demultiplexing, Answer, done, finished, made, sent, taken, Demultiplexer, calledBy, called, begun}
 
 unfoldable pub withoutLast : List (List ℕ) → List (List ℕ)
 withoutLast [] = []
@@ -62,47 +39,30 @@ withoutLast (u ∷ v ∷ l) = u ∷ withoutLast (v ∷ l)
 
 -- ---- the two ends
 
-pub record End : Type 0 where
-  pub channels : Channels
-  pub octets : List ℕ
-  pub table : List ℕ
-
 pub record World : Type 0 where
-  pub sender : End
-  pub receiver : End
+  pub sender : Link
+  pub receiver : Link
   pub payloads : ℕ
   pub refusals : ℕ
   pub posted : List UnitOn
   pub delivered : List UnitOn
 
-abbrev pub fresh : List ℕ → End
-fresh l = record { channels = start; octets = l; table = replicate 1455 0 }
-
-abbrev pub begin : (waiting held : List ℕ) → World
-begin w h = record { sender = fresh w; receiver = fresh h; payloads = 0; refusals = 0; posted = []; delivered = [] }
+-- each end has octets that it holds and octets that wait
+abbrev pub begin : (h w h′ w′ : List ℕ) → World
+begin h w h′ w′ = record { sender = begun h w; receiver = begun h′ w′; payloads = 0; refusals = 0; posted = []; delivered = [] }
 
 -- ---- events
 
--- an output of 1,279 octets has room for a unit that was held and a payload's other octets, and 765 numbers for the records of 255 units
 pub data Event : Type 0 where
-  opening : (n : ℕ) → (segmentable : Bool) → Event
-  replacing : (code : ℕ) → (entry : List ℕ) → Event
-  posting : (n : ℕ) → (unit : List ℕ) → Event
-  paying : (code room : ℕ) → (payload output units : List ℕ) → 1279 ≤ length output → 765 ≤ length units → Event
+  bothOpen : (n : ℕ) → (segmentable : Bool) → Event
+  bothReplace : (code : ℕ) → (entry : List ℕ) → Event
+  post : (n : ℕ) → (unit : List ℕ) → Event
+  pay : (code room : ℕ) → (payload output units : List ℕ) → enoughOutput ≤ length output → enoughUnits ≤ length units → Event
 
-abbrev pub Demultiplexer : Type 0
-Demultiplexer = (before : ℕ) → Lent → (table : List ℕ) → (code : ℕ) → (mark : Bool) → List ℕ → Ended ℕ Lent
-
-abbrev pub openedEnd : End → ℕ → Bool → End
-openedEnd e n g = record { channels = opened (e .channels) n g .left; octets = e .octets; table = e .table }
-
-abbrev pub replacedEnd : End → ℕ → List ℕ → End
-replacedEnd e c s = record { channels = e .channels; octets = e .octets; table = replaced (e .table) c s .left }
-
-abbrev pub atBoth : World → (End → End) → World
-atBoth x f = record {
-  sender = f (x .sender);
-  receiver = f (x .receiver);
+abbrev pub atBoth : World → Call → World
+atBoth x c = record {
+  sender = called (x .sender) c .left;
+  receiver = called (x .receiver) c .left;
   payloads = x .payloads;
   refusals = x .refusals;
   posted = x .posted;
@@ -113,9 +73,9 @@ abbrev pub added : {A B : Type 0} → Told A → (A → List B) → List B
 added (refused k) f = []
 added (told a) f = f a
 
-abbrev pub afterPost : World → UnitOn → Ended (Unit {0}) Post → World
+abbrev pub afterPost : World → UnitOn → Ended Answer Link → World
 afterPost x u r = record {
-  sender = record { channels = r .left .channels; octets = r .left .octets; table = x .sender .table };
+  sender = r .left;
   receiver = x .receiver;
   payloads = x .payloads;
   refusals = x .refusals;
@@ -127,21 +87,29 @@ abbrev pub refusedOnce : {A : Type 0} → Told A → ℕ
 refusedOnce (refused k) = 1
 refusedOnce (told a) = 0
 
--- the sender's channels are s, and the receiver's call has ended
-abbrev pub afterPayload : World → Channels → Ended ℕ Lent → World
+-- the units of an answer to a payload
+abbrev pub unitsTold : Answer → List UnitOn
+unitsTold done = []
+unitsTold (finished k output units) = unitsIn output units k
+unitsTold (made p payload) = []
+unitsTold (sent k output) = []
+unitsTold (taken r) = []
+
+-- the sender has been left as s, and the receiver's call has ended
+abbrev pub afterPayload : World → Link → Ended Answer Link → World
 afterPayload x s r = record {
-  sender = record { channels = s; octets = x .sender .octets; table = x .sender .table };
-  receiver = record { channels = r .left .channels; octets = r .left .held; table = x .receiver .table };
+  sender = s;
+  receiver = r .left;
   payloads = x .payloads + 1;
   refusals = x .refusals + refusedOnce (r .answer);
   posted = x .posted;
-  delivered = x .delivered ++ added (r .answer) (unitsIn (r .left .output) (r .left .units));
+  delivered = x .delivered ++ added (r .answer) unitsTold;
 }
 
 -- no payload was made
-abbrev pub afterNone : World → Channels → World
+abbrev pub afterNone : World → Link → World
 afterNone x s = record {
-  sender = record { channels = s; octets = x .sender .octets; table = x .sender .table };
+  sender = s;
   receiver = x .receiver;
   payloads = x .payloads;
   refusals = x .refusals;
@@ -149,28 +117,25 @@ afterNone x s = record {
   delivered = x .delivered;
 }
 
--- the receiver's call: the payload is the first octets of what the sender was lent
-abbrev pub call : Demultiplexer → World → (code : ℕ) → (output units : List ℕ) → Payload → List ℕ → Ended ℕ Lent
-call D x c output units p payload =
-    D (x .payloads) (record { channels = x .receiver .channels; held = x .receiver .octets; output = output; units = units }) (x .receiver .table) c (p .mark)
-    (take (p .octets) payload)
+-- the receiver's payload is the first octets of what the sender was lent
+abbrev pub afterMaking : (ℕ → Demultiplexer) → World → (code : ℕ) → (output units : List ℕ) → Told Answer → Link → World
+afterMaking D x c output units (refused k) s = afterNone x s
+afterMaking D x c output units (told done) s = afterNone x s
+afterMaking D x c output units (told (finished k o u)) s = afterNone x s
+afterMaking D x c output units (told (made p payload)) s =
+    afterPayload x s (calledBy (D (x .payloads)) (x .receiver) (demultiplexing c (p .mark) (take (p .octets) payload) output units))
+afterMaking D x c output units (told (sent k o)) s = afterNone x s
+afterMaking D x c output units (told (taken r)) s = afterNone x s
 
-abbrev pub afterPaying : Demultiplexer → World → (code : ℕ) → (output units : List ℕ) → Told Payload → sending.Lent → World
-afterPaying D x c output units (refused k) y = afterNone x (y .channels)
-afterPaying D x c output units (told p) y = afterPayload x (y .channels) (call D x c output units p (y .payload))
+unfoldable pub step : (ℕ → Demultiplexer) → World → Event → World
+step D x (bothOpen n g) = atBoth x (opening n g)
+step D x (bothReplace c s) = atBoth x (replacing c s)
+step D x (post n u) = afterPost x (record { channel = n; octets = u }) (called (x .sender) (posting n u))
+step D x (pay c room payload output units m k) =
+    let r = called (x .sender) (multiplexing c room payload) in
+    afterMaking D x c output units (r .answer) (r .left)
 
-abbrev pub paid : World → (code room : ℕ) → (payload : List ℕ) → Ended Payload sending.Lent
-paid x c room payload =
-    multiplexed (record { channels = x .sender .channels; payload = payload }) (x .sender .octets) (x .sender .table) c room
-
-unfoldable pub step : Demultiplexer → World → Event → World
-step D x (opening n g) = atBoth x (λ e. openedEnd e n g)
-step D x (replacing c s) = atBoth x (λ e. replacedEnd e c s)
-step D x (posting n u) = afterPost x (record { channel = n; octets = u }) (posted (x .sender .channels) (x .sender .octets) n u)
-step D x (paying c room payload output units m k) =
-    afterPaying D x c output units (paid x c room payload .answer) (paid x c room payload .left)
-
-unfoldable pub run : Demultiplexer → World → List Event → World
+unfoldable pub run : (ℕ → Demultiplexer) → World → List Event → World
 run D x [] = x
 run D x (e ∷ es) = run D (step D x e) es
 
@@ -186,14 +151,15 @@ pub record Delivers (x : World) : Type 0 where
   pub unrefused : x .refusals ≡ 0
   pub complete : (n : ℕ) → unitsOn n (x .delivered) ≡ whollySent x n
 
-abbrev pub Demand2 : Demultiplexer → Type 0
-Demand2 D = (w h : List ℕ) → length w ≡ 16384 → length h ≡ 16384 → (es : List Event) → Delivers (run D (begin w h) es)
+abbrev pub Demand2 : (ℕ → Demultiplexer) → Type 0
+Demand2 D =
+    (h w h′ w′ : List ℕ) → length w ≡ allOctets → length h′ ≡ allOctets → (es : List Event) → Delivers (run D (begin h w h′ w′) es)
 
 -- it serves the first payload; afterwards it accepts, and moves no octet
-abbrev pub idle : Demultiplexer
+abbrev pub idle : ℕ → Demultiplexer
 idle zero = demultiplexed
 idle (suc k) = λ x t c mark xs. leaving 0 x
 
 -- it refuses everything, each time with number k
-abbrev pub refuser : ℕ → Demultiplexer
+abbrev pub refuser : ℕ → ℕ → Demultiplexer
 refuser k before x t c mark xs = refusing x k

@@ -8,13 +8,12 @@
 --   tallied t l        .. with the pieces l
 --   closes t mark p    .. with what place p holds ended as a unit, where the mark is set
 --   Draft              a tally, the octets held, the output and the list of units, as far as they are written
---   entry n a b        what is noted of a unit: its channel, start and length
 --   noted, gained      .. with one more finished unit, and with octets joined to what is held
 --   heldWith, outputWith, unitsWith   what is held, the output and the list of units with the octets x of one piece written
 --   puts w p x         the draft w with the octets x of one piece written to where they belong
 --   putsAll w l xs     .. with the octets xs, piece by piece
 --   ends w mark p      .. with what place p holds ended as a unit, where the mark is set
---   Within ps          every place of ps is one of the 16
+--   AllPlaces ps          every number of ps is a place
 --
 -- Assumes nothing.
 use mathlib.Core.Bool.{Bool, cond}
@@ -22,13 +21,13 @@ use mathlib.Core.List.{List, [], _∷_}
 use Prim.Native.Nat.{ℕ, _+_, _*_, _<_}
 use lib.ListN.{length, getD, take, drop}
 use Rattle.octets.specs.Written.{written}
-use Rattle.adaptation.specs.Handed.{longest}
 use Rattle.channels.specs.declared.Channel.{Channel}
 use Rattle.channels.specs.declared.Channels.{Channels}
 use Rattle.multiplex.specs.declared.demultiplexer.Tally.{Tally}
-use Rattle.channels.specs.Channels.{places, channelAt, put, holding, heldOf}
+use Rattle.channels.specs.Channels.{placeCount, channelAt, put, holding, heldOf, placeOctets}
 use Rattle.multiplex.specs.Pieces.{Piece}
 use Rattle.multiplex.specs.Demultiplexer.{grown}
+use Rattle.multiplex.specs.Units.{listed}
 
 abbrev pub noTally : Channels → Tally
 noTally s = record { channels = s; octets = 0; units = 0 }
@@ -71,36 +70,33 @@ pub record Draft : Type 0 where
   pub output : List ℕ
   pub units : List ℕ
 
-abbrev pub entry : (channel start len : ℕ) → List ℕ
-entry n a b = n ∷ a ∷ b ∷ []
-
 -- one more finished unit u, of channel n; t is the tally with it
 abbrev pub noted : Draft → Tally → (n : ℕ) → List ℕ → Draft
 noted w t n u = record {
   tally = t;
   held = w .held;
   output = written (w .output) (w .tally .octets) u;
-  units = written (w .units) (3 * w .tally .units) (entry n (w .tally .octets) (length u));
+  units = written (w .units) (3 * w .tally .units) (listed n (w .tally .octets) (length u));
 }
 
 -- x joined to what place p holds; t is the tally with it
 abbrev pub gained : Draft → Tally → (p : ℕ) → List ℕ → Draft
 gained w t p x = record {
   tally = t;
-  held = written (w .held) (longest * p + channelAt (w .tally .channels) p .held) x;
+  held = written (w .held) (placeOctets * p + channelAt (w .tally .channels) p .held) x;
   output = w .output;
   units = w .units;
 }
 
 -- .. by the channel alone
 abbrev pub heldWith : Channel → (p : ℕ) → (held x : List ℕ) → List ℕ
-heldWith c p held x = cond (c .segmentable) (written held (longest * p + c .held) x) held
+heldWith c p held x = cond (c .segmentable) (written held (placeOctets * p + c .held) x) held
 
 abbrev pub outputWith : Channel → (octets : ℕ) → (output x : List ℕ) → List ℕ
 outputWith c octets output x = cond (c .segmentable) output (written output octets x)
 
 abbrev pub unitsWith : Channel → (octets count : ℕ) → (units x : List ℕ) → List ℕ
-unitsWith c octets count units x = cond (c .segmentable) units (written units (3 * count) (entry (c .number) octets (length x)))
+unitsWith c octets count units x = cond (c .segmentable) units (written units (3 * count) (listed (c .number) octets (length x)))
 
 unfoldable pub puts : Draft → (p : ℕ) → List ℕ → Draft
 puts w p x =
@@ -115,5 +111,5 @@ unfoldable pub ends : Draft → (mark : Bool) → (p : ℕ) → Draft
 ends w mark p =
     cond mark (noted w (closing (w .tally) p) (channelAt (w .tally .channels) p .number) (heldOf (w .tally .channels) (w .held) p)) w
 
-abbrev pub Within : List ℕ → Type 0
-Within ps = (j : ℕ) → j < length ps → getD ps j 0 < places
+abbrev pub AllPlaces : List ℕ → Type 0
+AllPlaces ps = (j : ℕ) → j < length ps → getD ps j 0 < placeCount

@@ -1,22 +1,27 @@
 // The demultiplexer: every check first, by value; then the writes.
-use adaptation::LONGEST;
+use channels::ALL_OCTETS;
 use channels::Channel;
 use channels::Channels;
+use channels::PLACE_OCTETS;
+use channels::PLACES;
 use channels::places::find;
 use table::Code;
-use table::PAYLOAD;
+use table::LONGEST_PAYLOAD;
+use table::TABLE_NUMBERS;
 ghost use mathlib.Core.Path.{_≡_};
 ghost use mathlib.Core.Bool.{true, not, _&&_};
 ghost use Prim.Native.Nat.{_+_, _*_, _-_, _≤_, _<_};
 ghost use lib.ListN.{length, getD};
 ghost use Rattle.octets.specs.Written.{written};
-ghost use Rattle.table.specs.Slots.{pieces};
-ghost use Rattle.table.specs.Table.{entryOf};
-ghost use Rattle.channels.specs.Channels.{channelAt};
+ghost use Rattle.calls.specs.Refusal.{ended};
+ghost use Rattle.table.specs.Slots.{payloadSlots};
+ghost use Rattle.table.specs.Table.{highestCode, longestPayload, entryOf};
+ghost use Rattle.channels.specs.Channels.{placeCount, placeOctets, allOctets, channelAt};
 ghost use Rattle.multiplex.specs.Pieces.{laid, total};
 ghost use Rattle.multiplex.specs.Demultiplexer as the;
-ghost use Rattle.multiplex.specs.Demultiplexer.{roomIn, delivered, sorted, demultiplexed};
-ghost use Rattle.multiplex.specs.Tally.{noTally, joins, atOnce, tallied, closes, entry, heldWith, outputWith, unitsWith, putsAll, ends, Within};
+ghost use Rattle.multiplex.specs.Demultiplexer.{roomIn, delivered, sorted, demultiplexed, finishedSays};
+ghost use Rattle.multiplex.specs.Tally.{noTally, joins, atOnce, tallied, closes, heldWith, outputWith, unitsWith, putsAll, ends, AllPlaces};
+ghost use Rattle.multiplex.specs.Units.{listed};
 
 // How many units are finished, or document 01's refusal number.
 pub enum Finished {
@@ -24,7 +29,7 @@ pub enum Finished {
     Refused(u8),
 }
 
-// What a payload is answered with, and the channels behind it.
+// What a payload is answered with, and the channels as the call leaves them.
 pub struct Delivered {
     pub finished: Finished,
     pub channels: Channels,
@@ -37,7 +42,7 @@ pub struct Tally {
     pub units: usize,
 }
 
-// Whether every held unit stays within 1,024 octets, and then the tally of all pieces.
+// Whether every held unit stays within the octets of a place, and then the tally of all pieces.
 pub struct Counted {
     pub fits: bool,
     pub tally: Tally,
@@ -58,7 +63,7 @@ fn has_room(c: Channel, n: u16) -> bool
     ensures { λ r. ⌜ r ≡ roomIn c n ⌝ }
 {
     if c.segmentable {
-        c.held as usize + n as usize <= LONGEST
+        c.held as usize + n as usize <= PLACE_OCTETS
     } else {
         true
     }
@@ -97,7 +102,7 @@ fn told(fits: bool, channels: Channels, octets: usize, units: usize) -> Counted
 
 // The dry run: every piece, by value.
 fn count_all(s: Channels, places: &[u16], lengths: &[u16]) -> Counted
-    requires { ⌜ Within (now places) × (length (now places) ≡ length (now lengths)) × (length (now places) ≤ 255) ⌝ }
+    requires { ⌜ AllPlaces (now places) × (length (now places) ≡ length (now lengths)) × (length (now places) ≤ longestPayload) ⌝ }
     ensures { λ r. ⌜ (r .fits ≡ the.fits s (laid (now (places .entry)) (now (lengths .entry))))
         × (r .fits ≡ true → r .tally ≡ tallied (noTally s) (laid (now (places .entry)) (now (lengths .entry)))) ⌝ }
 {
@@ -124,7 +129,7 @@ fn count_all(s: Channels, places: &[u16], lengths: &[u16]) -> Counted
 // Writes down a finished unit: its channel, start and length.
 fn note(units: &mut [u16], at: usize, channel: u16, start: usize, len: usize)
     requires { ⌜ (at + 3 ≤ length (now units)) × (start < 65536) × (len < 65536) ⌝ }
-    ensures { λ _. ⌜ now (units .exit) ≡ written (now (units .entry)) at (entry channel start len) ⌝ }
+    ensures { λ _. ⌜ now (units .exit) ≡ written (now (units .entry)) at (listed channel start len) ⌝ }
 {
     units[at] = channel;
     units[at + 1] = start as u16;
@@ -143,14 +148,14 @@ fn put(
     units: &mut [u16],
     x: &[u8],
 )
-    requires { ⌜ (p < 16) × (length (now x) ≤ 255) × (roomIn c (length (now x)) ≡ true) × (octets < 65536) × (count < 65536)
-        × (octets + atOnce c (length (now x)) ≤ length (now output)) × (3 * (count + atOnce c 1) ≤ length (now units)) × (length (now held) ≡ 16384) ⌝ }
+    requires { ⌜ (p < placeCount) × (length (now x) ≤ longestPayload) × (roomIn c (length (now x)) ≡ true) × (octets < 65536) × (count < 65536)
+        × (octets + atOnce c (length (now x)) ≤ length (now output)) × (3 * (count + atOnce c 1) ≤ length (now units)) × (length (now held) ≡ allOctets) ⌝ }
     ensures { λ _. ⌜ (now (held .exit) ≡ heldWith c p (now (held .entry)) (now (x .entry)))
         × (now (output .exit) ≡ outputWith c octets (now (output .entry)) (now (x .entry)))
         × (now (units .exit) ≡ unitsWith c octets count (now (units .entry)) (now (x .entry))) ⌝ }
 {
     if c.segmentable {
-        octets::write(held, LONGEST * p + c.held as usize, x);
+        octets::write(held, PLACE_OCTETS * p + c.held as usize, x);
     } else {
         octets::write(output, octets, x);
         note(units, 3 * count, c.number, octets, x.len());
@@ -167,10 +172,10 @@ fn pour(
     output: &mut [u8],
     units: &mut [u16],
 ) -> Tally
-    requires { ⌜ Within (now places) × (length (now places) ≡ length (now lengths)) × (the.fits s (laid (now places) (now lengths)) ≡ true)
-        × (total (laid (now places) (now lengths)) ≤ length (now payload)) × (length (now payload) ≤ 255) × (length (now places) ≤ 255)
+    requires { ⌜ AllPlaces (now places) × (length (now places) ≡ length (now lengths)) × (the.fits s (laid (now places) (now lengths)) ≡ true)
+        × (total (laid (now places) (now lengths)) ≤ length (now payload)) × (length (now payload) ≤ longestPayload) × (length (now places) ≤ longestPayload)
         × (tallied (noTally s) (laid (now places) (now lengths)) .octets ≤ length (now output))
-        × (3 * tallied (noTally s) (laid (now places) (now lengths)) .units ≤ length (now units)) × (length (now held) ≡ 16384) ⌝ }
+        × (3 * tallied (noTally s) (laid (now places) (now lengths)) .units ≤ length (now units)) × (length (now held) ≡ allOctets) ⌝ }
     ensures { λ r. ⌜ record { tally = r; held = now (held .exit); output = now (output .exit); units = now (units .exit) }
         ≡ putsAll (record { tally = noTally s; held = now (held .entry); output = now (output .entry); units = now (units .entry) })
         (laid (now (places .entry)) (now (lengths .entry))) (now (payload .entry)) ⌝ }
@@ -201,7 +206,7 @@ fn pour(
 
 // Ends the unit that place p holds, where the mark is set, by value.
 fn close(t: Tally, mark: bool, p: usize) -> Tally
-    requires { ⌜ (mark ≡ true → p < 16) × (t .octets < 65536) × (t .units < 65536) ⌝ }
+    requires { ⌜ (mark ≡ true → p < placeCount) × (t .octets < 65536) × (t .units < 65536) ⌝ }
     ensures { λ r. ⌜ r ≡ closes t mark p ⌝ }
 {
     if mark {
@@ -228,7 +233,7 @@ fn finish(
     units: &mut [u16],
     p: usize,
 ) -> Tally
-    requires { ⌜ (length (now held) ≡ 16384) × (mark ≡ true → (p < 16) × (channelAt (t .channels) p .held ≤ 1024)) × (t .octets < 65536) × (t .units < 65536)
+    requires { ⌜ (length (now held) ≡ allOctets) × (mark ≡ true → (p < placeCount) × (channelAt (t .channels) p .held ≤ placeOctets)) × (t .octets < 65536) × (t .units < 65536)
         × (closes t mark p .octets ≤ length (now output)) × (3 * closes t mark p .units ≤ length (now units)) ⌝ }
     ensures { λ r. ⌜ record { tally = r; held = now (held .entry); output = now (output .exit); units = now (units .exit) }
         ≡ ends (record { tally = t; held = now (held .entry); output = now (output .entry); units = now (units .entry) }) mark p ⌝ }
@@ -236,7 +241,7 @@ fn finish(
     if mark {
         let s = t.channels;
         let c = s.at[p];
-        let from = LONGEST * p;
+        let from = PLACE_OCTETS * p;
         let end = from + c.held as usize;
         let at = t.octets;
         octets::write(output, at, &held[from..end]);
@@ -246,13 +251,13 @@ fn finish(
     t
 }
 
-// The place of the last piece, or 16.
+// The place of the last piece, or how many places there are.
 fn last_place(places: &[u16]) -> usize
-    ensures { λ r. ⌜ r ≡ getD (now (places .entry)) (length (now (places .entry)) - 1) 16 ⌝ }
+    ensures { λ r. ⌜ r ≡ getD (now (places .entry)) (length (now (places .entry)) - 1) placeCount ⌝ }
 {
     let n = places.len();
     if n == 0 {
-        return 16;
+        return PLACES;
     }
     places[n - 1] as usize
 }
@@ -262,7 +267,7 @@ fn has_wrong_mark(s: Channels, mark: bool, p: usize) -> bool
     ensures { λ r. ⌜ r ≡ (mark && not (channelAt s p .segmentable)) ⌝ }
 {
     if mark {
-        if p < 16 {
+        if p < PLACES {
             let c = s.at[p];
             if c.segmentable {
                 return false;
@@ -284,10 +289,10 @@ fn deliver(
     output: &mut [u8],
     units: &mut [u16],
 ) -> Delivered
-    requires { ⌜ Within (now places) × (length (now places) ≡ length (now lengths)) × (length (now places) ≤ 255)
-        × (total (laid (now places) (now lengths)) ≤ length (now payload)) × (length (now payload) ≤ 255)
-        × (length (now held) ≡ 16384) ⌝ }
-    ensures { λ r. ⌜ the.ends (r .finished) (record { channels = r .channels; held = now (held .exit); output = now (output .exit); units = now (units .exit) })
+    requires { ⌜ AllPlaces (now places) × (length (now places) ≡ length (now lengths)) × (length (now places) ≤ longestPayload)
+        × (total (laid (now places) (now lengths)) ≤ length (now payload)) × (length (now payload) ≤ longestPayload)
+        × (length (now held) ≡ allOctets) ⌝ }
+    ensures { λ r. ⌜ ended (finishedSays (r .finished)) (record { channels = r .channels; held = now (held .exit); output = now (output .exit); units = now (units .exit) })
         ≡ delivered (record { channels = s; held = now (held .entry); output = now (output .entry); units = now (units .entry) })
         mark (laid (now (places .entry)) (now (lengths .entry))) (now (payload .entry)) ⌝ }
 {
@@ -318,21 +323,21 @@ fn deliver(
 fn sort(
     s: Channels,
     held: &mut [u8],
-    table: &[u16; 1455],
+    table: &[u16; TABLE_NUMBERS],
     code: Code,
     mark: bool,
     payload: &[u8],
     output: &mut [u8],
     units: &mut [u16],
 ) -> Delivered
-    requires { ⌜ (length (now payload) ≤ 255) × (code .0 ≤ 15) × (length (now held) ≡ 16384) ⌝ }
-    ensures { λ r. ⌜ the.ends (r .finished) (record { channels = r .channels; held = now (held .exit); output = now (output .exit); units = now (units .exit) })
+    requires { ⌜ (length (now payload) ≤ longestPayload) × (code .0 ≤ highestCode) × (length (now held) ≡ allOctets) ⌝ }
+    ensures { λ r. ⌜ ended (finishedSays (r .finished)) (record { channels = r .channels; held = now (held .exit); output = now (output .exit); units = now (units .exit) })
         ≡ sorted (record { channels = s; held = now (held .entry); output = now (output .entry); units = now (units .entry) })
-        mark (pieces (entryOf (now (table .entry)) (code .0)) (length (now (payload .entry)))) (now (payload .entry)) ⌝ }
+        mark (payloadSlots (entryOf (now (table .entry)) (code .0)) (length (now (payload .entry)))) (now (payload .entry)) ⌝ }
 {
-    let mut places = [0u16; PAYLOAD];
-    let mut lengths = [0u16; PAYLOAD];
-    let laid = table::pieces(table, code, payload.len(), &mut places, &mut lengths);
+    let mut places = [0u16; LONGEST_PAYLOAD];
+    let mut lengths = [0u16; LONGEST_PAYLOAD];
+    let laid = table::payload_slots(table, code, payload.len(), &mut places, &mut lengths);
     if 0 < laid.left {
         return refused(s, 6);
     }
@@ -356,19 +361,19 @@ fn sort(
 // front of output; of each, its channel, start and length stand in units.
 pub fn demultiplex(
     s: Channels,
-    held: &mut [u8; 16384],
-    table: &[u16; 1455],
+    held: &mut [u8; ALL_OCTETS],
+    table: &[u16; TABLE_NUMBERS],
     code: Code,
     mark: bool,
     payload: &[u8],
     output: &mut [u8],
     units: &mut [u16],
 ) -> Delivered
-    ensures { λ r. ⌜ the.ends (r .finished) (record { channels = r .channels; held = now (held .exit); output = now (output .exit); units = now (units .exit) })
+    ensures { λ r. ⌜ ended (finishedSays (r .finished)) (record { channels = r .channels; held = now (held .exit); output = now (output .exit); units = now (units .exit) })
         ≡ demultiplexed (record { channels = s; held = now (held .entry); output = now (output .entry); units = now (units .entry) })
         (now (table .entry)) (code .0) mark (now (payload .entry)) ⌝ }
 {
-    if PAYLOAD < payload.len() {
+    if LONGEST_PAYLOAD < payload.len() {
         return refused(s, 2);
     }
     if table::is_defined(table, code) {

@@ -1,31 +1,35 @@
 // The multiplexer: the walk first, by value; then the writes.
-use adaptation::LONGEST;
+use channels::ALL_OCTETS;
 use channels::Channel;
 use channels::Channels;
+use channels::PLACE_OCTETS;
+use channels::PLACES;
 use channels::places::numbers_of;
 use channels::places::seek;
 use table::Code;
-use table::PAYLOAD;
+use table::LONGEST_PAYLOAD;
+use table::TABLE_NUMBERS;
 ghost use mathlib.Core.Path.{_≡_};
 ghost use Prim.Native.Nat.{_-_, _≤_};
 ghost use lib.ListN.{length, take};
 ghost use Rattle.octets.specs.Written.{written};
+ghost use Rattle.calls.specs.Refusal.{ended};
 ghost use Rattle.channels.specs.Channels as the;
 ghost use Rattle.multiplex.specs.Pieces.{laid, total};
-ghost use Rattle.table.specs.Slots.{pieces};
-ghost use Rattle.table.specs.Table.{entryOf};
-ghost use Rattle.multiplex.specs.Multiplexer.{walked, gathered, packed, multiplexed, ends};
+ghost use Rattle.table.specs.Slots.{payloadSlots};
+ghost use Rattle.table.specs.Table.{highestCode, longestPayload, entryOf};
+ghost use Rattle.multiplex.specs.Multiplexer.{walked, gathered, packed, multiplexed, madeSays};
 ghost use Rattle.multiplex.specs.Walks.{turned, slotted, Sendable, WalkIs};
 
 // A payload's octets and closing mark, or document 01's refusal number.
-pub enum Sent {
+pub enum Made {
     Payload { octets: usize, mark: bool },
     Refused(u8),
 }
 
-// What a call for a payload is answered with, and the channels behind it.
-pub struct Sending {
-    pub sent: Sent,
+// What a call for a payload is answered with, and the channels as the call leaves them.
+pub struct Multiplexed {
+    pub made: Made,
     pub channels: Channels,
 }
 
@@ -50,8 +54,8 @@ fn waits(c: Channel) -> usize
     ensures { λ r. ⌜ r ≡ the.waits c ⌝ }
 {
     let n = c.waiting as usize;
-    if LONGEST < n {
-        return LONGEST;
+    if PLACE_OCTETS < n {
+        return PLACE_OCTETS;
     }
     n
 }
@@ -104,7 +108,7 @@ fn ended(count: usize, octets: usize, mark: bool, all_open: bool, channels: Chan
 
 // Walks over the first n slots, and puts the places and octets of the pieces that are sent instead of them.
 fn walk(s: Channels, n: usize, numbers: &mut [u16], lengths: &mut [u16]) -> Walked
-    requires { ⌜ (n ≤ 255) × (n ≤ length (now numbers)) × (n ≤ length (now lengths)) ⌝ }
+    requires { ⌜ (n ≤ longestPayload) × (n ≤ length (now numbers)) × (n ≤ length (now lengths)) ⌝ }
     ensures { λ r. ⌜ WalkIs (walked s (slotted (take n (now (numbers .entry))) (take n (now (lengths .entry))))) r (now (numbers .exit)) (now (lengths .exit)) ⌝ }
 {
     let seats = numbers_of(s);
@@ -114,7 +118,7 @@ fn walk(s: Channels, n: usize, numbers: &mut [u16], lengths: &mut [u16]) -> Walk
     while j < n {
         let number = numbers[j];
         let p = seek(&seats, number as u32);
-        if 16 <= p {
+        if PLACES <= p {
             return ended(j, octets, false, false, cur);
         }
         let c = cur.at[p];
@@ -150,7 +154,7 @@ fn gather(
     lengths: &[u16],
     payload: &mut [u8],
 )
-    requires { ⌜ (length (now waiting) ≡ 16384) × (n ≤ length (now places)) × (n ≤ length (now lengths)) × Sendable s (laid (take n (now places)) (take n (now lengths))) × (total (laid (take n (now places)) (take n (now lengths))) ≤ length (now payload)) ⌝ }
+    requires { ⌜ (length (now waiting) ≡ the.allOctets) × (n ≤ length (now places)) × (n ≤ length (now lengths)) × Sendable s (laid (take n (now places)) (take n (now lengths))) × (total (laid (take n (now places)) (take n (now lengths))) ≤ length (now payload)) ⌝ }
     ensures { λ _. ⌜ now (payload .exit) ≡ written (now (payload .entry)) 0 (gathered s (now (waiting .entry)) (laid (take n (now (places .entry))) (take n (now (lengths .entry))))) ⌝ }
 {
     let mut cur = s;
@@ -160,7 +164,7 @@ fn gather(
         let p = places[j] as usize;
         let k = lengths[j] as usize;
         let c = cur.at[p];
-        let from = LONGEST * p + (LONGEST - waits(c));
+        let from = PLACE_OCTETS * p + (PLACE_OCTETS - waits(c));
         octets::write(payload, at, &waiting[from..from + k]);
         cur.at[p] = leave(c, k);
         at += k;
@@ -168,29 +172,29 @@ fn gather(
     }
 }
 
-fn refused(s: Channels, k: u8) -> Sending
-    ensures { λ r. ⌜ r ≡ record { sent = Sent.Refused k; channels = s } ⌝ }
+fn refused(s: Channels, k: u8) -> Multiplexed
+    ensures { λ r. ⌜ r ≡ record { made = Made.Refused k; channels = s } ⌝ }
 {
-    let sent = Sent::Refused(k);
-    Sending { sent, channels: s }
+    let made = Made::Refused(k);
+    Multiplexed { made, channels: s }
 }
 
 // Walks the slots of a payload of `room` octets, and writes what it sends: refusals 5, 9.
 fn pack(
     s: Channels,
-    waiting: &[u8; 16384],
-    table: &[u16; 1455],
+    waiting: &[u8; ALL_OCTETS],
+    table: &[u16; TABLE_NUMBERS],
     code: Code,
     room: usize,
     payload: &mut [u8],
-) -> Sending
-    requires { ⌜ (room ≤ 255) × (code .0 ≤ 15) × (room ≤ length (now payload)) ⌝ }
-    ensures { λ r. ⌜ ends (r .sent) (record { channels = r .channels; payload = now (payload .exit) })
-        ≡ packed (record { channels = s; payload = now (payload .entry) }) (now (waiting .entry)) (walked s (pieces (entryOf (now (table .entry)) (code .0)) room)) ⌝ }
+) -> Multiplexed
+    requires { ⌜ (room ≤ longestPayload) × (code .0 ≤ highestCode) × (room ≤ length (now payload)) ⌝ }
+    ensures { λ r. ⌜ ended (madeSays (r .made)) (record { channels = r .channels; payload = now (payload .exit) })
+        ≡ packed (record { channels = s; payload = now (payload .entry) }) (now (waiting .entry)) (walked s (payloadSlots (entryOf (now (table .entry)) (code .0)) room)) ⌝ }
 {
-    let mut places = [0u16; PAYLOAD];
-    let mut lengths = [0u16; PAYLOAD];
-    let laid = table::pieces(table, code, room, &mut places, &mut lengths);
+    let mut places = [0u16; LONGEST_PAYLOAD];
+    let mut lengths = [0u16; LONGEST_PAYLOAD];
+    let laid = table::payload_slots(table, code, room, &mut places, &mut lengths);
     let w = walk(s, laid.count, &mut places, &mut lengths);
     if w.all_open {
         let octets = w.octets;
@@ -198,12 +202,12 @@ fn pack(
             return refused(s, 9);
         }
         gather(s, waiting, w.count, &places, &lengths, payload);
-        let sent = Sent::Payload {
+        let made = Made::Payload {
             octets,
             mark: w.mark,
         };
         let channels = w.channels;
-        return Sending { sent, channels };
+        return Multiplexed { made, channels };
     }
     refused(s, 5)
 }
@@ -211,16 +215,16 @@ fn pack(
 // Lays out what waits as a payload of at most `room` octets at the front of payload: refusals 2, 4, 3, 5, 9.
 pub fn multiplex(
     s: Channels,
-    waiting: &[u8; 16384],
-    table: &[u16; 1455],
+    waiting: &[u8; ALL_OCTETS],
+    table: &[u16; TABLE_NUMBERS],
     code: Code,
     room: usize,
     payload: &mut [u8],
-) -> Sending
-    ensures { λ r. ⌜ ends (r .sent) (record { channels = r .channels; payload = now (payload .exit) })
+) -> Multiplexed
+    ensures { λ r. ⌜ ended (madeSays (r .made)) (record { channels = r .channels; payload = now (payload .exit) })
         ≡ multiplexed (record { channels = s; payload = now (payload .entry) }) (now (waiting .entry)) (now (table .entry)) (code .0) room ⌝ }
 {
-    if PAYLOAD < room {
+    if LONGEST_PAYLOAD < room {
         return refused(s, 2);
     }
     if table::is_defined(table, code) {

@@ -1,4 +1,5 @@
 pub mod Every
 pub mod Same
 pub mod Written
+pub mod Parts
 pub mod Tests

@@ -13,16 +13,19 @@
 --   written-front     what was written at the front stands there
 --   written-next      .. and what is written behind it joins it
 --   written-all       what is written over all of d is all that is left
+--   Writing           what a loop that writes s keeps, once j of its elements are written
+--   writing-none, writing-next, writing-all   .. at first, one turn on, and at the end
 --
 -- Assumes nothing.
 use mathlib.Core.Path.{_≡_, refl, sym, ap, ap₂, _∙_}
 use mathlib.Core.Logic.{_⊎_, ⊎-elim}
 use mathlib.Core.List.{List, [], _++_, append-assoc, append-nil}
 use Prim.Native.Nat.{ℕ, _+_, _-_, _≤_, _<_}
+use native.Mathlib.Numerals.{add-one}
 use native.Mathlib.Nat.{add-zero, zero-add, add-assoc}
 use native.Mathlib.Omega.{arith}
-use lib.ListN.{length, getD, take, drop, length-append, length-drop, take-append-drop, drop-of-length-le, List·getD-append}
-use lib.Seq.{paste, take-length, length-take-le, getD-append-add, getD-take, getD-drop, take-at, drop-at, drop-drop}
+use lib.ListN.{length, getD, set, take, drop, length-set, length-append, length-drop, take-append-drop, drop-of-length-le, List·getD-append}
+use lib.Seq.{paste, paste-zero, paste-suc, take-length, length-take-le, getD-append-add, getD-take, getD-drop, take-at, drop-at, drop-drop}
 
 module _ {A : Type 0} where
   abbrev pub written : List A → ℕ → List A → List A
@@ -95,3 +98,28 @@ module _ {A : Type 0} where
   written-all d s e =
       let all : length d ≤ 0 + length s = omega arith in
       ap (λ (l : List A). s ++ l) (drop-of-length-le d all) ∙ append-nil s
+
+  -- ---- a loop that writes
+
+  pub record Writing (d₀ : List A) (at : ℕ) (s d : List A) (j : ℕ) : Type 0 where
+    pub so-far : d ≡ paste d₀ at s j
+    pub few : j ≤ length s
+    pub long : length d ≡ length d₀
+
+  pub writing-none : (d : List A) (at : ℕ) (s : List A) → Writing d at s d 0
+  writing-none d at s = record { so-far = paste-zero d at s; few = omega arith; long = refl }
+
+  module _ {d₀ : List A} {at : ℕ} {s d : List A} {j : ℕ} (h : Writing d₀ at s d j) where
+    pub writing-next : (z : A) → at + length s ≤ length d₀ → j < length s → Writing d₀ at s (set d (at + j) (getD s j z)) (j + 1)
+    writing-next z fits l =
+        let in₀ : at + j < length d₀ = omega arith in
+        record {
+          so-far = rw (add-one, ← paste-suc d₀ at s j z in₀ l, ← h .so-far);
+          few = omega arith;
+          long = length-set d (at + j) (getD s j z) ∙ h .long;
+        }
+
+    pub writing-all : length s ≤ j → d ≡ written d₀ at s
+    writing-all l =
+        let e : j ≡ length s = omega (arith, h .few) in
+        h .so-far ∙ rw e (written-paste d₀ at s)

@@ -17,6 +17,18 @@ pub fn write(dst: &mut [u8], at: usize, src: &[u8])
     }
 }
 
+// The same for numbers of 16 bits.
+pub fn write_numbers(dst: &mut [u16], at: usize, src: &[u16])
+    requires { ⌜ at + length (now src) ≤ length (now dst) ⌝ }
+    ensures { λ _. ⌜ now (dst .exit) ≡ written (now (dst .entry)) at (now (src .entry)) ⌝ }
+{
+    let mut j = 0;
+    while j < src.len() {
+        dst[at + j] = src[j];
+        j += 1;
+    }
+}
+
 // The first n octets of s, or all where there are fewer.
 pub fn front(s: &[u8], n: usize) -> &[u8]
     ensures { λ r. ⌜ now r ≡ take n (now (s .entry)) ⌝ }

@@ -1,4 +1,4 @@
-pub mod Laws
+pub mod Cutting
 pub mod Reading
 pub mod Laying
 pub mod Passing
@@ -6,3 +6,4 @@ pub mod Entries
 pub mod Theorems
 pub mod Prefix
 pub mod Placed
+pub mod Laws

@@ -27,7 +27,7 @@ use Rattle.table.specs.declared.form.Read.{Read}
 use Rattle.table.specs.declared.form.Read.the-variants.{Bad}
 use Rattle.table.specs.Form.{mostElements, many, headAt, onHead, elementAt}
 use Rattle.table.specs.Slots.{Slot, passes, copies, skip, inTurn, elementSlots, listSlots}
-use Rattle.table.proofs.Laws.{passes-most, copies-nothing}
+use Rattle.table.proofs.Cutting.{passes-most, copies-nothing}
 
 pub number-inside : (s : List ℕ) (k : ℕ) → (getD s k 0 ≡ 0 → ⊥) → k < length s
 number-inside s k h = go (decLe (length s) k)

@@ -1,20 +1,27 @@
--- The claims of specs/Claims.antt. Assumes nothing.
+-- The claims of specs/Claims.antt; and what a code is that has an entry.
+--
+--   replacedUnique, laidUnique, freshHasNone, octetsInTurn, refusalLeaves, replacedKeeps, othersStay, replacedIsRead   the claims
+--   defined-most     a code that has an entry is at most the highest
+--
+-- Assumes nothing.
 use mathlib.Core.Path.{_≡_, refl, sym, ap, ap₂, _∙_}
 use mathlib.Core.Bool.{true, false}
 use mathlib.Core.List.{List, [], _∷_}
 use Prim.Native.Nat.{ℕ, zero, suc, _-_, _*_, _≤_}
 use native.Mathlib.Omega.{arith}
 use native.Mathlib.Decide.{decLe}
-use borrow.Author.Tests.{le-leb, eq-eqb, ne-eqb}
-use lib.Dec.{eqb}
+use borrow.Author.Tests.{le-leb, eq-eqb, ne-eqb, leb-true, ltb-false, not-false}
+use lib.Dec.{eqb, leb}
 use lib.ListN.{length, getD, drop, replicate}
-use Rattle.calls.specs.Refusal.{Ended}
-use Rattle.calls.proofs.Laws.{checked-leaves, outcome-once}
-use Rattle.table.specs.Form.{longestEntry}
+use Rattle.octets.specs.Tests.{both-true}
+use Rattle.octets.specs.Written.{written-length}
+use Rattle.calls.specs.Refusal.{Ended, leaving}
+use Rattle.calls.proofs.Laws.{checked-leaves, checked-keeps, outcome-once}
+use Rattle.table.specs.Form.{isEntry, longestEntry}
 use Rattle.table.specs.Slots.{slots, payloadSlots}
-use Rattle.table.specs.Table.{highestCode, entryOf, isDefined, withEntry, replaceTests, replaced}
-use Rattle.table.proofs.Laws.{channels-cut}
-use Rattle.table.specs.Claims.{ReplacedUnique, LaidUnique, RefusalLeaves, ReplacedIsRead, OthersStay, FreshHasNone, OctetsInTurn}
+use Rattle.table.specs.Table.{entryOf, highestCode, isDefined, replaceTests, replaced, tableNumbers, withEntry}
+use Rattle.table.proofs.Cutting.{channels-cut}
+use Rattle.table.specs.Claims.{ReplacedUnique, LaidUnique, ReplacedKeeps, RefusalLeaves, ReplacedIsRead, OthersStay, FreshHasNone, OctetsInTurn}
 use Rattle.table.proofs.Entries.{defined-not, defined-fixed, defined-put, entry-short, entry-some}
 use Rattle.table.proofs.Passing.{number-inside}
 use Rattle.table.proofs.Prefix.{Alike, entry-alike}
@@ -62,6 +69,19 @@ unfolding replaced
 refusalLeaves t s after c k e =
     ap (λ (r : Ended (Unit {0}) (List ℕ)). r .left) e
     ∙ checked-leaves t (replaceTests c s) tt (withEntry t c s) k (sym (ap (λ (r : Ended (Unit {0}) (List ℕ)). r .answer) e))
+
+pub replacedKeeps : ReplacedKeeps
+unfolding replaced
+replacedKeeps t s c e =
+    checked-keeps t (replaceTests c s) (λ (l : List ℕ). length l ≡ tableNumbers) (leaving tt (withEntry t c s)) e
+    (λ none.
+    let short = entry-short s (not-false (isEntry s) (none .1 .1 .0)) in
+    let low = ltb-false highestCode c (none .0) in
+    written-length t (longestEntry * (c - 1)) s (omega arith) ∙ e)
+
+pub defined-most : (t : List ℕ) (c : ℕ) → isDefined t c ≡ true → c ≤ highestCode
+unfolding isDefined
+defined-most t c e = leb-true _ _ (both-true (leb c highestCode) _ e .0)
 
 pub othersStay : OthersStay
 othersStay t s c d size some low e n = withEntry-other t s c size some low (entry-short s e) d n

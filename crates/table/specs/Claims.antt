@@ -2,6 +2,7 @@
 --
 --   ReplacedUnique     any two answers that replacing's promise allows are equal, the table included
 --   LaidUnique         .. and any two that laying slots down does, both lists included
+--   ReplacedKeeps      the table keeps its length
 --   RefusalLeaves      a refusal leaves the table as it came
 --   ReplacedIsRead     an entry that was accepted is there, and has the slots of the numbers handed over
 --   OthersStay         .. and the other entries are as they were
@@ -31,6 +32,9 @@ abbrev pub LaidUnique : Type 0
 LaidUnique =
     (from r q : Laid) (new : List Slot) (c l c₁ l₁ c₂ l₂ : List ℕ) → Lays from new r c l c₁ l₁ → Lays from new q c l c₂ l₂
     → (r ≡ q) × (c₁ ≡ c₂) × (l₁ ≡ l₂)
+
+abbrev pub ReplacedKeeps : Type 0
+ReplacedKeeps = (t s : List ℕ) (c : ℕ) → length t ≡ tableNumbers → length (replaced t c s .left) ≡ tableNumbers
 
 abbrev pub RefusalLeaves : Type 0
 RefusalLeaves = (t s after : List ℕ) (c k : ℕ) → ended (refused k) after ≡ replaced t c s → after ≡ t

@@ -6,12 +6,12 @@
 --
 -- Assumes nothing.
 use mathlib.Core.Path.{_≡_}
-use mathlib.Core.List.{List, map}
+use mathlib.Core.List.{List}
 use Prim.Native.Nat.{ℕ, _+_, _-_, _≤_}
 use lib.ListN.{length}
 use Rattle.octets.specs.Written.{written}
 use Rattle.table.specs.declared.walk.Laid.{Laid}
-use Rattle.table.specs.Slots.{Slot, octetsOf}
+use Rattle.table.specs.Slots.{Slot, octetsOf, numbersOf, lengthsOf}
 
 pub record Room (from : Laid) (channels lengths : List ℕ) : Type 0 where
   pub forChannels : from .count + from .left ≤ length channels
@@ -20,5 +20,5 @@ pub record Room (from : Laid) (channels lengths : List ℕ) : Type 0 where
 pub record Lays (from : Laid) (new : List Slot) (to : Laid) (channels₀ lengths₀ channels₁ lengths₁ : List ℕ) : Type 0 where
   pub count : to .count ≡ from .count + length new
   pub left : to .left ≡ from .left - octetsOf new
-  pub channels : channels₁ ≡ written channels₀ (from .count) (map (λ (x : Slot). x .channel) new)
-  pub lengths : lengths₁ ≡ written lengths₀ (from .count) (map (λ (x : Slot). x .octets) new)
+  pub channels : channels₁ ≡ written channels₀ (from .count) (numbersOf new)
+  pub lengths : lengths₁ ≡ written lengths₀ (from .count) (lengthsOf new)

@@ -11,11 +11,13 @@
 --   cut n l         the first n octets of the slots l: the last slot may be cut short
 --   payloadSlots s n      the slots of a payload of n octets under entry s, of fewer where the entry is shorter
 --   octetsOf l      how many octets the slots l have
+--   numbersOf l     the channel of each slot
+--   lengthsOf l     .. and how many octets each has
 --   channelsOf l    the channel of each of them
 --
 -- Assumes nothing.
 use mathlib.Core.Bool.{cond}
-use mathlib.Core.List.{List, [], _∷_, _++_}
+use mathlib.Core.List.{List, [], _∷_, _++_, map}
 use Prim.Native.Nat.{ℕ, zero, suc, _+_, _-_, min}
 use lib.Dec.{eqb}
 use lib.ListN.{getD}
@@ -76,6 +78,12 @@ payloadSlots s n = cut n (slots s)
 unfoldable pub octetsOf : List Slot → ℕ
 octetsOf [] = 0
 octetsOf (x ∷ l) = x .octets + octetsOf l
+
+abbrev pub numbersOf : List Slot → List ℕ
+numbersOf = map (λ (x : Slot). x .channel)
+
+abbrev pub lengthsOf : List Slot → List ℕ
+lengthsOf = map (λ (x : Slot). x .octets)
 
 unfoldable pub channelsOf : List Slot → List ℕ
 channelsOf [] = []

@@ -7,7 +7,6 @@ use calls::Outcome;
 ghost use mathlib.Core.Path.{_≡_};
 ghost use Prim.Native.Nat.{_+_, _*_, _≤_};
 ghost use lib.ListN.{length, take, drop};
-ghost use Rattle.octets.specs.Written.{written};
 ghost use Rattle.calls.specs.Refusal.{ended, outcomeSays};
 ghost use Rattle.table.specs.Form.{longestEntry};
 ghost use Rattle.table.specs.Table.{highestCode, longestPayload, entryOf, isDefined, replaced};
@@ -70,18 +69,6 @@ pub fn payload_slots(
     walk::lay(entry_at(table, c as usize - 1), n, channels, lengths)
 }
 
-// Writes all of src over dst, from at on.
-fn write(dst: &mut [u16], at: usize, src: &[u16])
-    requires { ⌜ at + length (now src) ≤ length (now dst) ⌝ }
-    ensures { λ _. ⌜ now (dst .exit) ≡ written (now (dst .entry)) at (now (src .entry)) ⌝ }
-{
-    let mut j = 0;
-    while j < src.len() {
-        dst[at + j] = src[j];
-        j += 1;
-    }
-}
-
 // Replaces the code's entry: refusals 4 (there is no such code), 14, 10.
 pub fn replace(table: &mut [u16; TABLE_NUMBERS], code: Code, entry: &[u16]) -> Outcome
     ensures { λ r. ⌜ ended (outcomeSays r) (now (table .exit)) ≡ replaced (now (table .entry)) (code .0) (now (entry .entry)) ⌝ }
@@ -95,7 +82,7 @@ pub fn replace(table: &mut [u16; TABLE_NUMBERS], code: Code, entry: &[u16]) -> O
     }
     if form::is_entry(entry) {
         let at = form::LONGEST_ENTRY * (c as usize - 1);
-        write(table, at, entry);
+        octets::write_numbers(table, at, entry);
         return Outcome::Done;
     }
     Outcome::Refused(10)

@@ -4,18 +4,18 @@ use mathlib.Core.Path.{_≡_, sym, _∙_}
 use Prim.Native.Nat.{_-_, _≤_, _<_}
 use native.Mathlib.Omega.{arith}
 use lib.ListN.{length, length-map}
-use Rattle.channels.specs.Channels.{places, freePlace, isFree, vacant}
+use Rattle.channels.specs.Channels.{placeCount, freePlace, isFree, vacant}
 use Rattle.channels.proofs.Search.{Past, found, passed, ended}
 use Rattle.channels.proofs.free_place.Statement.{statement}
 use Rattle.channels.proofs.free_place.Tie as tie
 
 abbrev Inv-loop : tie.InvT-loop
-Inv-loop s i₀ i = (i ≤ places) × Past isFree (s .at) i
+Inv-loop s i₀ i = (i ≤ placeCount) × Past isFree (s .at) i
 
 abbrev μ-loop : tie.MeasureT-loop
-μ-loop s i₀ i = places - i
+μ-loop s i₀ i = placeCount - i
 
-len : (c : tie.Start Inv-loop μ-loop) → length (c .args .t1 .at) ≡ places
+len : (c : tie.Start Inv-loop μ-loop) → length (c .args .t1 .at) ≡ placeCount
 len c = sym (length-map (c .args .t1 .at) _) ∙ c .good .0 .1 .1 .0 .1 .0 .1
 
 within : (c : tie.In-loop Inv-loop μ-loop) → c .before .loop .i < length (c .before .before .args .t1 .at)
@@ -51,7 +51,7 @@ returns-2 : tie.Need-returns-2 Inv-loop μ-loop
 unfolding freePlace
 returns-2 c =
     let l = c .before in
-    let e : places ≡ l .loop .i = omega arith in
+    let e : placeCount ≡ l .loop .i = omega arith in
     e ∙ ended isFree _ _ vacant (l .loop .inv .1) (rw (len (l .before)) (c .loop-test .left))
 
 pub free-place-spec : {M : Type 1} → statement M

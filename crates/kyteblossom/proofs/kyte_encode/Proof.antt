@@ -4,7 +4,7 @@ use mathlib.Core.Path.{_∙_}
 use native.Mathlib.Omega.{arith}
 use mir.Syntax.{w32}
 use mir.Facts.{toZ-pos, toZ-ofZ}
-use Rattle.adaptation.proofs.Theorems.{sent-small}
+use Rattle.adaptation.proofs.Laws.{sent-small}
 use Rattle.calls.specs.declared.Length.the-variants.{Octets, Refused}
 use Rattle.kyteblossom.proofs.kyte_encode.Statement.{statement}
 use Rattle.kyteblossom.proofs.kyte_encode.Tie as tie

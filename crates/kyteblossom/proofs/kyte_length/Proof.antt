@@ -5,7 +5,7 @@ use native.Mathlib.Omega.{arith}
 use mir.Syntax.{w32}
 use mir.Facts.{toZ-pos, toZ-ofZ}
 use Rattle.kyteblossom.specs.Answer.{answer}
-use Rattle.adaptation.proofs.Coding.{coding-all}
+use Rattle.adaptation.proofs.Laws.{coding-all}
 use Rattle.kyteblossom.proofs.kyte_length.Statement.{statement}
 use Rattle.kyteblossom.proofs.kyte_length.Tie as tie
 

@@ -4,7 +4,7 @@ use mathlib.Core.Path.{_∙_}
 use native.Mathlib.Omega.{arith}
 use mir.Syntax.{w32}
 use mir.Facts.{toZ-ofZ}
-use Rattle.adaptation.proofs.Theorems.{handed-small}
+use Rattle.adaptation.proofs.Laws.{handed-small}
 use Rattle.adaptation.specs.declared.al1m.Received.the-variants.{Unit, Refused}
 use Rattle.kyteblossom.proofs.kyte_receive.Statement.{statement}
 use Rattle.kyteblossom.proofs.kyte_receive.Tie as tie

@@ -6,7 +6,7 @@ use native.Mathlib.Omega.{arith}
 use mir.Syntax.{w32}
 use mir.Facts.{toZ-pos}
 use lib.IntN.{pos}
-use Rattle.adaptation.proofs.Unique.{badge-most}
+use Rattle.adaptation.proofs.Laws.{badge-most}
 use Rattle.kyteblossom.proofs.pack.Statement.{statement}
 use Rattle.kyteblossom.proofs.pack.Tie as tie
 

@@ -1,73 +1,21 @@
--- After j turns the first j octets of src are written; a turn's store is the library's `paste-suc`. Assumes nothing.
+-- After j turns the first j octets of src are written. Assumes nothing.
 use borrow.Author.Needs.{needs}
-use mathlib.Core.Path.{_≡_, refl, _∙_}
-use Prim.Native.Nat.{_+_, _-_, _≤_, _<_}
-use native.Mathlib.Numerals.{add-one}
-use native.Mathlib.Omega.{arith}
-use lib.ListN.{length, length-set}
-use lib.Seq.{paste, paste-zero, paste-suc}
-use denote.Ref.{now}
-use Rattle.octets.specs.Written.{written-paste}
+use Prim.Native.Nat.{_-_}
+use lib.ListN.{length}
+use Rattle.octets.specs.Written.{Writing, writing-none, writing-next, writing-all}
 use Rattle.octets.proofs.write.Statement.{statement}
 use Rattle.octets.proofs.write.Tie as tie
 
 abbrev Inv-loop : tie.InvT-loop
-Inv-loop dst₀ at src j₀ dst j = (dst ≡ paste dst₀ at src j) × (j ≤ length src) × (length dst ≡ length dst₀)
+Inv-loop dst₀ at src j₀ dst j = Writing dst₀ at src dst j
 
 abbrev μ-loop : tie.MeasureT-loop
 μ-loop dst₀ at src j₀ dst j = length src - j
 
-loop-holds : tie.Need-loop-holds Inv-loop μ-loop
-loop-holds c = (paste-zero (now (c .args .dst)) (c .args .at) (now (c .args .src)), search needs, refl)
-
-shared-slice-read-dst : tie.Need-shared-slice-read-dst Inv-loop μ-loop
-shared-slice-read-dst c = search needs
-
-add-dst : tie.Need-add-dst Inv-loop μ-loop
-add-dst c = search needs
-
-slice-write-dst : tie.Need-slice-write-dst Inv-loop μ-loop
-slice-write-dst c = search needs
-
-add-j : tie.Need-add-j Inv-loop μ-loop
-add-j c = search needs
-
-loop-less : tie.Need-loop-less Inv-loop μ-loop
-loop-less c = search needs
-
 loop-again : tie.Need-loop-again Inv-loop μ-loop
-loop-again c =
-    let t = c .before in
-    let a = t .before .before .args in
-    let l = t .before .loop in
-    let in₀ : a .at + l .j < length (now (a .dst)) = omega arith in (
-      rw (add-one, ← paste-suc (now (a .dst)) (a .at) (now (a .src)) (l .j) 0 in₀ (t .loop-test .taken), ← l .inv .0),
-      search needs,
-      simp length-set (l .inv .2),
-    )
-
-same-length : tie.Need-same-length Inv-loop μ-loop
-same-length c = search needs
-
-returns : tie.Need-returns Inv-loop μ-loop
-returns c =
-    let l = c .before .loop in
-    let a = c .before .before .args in
-    let e : l .j ≡ length (now (a .src)) = omega arith in
-    l .inv .0 ∙ (rw e (written-paste (now (a .dst)) (a .at) (now (a .src))))
+loop-again c = let t = c .before in writing-next (t .before .loop .inv) 0 (t .before .before .pre) (t .loop-test .taken)
 
 pub write-spec : {M : Type 1} → statement M
 write-spec =
-    tie.close
-    (tie.spec
-    Inv-loop
-    μ-loop
-    loop-holds
-    shared-slice-read-dst
-    add-dst
-    slice-write-dst
-    add-j
-    loop-less
-    loop-again
-    same-length
-    returns)
+    tie.close (tie.spec Inv-loop μ-loop (λ c. writing-none _ _ _) (λ c. search needs) (λ c. search needs) (λ c. search needs) (λ c. search needs) (λ c. search needs)
+    loop-again (λ c. search needs) (λ c. writing-all (c .before .loop .inv) (c .loop-test .left)))

@@ -26,11 +26,11 @@ sub-at c = search needs
 mul-at : tie.Need-mul-at
 mul-at c = search needs
 
-write-requires : tie.Need-write-requires
-write-requires c κs = omega (arith, entry-short (now (c .before .before .before .before .before .before .args .entry)) (sym (c .before .before .is-entry .ensures) ∙ c .before .if3 .taken))
+write-numbers-requires : tie.Need-write-numbers-requires
+write-numbers-requires c κs = omega (arith, entry-short (now (c .before .before .before .before .before .before .args .entry)) (sym (c .before .before .is-entry .ensures) ∙ c .before .if3 .taken))
 
 returns-3 : tie.Need-returns-3
-returns-3 c = rw (replaced-done (now (c .before .before .before .before .before .before .before .args .table)) (c .before .before .before .before .before .before .before .args .code .0) (now (c .before .before .before .before .before .before .before .args .entry)) (c .before .before .before .before .before .if1 .left) (c .before .before .before .before .if2 .left) (sym (c .before .before .before .is-entry .ensures) ∙ c .before .before .if3 .taken)) (ap (leaving tt) (c .write .ensures))
+returns-3 c = rw (replaced-done (now (c .before .before .before .before .before .before .before .args .table)) (c .before .before .before .before .before .before .before .args .code .0) (now (c .before .before .before .before .before .before .before .args .entry)) (c .before .before .before .before .before .if1 .left) (c .before .before .before .before .if2 .left) (sym (c .before .before .before .is-entry .ensures) ∙ c .before .before .if3 .taken)) (ap (leaving tt) (c .write-numbers .ensures))
 
 returns-4 : tie.Need-returns-4
 returns-4 c = sym (replaced-malformed (now (c .before .before .before .before .before .args .table)) (c .before .before .before .before .before .args .code .0) (now (c .before .before .before .before .before .args .entry)) (c .before .before .before .if1 .left) (c .before .before .if2 .left) (sym (c .before .is-entry .ensures) ∙ c .if3 .left))
@@ -45,6 +45,6 @@ replace-spec =
     cast-at
     sub-at
     mul-at
-    write-requires
+    write-numbers-requires
     returns-3
     returns-4)

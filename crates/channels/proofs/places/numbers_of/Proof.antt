@@ -5,19 +5,19 @@ use mathlib.Core.List.{map, _++_, append-nil}
 use Prim.Native.Nat.{_-_, _≤_}
 use lib.ListN.{length, take, drop, length-set, length-map, drop-of-length-le}
 use lib.Seq.{take-all}
-use Rattle.channels.specs.Channels.{places, vacant}
+use Rattle.channels.specs.Channels.{placeCount, vacant}
 use Rattle.channels.specs.Places.{numberOf}
 use Rattle.channels.proofs.Placing.{mapped-at}
 use Rattle.channels.proofs.places.numbers_of.Statement.{statement}
 use Rattle.channels.proofs.places.numbers_of.Tie as tie
 
 abbrev Inv-loop : tie.InvT-loop
-Inv-loop s all₀ i₀ all i = (i ≤ places) × (length all ≡ places) × (map numberOf (s .at) ≡ take i all ++ map numberOf (drop i (s .at)))
+Inv-loop s all₀ i₀ all i = (i ≤ placeCount) × (length all ≡ placeCount) × (map numberOf (s .at) ≡ take i all ++ map numberOf (drop i (s .at)))
 
 abbrev μ-loop : tie.MeasureT-loop
-μ-loop s all₀ i₀ all i = places - i
+μ-loop s all₀ i₀ all i = placeCount - i
 
-len : (c : tie.Start Inv-loop μ-loop) → length (c .args .t1 .at) ≡ places
+len : (c : tie.Start Inv-loop μ-loop) → length (c .args .t1 .at) ≡ placeCount
 len c = sym (length-map (c .args .t1 .at) _) ∙ c .good .0 .1 .1 .0 .1 .0 .1
 
 loop-holds : tie.Need-loop-holds Inv-loop μ-loop

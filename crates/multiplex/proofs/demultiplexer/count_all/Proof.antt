@@ -1,15 +1,14 @@
 -- After j turns the first j pieces are counted, and what they come to depends on those behind. Assumes nothing.
 use borrow.Author.Needs.{needs}
 use mathlib.Core.Path.{_≡_, refl, sym, ap, _∙_}
-use mathlib.Core.Bool.{true, false}
+use mathlib.Core.Bool.{true≢false}
 use mathlib.Core.List.{List}
 use Prim.Native.Nat.{ℕ, _+_, _*_, _-_, _≤_, _<_}
 use native.Mathlib.Omega.{arith}
 use lib.ListN.{length, drop, getD}
 use denote.Ref.{now}
-use Rattle.octets.specs.Tests.{never}
 use Rattle.multiplex.specs.declared.demultiplexer.Tally.{Tally}
-use Rattle.channels.specs.Channels.{channelAt}
+use Rattle.channels.specs.Channels.{channelAt, placeCount}
 use Rattle.multiplex.specs.Pieces.{laid}
 use Rattle.multiplex.specs.Demultiplexer.{fits}
 use Rattle.multiplex.specs.Tally.{noTally, tallied}
@@ -41,14 +40,11 @@ module _ (c : tie.In-loop Inv-loop μ-loop) where
   abbrev more : ℕ
   more = getD ls (c .before .loop .j) 0
 
-  near : place < 16
+  near : place < placeCount
   near = c .before .before .before .before .pre .0 (c .before .loop .j) (c .loop-test .taken)
 
   in-ls : c .before .loop .j < length ls
   in-ls = omega (arith, c .loop-test .taken, c .before .before .before .before .pre .1)
-
-never : {A : Type 0} → false ≡ true → A
-never e = never (cc)
 
 loop-holds : tie.Need-loop-holds Inv-loop μ-loop
 loop-holds c = (refl, refl, search needs, search needs, search needs)
@@ -133,7 +129,7 @@ returns c =
     let l = i .before .loop in
     rw (c .told .ensures) (
       sym (l .inv .0 ∙ fits-missed (ps i) (ls i) (l .j) (record { channels = l .cur; octets = l .octets; units = l .units }) (i .loop-test .taken) (in-ls i) (sym (c .before .before .has-room .ensures) ∙ c .before .if1 .left)),
-      never,
+      (λ e. absurd (true≢false (sym e))),
     )
 
 told-requires-2 : tie.Need-told-requires-2 Inv-loop μ-loop

@@ -1,5 +1,5 @@
 -- The checks come first, by value, so that a refusal finds everything as it came. Assumes nothing.
-use borrow.Author.Needs.{needs, needs}
+use borrow.Author.Needs.{needs}
 use mathlib.Core.Path.{_≡_, sym, ap, ap₂, subst, _∙_}
 use mathlib.Core.List.{List}
 use mathlib.Core.Bool.{true, false, not, _&&_}
@@ -7,11 +7,12 @@ use Prim.Native.Nat.{ℕ, _*_, _≤_, _<_}
 use native.Mathlib.Omega.{arith}
 use lib.ListN.{length, length-map}
 use denote.Ref.{now}
+use Rattle.table.specs.Table.{longestPayload}
 use Rattle.calls.specs.Refusal.{leaving}
 use Rattle.multiplex.specs.declared.demultiplexer.Tally.{Tally}
-use Rattle.channels.specs.Channels.{channelAt}
+use Rattle.channels.specs.Channels.{channelAt, placeCount, placeOctets}
 use Rattle.multiplex.specs.Pieces.{Piece, laid, lastPlace}
-use Rattle.multiplex.specs.Demultiplexer.{Delivery, Lent, fits, delivery}
+use Rattle.multiplex.specs.Demultiplexer.{Delivery, DemuxLent, fits, delivery}
 use Rattle.multiplex.specs.Tally.{noTally, tallied, closes, Draft, ends}
 use Rattle.multiplex.proofs.Pouring.{closes-least, closes-most}
 use Rattle.multiplex.proofs.Delivering.{tallyOf, Even, Room}
@@ -32,7 +33,7 @@ module _ (c : tie.After-has-wrong-mark) where
   abbrev xs : List ℕ
   xs = now (from .args .payload)
 
-  abbrev lent : Lent
+  abbrev lent : DemuxLent
   lent = record { channels = from .args .s; held = now (from .args .held); output = now (from .args .output); units = now (from .args .units) }
 
   last-is : c .before .last-place .result ≡ lastPlace l
@@ -62,7 +63,7 @@ module _ (c : tie.Then2) where
   right : (from w .args .mark && not (channelAt (from w .args .s) (lastPlace (l w)) .segmentable)) ≡ false
   right = sym (wrong-is w) ∙ c .before .before .if1 .left
 
-  sixteen : length (from w .args .s .at) ≡ 16
+  sixteen : length (from w .args .s .at) ≡ placeCount
   sixteen = sym (length-map (from w .args .s .at) _) ∙ from w .good .0 .1 .1 .0 .1 .0 .1
 
   accepted : Accepted (from w .args .s) (now (from w .args .held)) (from w .args .mark) (l w) (xs w)
@@ -75,12 +76,12 @@ module _ (c : tie.Then2) where
     right = right;
   }
 
-  few : (t .octets ≤ 255) × (t .units ≤ 255)
+  few : (t .octets ≤ longestPayload) × (t .units ≤ longestPayload)
   few =
       let m = tallied-most (noTally (from w .args .s)) (now (from w .args .places)) (now (from w .args .lengths)) in
       (omega (arith, m .0, from w .pre .3, from w .pre .4), omega (arith, m .1, from w .pre .2))
 
-  marked : from w .args .mark ≡ true → (lastPlace (l w) < 16) × (channelAt (t .channels) (lastPlace (l w)) .held ≤ 1024)
+  marked : from w .args .mark ≡ true → (lastPlace (l w) < placeCount) × (channelAt (t .channels) (lastPlace (l w)) .held ≤ placeOctets)
   marked = held-most (from w .args .s) (now (from w .args .held)) (from w .args .mark) (l w) (xs w) accepted
 
   end-is : closes t (from w .args .mark) (lastPlace (l w)) ≡ tallyOf whole
@@ -145,13 +146,13 @@ module _ (c : tie.After-pour) where
   abbrev last : ℕ
   last = w (i e) .before .last-place .result
 
-  marked-at : from (w (i e)) .args .mark ≡ true → (last < 16) × (channelAt (c .pour .result .channels) last .held ≤ 1024)
+  marked-at : from (w (i e)) .args .mark ≡ true → (last < placeCount) × (channelAt (c .pour .result .channels) last .held ≤ placeOctets)
   marked-at m =
-      subst (λ (t : Tally). (last < 16) × (channelAt (t .channels) last .held ≤ 1024)) (sym pour-is)
-      (subst (λ (p : ℕ). (p < 16) × (channelAt (t (i e) .channels) p .held ≤ 1024)) (sym (last-is (w (i e)))) (marked (i e) m))
+      subst (λ (t : Tally). (last < placeCount) × (channelAt (t .channels) last .held ≤ placeOctets)) (sym pour-is)
+      (subst (λ (p : ℕ). (p < placeCount) × (channelAt (t (i e) .channels) p .held ≤ placeOctets)) (sym (last-is (w (i e)))) (marked (i e) m))
 
-  pour-few : (c .pour .result .octets ≤ 255) × (c .pour .result .units ≤ 255)
-  pour-few = subst (λ (t : Tally). (t .octets ≤ 255) × (t .units ≤ 255)) (sym pour-is) (few (i e))
+  pour-few : (c .pour .result .octets ≤ longestPayload) × (c .pour .result .units ≤ longestPayload)
+  pour-few = subst (λ (t : Tally). (t .octets ≤ longestPayload) × (t .units ≤ longestPayload)) (sym pour-is) (few (i e))
 
   same-end : closes (c .pour .result) (from (w (i e)) .args .mark) last ≡ closes (t (i e)) (from (w (i e)) .args .mark) (lastPlace (l (w (i e))))
   same-end = ap₂ (λ (t : Tally) (p : ℕ). closes t (from (w (i e)) .args .mark) p) pour-is (last-is (w (i e)))
@@ -238,7 +239,7 @@ returns-4 c =
     let a = from (w (i k)) .args in
     let s = delivery-shown (a .s) (now (a .held)) (a .mark) (l (w (i k))) (xs (w (i k))) (accepted (i k)) (o k) (u k) (room k) in
     let f = c .before .before .before .before .before .finish .ensures ∙ ap₂ (λ (d : Draft) (p : ℕ). ends d (a .mark) p) (c .before .before .before .before .before .before .before .before .before .before .before .before .before .before .before .pour .ensures) (last-is (w (i k))) ∙ s in
-    ap (λ (d : Draft). leaving {X = Lent} (d .tally .units) (record { channels = d .tally .channels; held = d .held; output = d .output; units = d .units })) f
+    ap (λ (d : Draft). leaving {X = DemuxLent} (d .tally .units) (record { channels = d .tally .channels; held = d .held; output = d .output; units = d .units })) f
     ∙ sym (delivered-all (lent (w (i k))) (a .mark) (l (w (i k))) (xs (w (i k))) (right (i k)) (fit (i k)) (small-not (whole (i k)) (o k) (u k) (room k .0) (room k .1)))
 
 refused-requires-4 : tie.Need-refused-requires-4

@@ -2,12 +2,13 @@
 use borrow.Author.Needs.{needs}
 use mathlib.Core.Path.{sym, _∙_}
 use denote.Ref.{now}
-use Rattle.multiplex.specs.Demultiplexer.{Lent}
-use Rattle.multiplex.proofs.Sorting.{defined-most, demultiplexed-long, demultiplexed-none, demultiplexed-some}
+use Rattle.table.proofs.Laws.{defined-most}
+use Rattle.multiplex.specs.Demultiplexer.{DemuxLent}
+use Rattle.multiplex.proofs.Sorting.{demultiplexed-long, demultiplexed-none, demultiplexed-some}
 use Rattle.multiplex.proofs.demultiplexer.demultiplex.Statement.{statement}
 use Rattle.multiplex.proofs.demultiplexer.demultiplex.Tie as tie
 
-abbrev lent : tie.Start → Lent
+abbrev lent : tie.Start → DemuxLent
 lent c = record { channels = c .args .s; held = now (c .args .held); output = now (c .args .output); units = now (c .args .units) }
 
 refused-requires : tie.Need-refused-requires

@@ -6,7 +6,7 @@ use native.Mathlib.Omega.{arith}
 use lib.ListN.{length, take, drop}
 use denote.Ref.{now}
 use Rattle.multiplex.specs.declared.demultiplexer.Tally.{Tally}
-use Rattle.channels.specs.Channels.{channelAt}
+use Rattle.channels.specs.Channels.{channelAt, placeOctets}
 use Rattle.multiplex.specs.Tally.{closing, closes}
 use Rattle.multiplex.proofs.Pouring.{closes-marked, ends-marked, ends-plain, part-exact, part-length}
 use Rattle.multiplex.proofs.demultiplexer.finish.Statement.{statement}
@@ -21,13 +21,13 @@ module _ (c : tie.Then1) where
   abbrev p : ℕ
   p = c .before .before .before .before .args .p
 
-  within : 1024 * p + channelAt (t .channels) p .held ≤ length (now (c .before .before .before .before .args .held))
+  within : placeOctets * p + channelAt (t .channels) p .held ≤ length (now (c .before .before .before .before .args .held))
   within = omega (arith, c .before .before .before .before .pre .0, c .before .before .before .before .pre .1 (c .if1 .taken) .0, c .before .before .before .before .pre .1 (c .if1 .taken) .1)
 
-  exact : length (take (1024 * p + channelAt (t .channels) p .held - 1024 * p) (drop (1024 * p) (now (c .before .before .before .before .args .held)))) ≡ channelAt (t .channels) p .held
+  exact : length (take (placeOctets * p + channelAt (t .channels) p .held - placeOctets * p) (drop (placeOctets * p) (now (c .before .before .before .before .args .held)))) ≡ channelAt (t .channels) p .held
   exact =
-      ap length (part-exact (now (c .before .before .before .before .args .held)) (1024 * p) (channelAt (t .channels) p .held))
-      ∙ part-length (now (c .before .before .before .before .args .held)) (1024 * p) (channelAt (t .channels) p .held) within
+      ap length (part-exact (now (c .before .before .before .before .args .held)) (placeOctets * p) (channelAt (t .channels) p .held))
+      ∙ part-length (now (c .before .before .before .before .args .held)) (placeOctets * p) (channelAt (t .channels) p .held) within
 
   closing-of : closes t (c .before .before .before .before .args .mark) p ≡ closing t p
   closing-of = closes-marked t (c .before .before .before .before .args .mark) p (c .if1 .taken)
@@ -83,8 +83,8 @@ returns : tie.Need-returns
 returns c =
     let a = c .before .before .before .before .before .before .before .before .before .before .before .before .before .before .before .before .before .before .before .args in
     let i = c .before .before .before .before .before .before .before .before .before .before .before .before .before .before .before in
-    rw (c .close .ensures, c .before .before .before .before .before .before .before .before .before .write .ensures, c .before .before .before .note .ensures, part-exact (now (a .held)) (1024 * a .p) (channelAt (a .t .channels) (a .p) .held))
-    (sym (ends-marked (record { tally = a .t; held = now (a .held); output = now (a .output); units = now (a .units) }) (a .mark) (a .p) (i .if1 .taken) (part-length (now (a .held)) (1024 * a .p) (channelAt (a .t .channels) (a .p) .held) (within i))))
+    rw (c .close .ensures, c .before .before .before .before .before .before .before .before .before .write .ensures, c .before .before .before .note .ensures, part-exact (now (a .held)) (placeOctets * a .p) (channelAt (a .t .channels) (a .p) .held))
+    (sym (ends-marked (record { tally = a .t; held = now (a .held); output = now (a .output); units = now (a .units) }) (a .mark) (a .p) (i .if1 .taken) (part-length (now (a .held)) (placeOctets * a .p) (channelAt (a .t .channels) (a .p) .held) (within i))))
 
 returns-2 : tie.Need-returns-2
 returns-2 c =

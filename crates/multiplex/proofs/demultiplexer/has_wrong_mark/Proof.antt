@@ -2,11 +2,11 @@
 use borrow.Author.Needs.{needs}
 use mathlib.Core.Path.{_≡_, sym, _∙_}
 use lib.ListN.{length, length-map, List·getD-eq-default}
-use Rattle.channels.specs.Channels.{vacant}
+use Rattle.channels.specs.Channels.{vacant, placeCount}
 use Rattle.multiplex.proofs.demultiplexer.has_wrong_mark.Statement.{statement}
 use Rattle.multiplex.proofs.demultiplexer.has_wrong_mark.Tie as tie
 
-len : (c : tie.Start) → length (c .args .t1 .at) ≡ 16
+len : (c : tie.Start) → length (c .args .t1 .at) ≡ placeCount
 len c = sym (length-map (c .args .t1 .at) _) ∙ c .good .0 .1 .1 .0 .1 .0 .1
 
 mul-c : tie.Need-mul-c

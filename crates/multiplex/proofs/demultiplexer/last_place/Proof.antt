@@ -6,12 +6,13 @@ use native.Mathlib.Nat.{pos-of-ne-zero}
 use native.Mathlib.Omega.{arith}
 use lib.ListN.{length, List·getD-eq-default}
 use denote.Ref.{now}
+use Rattle.channels.specs.Channels.{placeCount}
 use Rattle.multiplex.proofs.Tallying.{getD-any}
 use Rattle.multiplex.proofs.demultiplexer.last_place.Statement.{statement}
 use Rattle.multiplex.proofs.demultiplexer.last_place.Tie as tie
 
 returns : tie.Need-returns
-returns c = sym (List·getD-eq-default (now (c .before .args .places)) 16 (omega arith))
+returns c = sym (List·getD-eq-default (now (c .before .args .places)) placeCount (omega arith))
 
 sub-result : tie.Need-sub-result
 sub-result c = search needs
@@ -26,7 +27,7 @@ cast-result : tie.Need-cast-result
 cast-result c = omega (arith, c .shared-slice-known .given (length (now (c .before .before .args .places)) - 1))
 
 returns-2 : tie.Need-returns-2
-returns-2 c = getD-any (now (c .before .before .args .places)) (length (now (c .before .before .args .places)) - 1) 0 16 (omega (arith, pos-of-ne-zero (c .before .if1 .left)))
+returns-2 c = getD-any (now (c .before .before .args .places)) (length (now (c .before .before .args .places)) - 1) 0 placeCount (omega (arith, pos-of-ne-zero (c .before .if1 .left)))
 
 pub last-place-spec : {M : Type 1} → statement M
 last-place-spec =

@@ -4,7 +4,7 @@ use native.Mathlib.Numerals.{add-one, add-two}
 use lib.ListN.{length-set}
 use lib.Seq.{sets-eq}
 use denote.Ref.{now}
-use Rattle.multiplex.specs.Tally.{entry}
+use Rattle.multiplex.specs.Units.{listed}
 use Rattle.multiplex.proofs.demultiplexer.note.Statement.{statement}
 use Rattle.multiplex.proofs.demultiplexer.note.Tie as tie
 
@@ -42,7 +42,7 @@ same-length : tie.Need-same-length
 same-length c = search needs
 
 returns : tie.Need-returns
-returns c = rw (add-one, add-two) (sets-eq (entry (c .args .channel) (c .args .start) (c .args .len)) (now (c .args .units)) (c .args .at) (search needs))
+returns c = rw (add-one, add-two) (sets-eq (listed (c .args .channel) (c .args .start) (c .args .len)) (now (c .args .units)) (c .args .at) (search needs))
 
 pub note-spec : {M : Type 1} → statement M
 note-spec =

@@ -9,7 +9,7 @@ use lib.ListN.{length, take, drop, getD}
 use denote.Ref.{now}
 use Rattle.channels.specs.declared.Channel.{Channel}
 use Rattle.multiplex.specs.declared.demultiplexer.Tally.{Tally}
-use Rattle.channels.specs.Channels.{channelAt, put}
+use Rattle.channels.specs.Channels.{channelAt, put, placeCount}
 use Rattle.multiplex.specs.Pieces.{laid, total}
 use Rattle.multiplex.specs.Demultiplexer.{roomIn, fits}
 use Rattle.multiplex.specs.Tally.{noTally, joins, atOnce, counts, tallied, Draft, heldWith, outputWith, unitsWith, puts, putsAll}
@@ -58,7 +58,7 @@ module _ (c : tie.In-loop Inv-loop μ-loop) where
   abbrev before : Draft
   before = record { tally = so-far; held = c .before .loop .held; output = c .before .loop .output; units = c .before .loop .units }
 
-  near : place < 16
+  near : place < placeCount
   near = c .before .before .before .before .before .before .before .before .pre .0 (c .before .loop .j) (c .loop-test .taken)
 
   in-ls : c .before .loop .j < length ls

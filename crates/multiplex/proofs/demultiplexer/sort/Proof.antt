@@ -8,20 +8,19 @@ use native.Mathlib.Omega.{arith}
 use lib.ListN.{length, take, drop, length-append, length-map}
 use lib.Seq.{length-take-le, take-at}
 use denote.Ref.{now}
-use Rattle.table.specs.Slots.{Slot, pieces, octetsOf}
+use Rattle.table.specs.Slots.{Slot, payloadSlots, octetsOf, numbersOf}
 use Rattle.table.specs.Table.{entryOf}
-use Rattle.channels.specs.Channels.{placeOf}
-use Rattle.channels.specs.Places.{allIn}
-use Rattle.multiplex.specs.Pieces.{Piece, allOpen}
-use Rattle.multiplex.specs.Demultiplexer.{Lent, delivered}
-use Rattle.multiplex.proofs.Laying.{numbersOf, Slotted, lays-slotted}
-use Rattle.multiplex.proofs.Sorting.{all-open, Found, slotted-found, sorted-long, sorted-closed, sorted-all}
+use Rattle.channels.specs.Channels.{placeOf, allOpen}
+use Rattle.multiplex.specs.Pieces.{Piece}
+use Rattle.multiplex.specs.Demultiplexer.{DemuxLent, delivered}
+use Rattle.multiplex.proofs.Laying.{Slotted, lays-slotted}
+use Rattle.multiplex.proofs.Sorting.{Found, slotted-found, sorted-long, sorted-closed, sorted-all}
 use Rattle.multiplex.proofs.demultiplexer.sort.Statement.{statement}
 use Rattle.multiplex.proofs.demultiplexer.sort.Tie as tie
 
 -- ---- the slots that the table has laid down
 
-module _ (c : tie.After-pieces) where
+module _ (c : tie.After-payload-slots) where
   abbrev from : tie.Start
   from = c .before .before .before .before .before .before .before
 
@@ -29,22 +28,22 @@ module _ (c : tie.After-pieces) where
   xs = now (from .args .payload)
 
   abbrev l : List Slot
-  l = pieces (entryOf (now (from .args .table)) (from .args .code .0)) (length xs)
+  l = payloadSlots (entryOf (now (from .args .table)) (from .args .code .0)) (length xs)
 
-  abbrev lent : Lent
+  abbrev lent : DemuxLent
   lent = record { channels = from .args .s; held = now (from .args .held); output = now (from .args .output); units = now (from .args .units) }
 
   abbrev n : ℕ
-  n = c .pieces .result .count
+  n = c .payload-slots .result .count
 
   abbrev cs : List ℕ
-  cs = c .pieces .last .1 .1 .1 .0
+  cs = c .payload-slots .last .1 .1 .1 .0
 
   abbrev ls : List ℕ
-  ls = c .pieces .last .1 .1 .1 .1 .0
+  ls = c .payload-slots .last .1 .1 .1 .1 .0
 
-  slotted : Slotted l (length xs) (c .pieces .result) cs ls
-  slotted = lays-slotted (entryOf (now (from .args .table)) (from .args .code .0)) (length xs) (from .pre .0) (c .pieces .result) _ _ cs ls refl refl (c .pieces .ensures)
+  slotted : Slotted l (length xs) (c .payload-slots .result) cs ls
+  slotted = lays-slotted (entryOf (now (from .args .table)) (from .args .code .0)) (length xs) (from .pre .0) (c .payload-slots .result) _ _ cs ls refl refl (c .payload-slots .ensures)
 
   in-cs : n ≤ length cs
   in-cs = omega (arith, slotted .count, slotted .few, slotted .forChannels)
@@ -55,7 +54,7 @@ module _ (c : tie.After-pieces) where
 -- ---- the channels that were found
 
 module _ (c : tie.After-find) where
-  abbrev p : tie.After-pieces
+  abbrev p : tie.After-payload-slots
   p = c .before .before .before .before
 
   found-are : c .find .last .1 .0 ≡ map (placeOf (from p .args .s)) (numbersOf (l p))
@@ -66,25 +65,25 @@ module _ (c : tie.After-find) where
       ap length found-are ∙ length-map (numbersOf (l p)) (placeOf (from p .args .s)) ∙ length-map (l p) (λ (x : Slot). x .channel)
       ∙ sym (slotted p .count)
 
-  abbrev places : List ℕ
-  places = take (n p) (c .find .last .1 .0 ++ drop (n p) (cs p))
+  abbrev found-places : List ℕ
+  found-places = take (n p) (c .find .last .1 .0 ++ drop (n p) (cs p))
 
-  places-are : places ≡ c .find .last .1 .0
+  places-are : found-places ≡ c .find .last .1 .0
   places-are = take-at (c .find .last .1 .0) (drop (n p) (cs p)) (n p) found-length
 
-  open-is : c .find .result ≡ allOpen (from p .args .s) (l p)
-  open-is = c .find .ensures .0 ∙ ap (allIn (from p .args .s)) (slotted p .channels) ∙ all-open (from p .args .s) (l p)
+  open-is : c .find .result ≡ allOpen (from p .args .s) (numbersOf (l p))
+  open-is = c .find .ensures .0 ∙ ap (allOpen (from p .args .s)) (slotted p .channels)
 
   enough : length (xs p) ≤ octetsOf (l p)
-  enough = omega (arith, c .before .before .if1 .left, p .pieces .ensures .left)
+  enough = omega (arith, c .before .before .if1 .left, p .payload-slots .ensures .left)
 
-  found : c .find .result ≡ true → Found (from p .args .s) (l p) (length (xs p)) places (take (n p) (ls p))
+  found : c .find .result ≡ true → Found (from p .args .s) (l p) (length (xs p)) found-places (take (n p) (ls p))
   found e =
-      slotted-found (from p .args .s) (l p) (length (xs p)) (p .pieces .result) (cs p) (ls p) (slotted p) places (places-are ∙ found-are)
-      (all-open (from p .args .s) (l p) ∙ sym open-is ∙ e)
+      slotted-found (from p .args .s) (l p) (length (xs p)) (p .payload-slots .result) (cs p) (ls p) (slotted p) found-places (places-are ∙ found-are)
+      (sym open-is ∙ e)
 
-pieces-requires : tie.Need-pieces-requires
-pieces-requires c κs = search needs
+payload-slots-requires : tie.Need-payload-slots-requires
+payload-slots-requires c κs = search needs
 
 refused-requires : tie.Need-refused-requires
 refused-requires c κs = search needs
@@ -92,7 +91,7 @@ refused-requires c κs = search needs
 returns : tie.Need-returns
 returns c =
     let k = c .before .before .before in
-    let more : octetsOf (l k) < length (xs k) = omega (arith, c .before .if1 .taken, k .pieces .ensures .left) in
+    let more : octetsOf (l k) < length (xs k) = omega (arith, c .before .if1 .taken, k .payload-slots .ensures .left) in
     rw (c .refused .ensures) (sym (sorted-long (lent k) (from k .args .mark) (xs k) (l k) more))
 
 array-borrow-prefix-places : tie.Need-array-borrow-prefix-places
@@ -151,7 +150,7 @@ pub sort-spec : {M : Type 1} → statement M
 sort-spec =
     tie.close
     (tie.spec
-    pieces-requires
+    payload-slots-requires
     refused-requires
     returns
     array-borrow-prefix-places

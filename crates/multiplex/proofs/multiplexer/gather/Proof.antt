@@ -6,7 +6,7 @@ use native.Mathlib.Omega.{arith}
 use denote.Ref.{now}
 use mathlib.Core.List.{List, _∷_}
 use lib.ListN.{length, take, drop, length-take}
-use Rattle.channels.specs.Channels.{channelAt, waits}
+use Rattle.channels.specs.Channels.{channelAt, waits, placeCount}
 use Rattle.multiplex.specs.Pieces.{Piece, laid}
 use Rattle.multiplex.proofs.Gathering.{Gathering, pieceAt, gathers-at, first-moves, gathers-next, gathers-end}
 use Rattle.multiplex.proofs.multiplexer.gather.Statement.{statement}
@@ -34,7 +34,7 @@ here c =
 -- .. it can be sent, and fits
 moves : (c : tie.In-loop Inv-loop μ-loop) → let l = c .before in let s = l .before .before .before .before .before in
     let q = pieceAt (now (s .args .places)) (now (s .args .lengths)) (l .loop .j) in
-    (q .place < 16) × (q .octets ≤ waits (channelAt (l .loop .cur) (q .place))) × (l .loop .at + q .octets ≤ length (l .loop .payload))
+    (q .place < placeCount) × (q .octets ≤ waits (channelAt (l .loop .cur) (q .place))) × (l .loop .at + q .octets ≤ length (l .loop .payload))
 moves c = first-moves _ _ _ _ _ _ _ _ _ (here c)
 
 loop-holds : tie.Need-loop-holds Inv-loop μ-loop

@@ -4,7 +4,7 @@ use mathlib.Core.Path.{sym, _∙_}
 use borrow.Author.Tests.{lt-ltb, le-ltb, leb-true}
 use Rattle.octets.specs.Tests.{both-true}
 use Rattle.table.specs.Table.{isDefined}
-use Rattle.multiplex.specs.Multiplexer.{multiplexed}
+use Rattle.multiplex.specs.Multiplexer.{packed, multiplexed}
 use Rattle.multiplex.proofs.multiplexer.multiplex.Statement.{statement}
 use Rattle.multiplex.proofs.multiplexer.multiplex.Tie as tie
 
@@ -37,7 +37,7 @@ same-length : tie.Need-same-length
 same-length c = search needs
 
 returns-3 : tie.Need-returns-3
-unfolding multiplexed
+unfolding multiplexed packed
 returns-3 c =
     let p = c .before .before in
     let f = p .before .before in

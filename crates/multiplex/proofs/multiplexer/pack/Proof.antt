@@ -4,8 +4,8 @@ use mathlib.Core.Path.{_≡_, refl, sym}
 use native.Mathlib.Omega.{arith}
 use denote.Ref.{now}
 use lib.ListN.{length}
-use Rattle.table.specs.Table.{entryOf}
-use Rattle.table.specs.Slots.{pieces}
+use Rattle.table.specs.Table.{entryOf, longestPayload}
+use Rattle.table.specs.Slots.{payloadSlots}
 use Rattle.multiplex.specs.Multiplexer.{walked}
 use Rattle.multiplex.specs.Walks.{WalkIs}
 use Rattle.multiplex.proofs.Packing.{lays-numbers, lays-lengths, lays-within, walk-over, walk-sendable, walk-fits, packed-closed, packed-empty, packed-sent}
@@ -13,20 +13,20 @@ use Rattle.multiplex.proofs.multiplexer.pack.Statement.{statement}
 use Rattle.multiplex.proofs.multiplexer.pack.Tie as tie
 
 -- the lists have as many places as before
-long : (c : tie.After-pieces) → (length (c .pieces .last .1 .1 .1 .0) ≡ 255) × (length (c .pieces .last .1 .1 .1 .1 .0) ≡ 255)
+long : (c : tie.After-payload-slots) → (length (c .payload-slots .last .1 .1 .1 .0) ≡ longestPayload) × (length (c .payload-slots .last .1 .1 .1 .1 .0) ≡ longestPayload)
 long c =
     let s = c .before .before .before .before in
-    (lays-numbers _ _ (s .pre .0) _ _ _ _ _ (c .pieces .ensures) refl refl, lays-lengths _ _ (s .pre .0) _ _ _ _ _ (c .pieces .ensures) refl refl)
+    (lays-numbers _ _ (s .pre .0) _ _ _ _ _ (c .payload-slots .ensures) refl refl, lays-lengths _ _ (s .pre .0) _ _ _ _ _ (c .payload-slots .ensures) refl refl)
 
 -- the walk goes over the slots that the table laid down
 walks : (c : tie.After-walk) → let s = c .before .before .before .before .before .before .before in
-    WalkIs (walked (s .args .s) (pieces (entryOf (now (s .args .table)) (s .args .code .0)) (s .args .room))) (c .walk .result) (c .walk .last .1 .1 .0) (c .walk .last .1 .1 .1 .0)
+    WalkIs (walked (s .args .s) (payloadSlots (entryOf (now (s .args .table)) (s .args .code .0)) (s .args .room))) (c .walk .result) (c .walk .last .1 .1 .0) (c .walk .last .1 .1 .1 .0)
 walks c =
     let s = c .before .before .before .before .before .before .before in
-    walk-over _ _ (s .pre .0) _ _ _ _ _ (c .before .before .before .pieces .ensures) refl refl _ _ _ _ (c .walk .ensures)
+    walk-over _ _ (s .pre .0) _ _ _ _ _ (c .before .before .before .payload-slots .ensures) refl refl _ _ _ _ (c .walk .ensures)
 
-pieces-requires : tie.Need-pieces-requires
-pieces-requires c κs = search needs
+payload-slots-requires : tie.Need-payload-slots-requires
+payload-slots-requires c κs = search needs
 
 slice-aggregate-walk : tie.Need-slice-aggregate-walk
 slice-aggregate-walk c = sym (long (c .before) .0)
@@ -37,7 +37,7 @@ slice-aggregate-walk-2 c = sym (long (c .before .before) .1)
 walk-requires : tie.Need-walk-requires
 walk-requires c κs =
     let p = c .before .before in
-    let n = lays-within _ _ (p .before .before .before .before .pre .0) _ _ _ _ _ (p .pieces .ensures) refl refl in
+    let n = lays-within _ _ (p .before .before .before .before .pre .0) _ _ _ _ _ (p .payload-slots .ensures) refl refl in
     (n, rw (long p .0) n, rw (long p .1) n)
 
 refused-requires : tie.Need-refused-requires
@@ -87,7 +87,7 @@ pub pack-spec : {M : Type 1} → statement M
 pack-spec =
     tie.close
     (tie.spec
-    pieces-requires
+    payload-slots-requires
     slice-aggregate-walk
     slice-aggregate-walk-2
     walk-requires

@@ -6,9 +6,8 @@ use native.Mathlib.Omega.{arith}
 use lib.Dec.{eqb}
 use lib.ListN.{getD}
 use Rattle.channels.specs.Search.{first}
-use Rattle.channels.specs.Channels.{placeOf}
-use Rattle.channels.proofs.Placing.{sought-place}
-use Rattle.multiplex.proofs.Seats.{seats, place-seats, seats-put}
+use Rattle.channels.specs.Channels.{placeOf, placeOctets}
+use Rattle.channels.proofs.Laws.{sought-place, seats, place-seats, seats-put}
 use Rattle.multiplex.proofs.Walking.{turn-on, turn-last}
 use Rattle.multiplex.proofs.Steps.{Walking, begun, ended, closed, blocked, goes, last}
 use Rattle.multiplex.proofs.multiplexer.walk.Statement.{statement}
@@ -21,10 +20,10 @@ Inv-loop n numbers₀ lengths₀ sought cur₀ octets₀ j₀ numbers lengths cu
 abbrev μ-loop : tie.MeasureT-loop
 μ-loop n numbers₀ lengths₀ sought cur₀ octets₀ j₀ numbers lengths cur octets j = n - j
 
-few : (c : tie.After-known-told Inv-loop μ-loop) → c .before .k .given .0 .0 ≤ 1024
+few : (c : tie.After-known-told Inv-loop μ-loop) → c .before .k .given .0 .0 ≤ placeOctets
 few c = omega (arith, turn-on _ _ _ (sym (c .before .before .before .turn-of .ensures) ∙ c .before .k .given .1) .0)
 
-few-2 : (c : tie.After-known-told2 Inv-loop μ-loop) → c .before .k2 .given .0 .0 ≤ 1024
+few-2 : (c : tie.After-known-told2 Inv-loop μ-loop) → c .before .k2 .given .0 .0 ≤ placeOctets
 few-2 c = omega (arith, turn-last _ _ _ (sym (c .before .before .before .turn-of .ensures) ∙ c .before .k2 .given .1) .0)
 
 -- the channels keep their seats, so that a number is found where it was at first

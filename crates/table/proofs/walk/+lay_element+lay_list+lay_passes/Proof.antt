@@ -6,7 +6,7 @@ use native.Mathlib.Nat.{pos-of-ne-zero, sub-zero}
 use native.Mathlib.Omega.{arith}
 use denote.Ref.{now}
 use Rattle.table.specs.Slots.{copies, skip, elementSlots, listSlots}
-use Rattle.table.proofs.Laws.{element-filled, list-filled}
+use Rattle.table.proofs.Cutting.{element-filled, list-filled}
 use Rattle.table.proofs.Laying.{lays-empty, Under, under-way, under-turn, under-done, under-idle}
 use Rattle.table.proofs.Passing.{as-channel, as-flat, as-inner, inner-inside, list-rest, list-done, list-idle, copies-rest, copies-done, copies-idle}
 use Prim.Native.Nat.{ℕ, _<_}

@@ -1,7 +1,7 @@
--- The octets of a place: a part of an array in which others have theirs.
+-- A part of a list in which others have theirs.
 --
 --   apart             two places that differ: one comes first
---   drop-take         what is behind n octets of a part is a part
+--   drop-take         what is behind n elements of a part is a part
 --   part-next         .. of the same end
 --   part-elsewhere    what is written elsewhere leaves a part as it was
 --   part-grown        what is written behind a part joins it

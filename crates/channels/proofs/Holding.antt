@@ -19,23 +19,22 @@ use native.Mathlib.Omega.{arith}
 use lib.ListN.{length, take, drop, length-set}
 use Rattle.octets.specs.Tests.{never}
 use Rattle.octets.specs.Written.{written, written-length}
-use Rattle.adaptation.specs.Handed.{longest}
 use Rattle.channels.specs.declared.Channel.{Channel}
 use Rattle.channels.specs.declared.Channels.{Channels}
-use Rattle.channels.specs.Channels.{channelAt, put, holding}
-use Rattle.multiplex.specs.Claims.{Orderly}
-use Rattle.multiplex.proofs.Seats.{put-there, put-elsewhere}
-use Rattle.multiplex.proofs.Parts.{apart, part-elsewhere, part-grown}
+use Rattle.channels.specs.Channels.{placeCount, placeOctets, allOctets, channelAt, put, holding}
+use Rattle.channels.specs.Claims.{Orderly}
+use Rattle.channels.proofs.Seats.{put-there, put-elsewhere}
+use Rattle.octets.specs.Parts.{apart, part-elsewhere, part-grown}
 
 abbrev pub heldAt : Channel → List ℕ → ℕ → List ℕ
-heldAt d h p = take (d .held) (drop (longest * p) h)
+heldAt d h p = take (d .held) (drop (placeOctets * p) h)
 
-module _ {r : Channels} {h : List ℕ} (o : Orderly r h) {p : ℕ} (inside : p < 16) where
-  pub orderly-put : (d : Channel) (h′ : List ℕ) → d .held ≤ longest → (d .segmentable ≡ false → d .held ≡ 0) → length h′ ≡ 16384 → Orderly (put r p d) h′
+module _ {r : Channels} {h : List ℕ} (o : Orderly r h) {p : ℕ} (inside : p < placeCount) where
+  pub orderly-put : (d : Channel) (h′ : List ℕ) → d .held ≤ placeOctets → (d .segmentable ≡ false → d .held ≡ 0) → length h′ ≡ allOctets → Orderly (put r p d) h′
   orderly-put d h′ b f e = record {
     full = length-set (r .at) p d ∙ o .full;
     room = e;
-    bounded = λ q. at q (λ c. c .held ≤ longest) b (o .bounded q) (ℕ-discrete q p);
+    bounded = λ q. at q (λ c. c .held ≤ placeOctets) b (o .bounded q) (ℕ-discrete q p);
     whole = λ q. at q (λ c. c .segmentable ≡ false → c .held ≡ 0) f (o .whole q) (ℕ-discrete q p);
   }
     where
@@ -48,7 +47,7 @@ module _ {r : Channels} {h : List ℕ} (o : Orderly r h) {p : ℕ} (inside : p <
 
   -- ---- octets that join
 
-  module _ (x : List ℕ) (fits : channelAt r p .held + length x ≤ longest) where
+  module _ (x : List ℕ) (fits : channelAt r p .held + length x ≤ placeOctets) where
     abbrev there : Channel
     there = channelAt r p
 
@@ -56,21 +55,21 @@ module _ {r : Channels} {h : List ℕ} (o : Orderly r h) {p : ℕ} (inside : p <
     more = holding there (there .held + length x)
 
     abbrev filled : List ℕ
-    filled = written h (longest * p + there .held) x
+    filled = written h (placeOctets * p + there .held) x
 
-    space : longest * p + there .held + length x ≤ length h
+    space : placeOctets * p + there .held + length x ≤ length h
     space = omega (arith, o .room)
 
-    pub filled-room : length filled ≡ 16384
-    filled-room = written-length h (longest * p + there .held) x space ∙ o .room
+    pub filled-room : length filled ≡ allOctets
+    filled-room = written-length h (placeOctets * p + there .held) x space ∙ o .room
 
     pub held-grown : heldAt more filled p ≡ heldAt there h p ++ x
-    held-grown = part-grown h (longest * p) (there .held) x space
+    held-grown = part-grown h (placeOctets * p) (there .held) x space
 
     pub held-else : (q : ℕ) → q ≢ p → heldAt (channelAt r q) filled q ≡ heldAt (channelAt r q) h q
     held-else q f =
-        part-elsewhere h (longest * p + there .held) x space (channelAt r q .held) (longest * q)
-        (⊎-elim {C = (longest * q + channelAt r q .held ≤ longest * p + there .held) ⊎ (longest * p + there .held + length x ≤ longest * q)}
+        part-elsewhere h (placeOctets * p + there .held) x space (channelAt r q .held) (placeOctets * q)
+        (⊎-elim {C = (placeOctets * q + channelAt r q .held ≤ placeOctets * p + there .held) ⊎ (placeOctets * p + there .held + length x ≤ placeOctets * q)}
         (λ a. inl (omega (arith, o .bounded q))) (λ a. inr (omega arith)) (apart p q f))
 
     pub orderly-joined : there .segmentable ≡ true → Orderly (put r p more) filled

@@ -29,10 +29,10 @@ use lib.Dec.{eqb}
 use lib.ListN.{length, getD, set, List·getD-map, List·getD-eq-default}
 use lib.Seq.{map-set-same, getD-set-same, getD-set-other}
 use Rattle.octets.specs.Tests.{never}
 use Rattle.channels.specs.declared.Channel.{Channel}
 use Rattle.channels.specs.declared.Channels.{Channels}
 use Rattle.channels.specs.Search.{first}
-use Rattle.channels.specs.Channels.{vacant, isChannel, placeOf, freePlace, channelAt, put}
+use Rattle.channels.specs.Channels.{placeCount, vacant, isChannel, placeOf, freePlace, channelAt, put}
 
 pub record Seat : Type 0 where
   pub taken : Bool
@@ -110,21 +110,21 @@ is-number : (b : Bool) (m n : ℕ) → cond b (eqb m n) false ≡ true → m ≡
 is-number true m n e = eqb-true m n e
 is-number false m n e = never (cc)
 
-module _ (s : Channels) (full : length (s .at) ≡ 16) where
-  pub place-number : (n : ℕ) → placeOf s n < 16 → channelAt s (placeOf s n) .number ≡ n
+module _ (s : Channels) (full : length (s .at) ≡ placeCount) where
+  pub place-number : (n : ℕ) → placeOf s n < placeCount → channelAt s (placeOf s n) .number ≡ n
   unfolding placeOf
   place-number n h =
       is-number (channelAt s (placeOf s n) .«open») (channelAt s (placeOf s n) .number) n
       (first-found (isChannel n) vacant (s .at) (rw full h))
 
-  pub place-unique : (n k p : ℕ) → p < 16 → placeOf s n ≡ p → placeOf s k ≡ p → n ≡ k
+  pub place-unique : (n k p : ℕ) → p < placeCount → placeOf s n ≡ p → placeOf s k ≡ p → n ≡ k
   place-unique n k p h e f =
       sym (place-number n (rw e h)) ∙ ap (λ (q : ℕ). channelAt s q .number) (e ∙ sym f) ∙ place-number k (rw f h)
 
-  pub vacant-behind : (p : ℕ) → 16 ≤ p → channelAt s p ≡ vacant
+  pub vacant-behind : (p : ℕ) → placeCount ≤ p → channelAt s p ≡ vacant
   vacant-behind p h = List·getD-eq-default (s .at) vacant (rw full h)
 
-  pub put-there : (p : ℕ) (c : Channel) → p < 16 → channelAt (put s p c) p ≡ c
+  pub put-there : (p : ℕ) (c : Channel) → p < placeCount → channelAt (put s p c) p ≡ c
   put-there p c h = getD-set-same (s .at) p c vacant (rw full h)
 
 pub put-elsewhere : (s : Channels) (p q : ℕ) (c : Channel) → q ≢ p → channelAt (put s p c) q ≡ channelAt s q
