@@ -3,8 +3,7 @@
 --   demands     each of them is met
 --
 -- Assumes nothing.
-use Rattle.multiplex.proofs.Theorems.{demand-met}
-use Rattle.multiplex.proofs.Bounds.{always-sound}
+use Rattle.multiplex.proofs.Laws.{demand-met, always-sound}
 use Rattle.demands.specs.Demands.{Demands}
 use Rattle.demands.proofs.First.{demand1}
 use Rattle.demands.proofs.Reached.{demand3}

@@ -19,7 +19,7 @@ use Rattle.adaptation.specs.Check.{agrees}
 use Rattle.adaptation.specs.Width.{kindAt}
 use Rattle.calls.specs.Refusal.{told, refusal}
 use Rattle.adaptation.specs.AL1M.{isSetting}
-use Rattle.adaptation.specs.Receiving.{isWord, refusals, isBare, badgeOf, changedOf, Receives}
+use Rattle.adaptation.specs.Receiving.{isWord, receiveTests, isBare, badgeOf, changedOf, Receives}
 use Rattle.adaptation.specs.declared.Badge.the-variants.{OutOfReach}
 use Rattle.adaptation.specs.declared.al1m.Judgement.{Judgement}
 use Rattle.adaptation.specs.declared.al1m.Received.the-variants as al1m
@@ -27,7 +27,7 @@ use Rattle.adaptation.proofs.Laws.{refused-none}
 use Rattle.adaptation.proofs.Laws.{sentIsHandedUp, faultlessIsCodeWord, outOfReachExactly}
 use Rattle.demands.specs.Repairs.{Repairs, Demand3}
 
-short : (n e : ℕ) (w before : List ℕ) → refusal (refusals (length w) n e (length before)) ≡ told tt → length w ≤ 255
+short : (n e : ℕ) (w before : List ℕ) → refusal (receiveTests (length w) n e (length before)) ≡ told tt → length w ≤ 255
 unfolding isWord
 short n e w before a =
     let b = refused-none (isSetting n e) (isWord (length w) n e) (ltb (length before) (length w)) a .1 in

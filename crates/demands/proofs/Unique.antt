@@ -7,11 +7,12 @@
 -- Assumes nothing.
 use mathlib.Core.Path.{_≡_, sym, _∙_}
 pub use Rattle.codeword.proofs.Theorems.{encodedUnique as codeword-encoded, repairedUnique as codeword-repaired}
-pub use Rattle.adaptation.proofs.Laws.{encodedUnique as al1m-encoded, receivedUnique as al1m-received}
-pub use Rattle.adaptation.proofs.Laws.{length-once, ended-once, passed-once, read-once, received-once}
-pub use Rattle.kyteblossom.proofs.Unique.{encode-once, receive-once}
-pub use Rattle.table.proofs.Theorems.{replacedUnique}
-pub use Rattle.multiplex.proofs.Unique.{after-once, posted-once, demultiplexed-once, multiplexed-once, sending-once, taking-once}
+pub use Rattle.calls.proofs.Laws.{length-once, lengths-once, outcome-once}
+pub use Rattle.adaptation.proofs.Laws.{encodedUnique as al1m-encoded, receivedUnique as al1m-received, passed-once, read-once, received-once}
+pub use Rattle.kyteblossom.proofs.Laws.{encode-once, receive-once}
+pub use Rattle.table.proofs.Laws.{replacedUnique}
+pub use Rattle.channels.proofs.Laws.{afterUnique, postUnique, sendUnique, takeUnique}
+pub use Rattle.multiplex.proofs.Laws.{demultiplexed-once, multiplexed-once}
 
 pub equation-once : {A : Type 0} (definition r q : A) → r ≡ definition → q ≡ definition → r ≡ q
 equation-once x r q e f = e ∙ sym f

@@ -32,14 +32,14 @@ use Rattle.adaptation.specs.Check as check
 use Rattle.adaptation.specs.Check.{plain, preset, checkBits, checkOf, agrees, none, eight, sixteen}
 use Rattle.adaptation.specs.Width.{widthOf, kindAt}
 use Rattle.adaptation.specs.AL1M.{isSetting, isSendable, sentLength}
-use Rattle.adaptation.specs.Receiving.{isWord, refusals, isBare, badgeOf, isCorrected, unitLength, Receives}
+use Rattle.adaptation.specs.Receiving.{isWord, receiveTests, isBare, badgeOf, isCorrected, unitLength, Receives}
 use Rattle.adaptation.specs.declared.Badge.{Badge}
 use Rattle.adaptation.specs.declared.Badge.the-variants.{Clean, Corrected, OutOfReach, CheckFailed}
 use Rattle.adaptation.specs.declared.al1m.Received.the-variants as al1m
 use Rattle.adaptation.proofs.Laws.{refused-not}
 use Rattle.adaptation.proofs.Laws.{receivedUnique}
 use Rattle.table.specs.Form.{many, headAt, elementAt, listAt, isEntry}
-use Rattle.table.specs.Slots.{copies, skip, inTurn, elementSlots, listSlots, slots, cut, pieces, channelsOf}
+use Rattle.table.specs.Slots.{copies, skip, inTurn, elementSlots, listSlots, slots, cut, payloadSlots, channelsOf}
 use Rattle.demands.specs.Small.{ReceivedAs, Small}
 use Rattle.demands.proofs.Working.{times, horner}
 use Rattle.demands.proofs.Testing.{isZeroAt, isCode, isCode-true, noneAt, noneNear, noneNear-none}
@@ -49,7 +49,7 @@ use Rattle.demands.proofs.Generating.{coefficient, ofList, rooted-worke
 
 module _ (n e : ℕ) (w : List ℕ) (setting : isSetting n e ≡ true) (isOne : isWord (length w) n e ≡ true) (short : leb (length w) 255 ≡ true) (long : ltb (2 * e) (length w) ≡ true) where
   module _ (before : List ℕ) (room : length w ≤ length before) where
-    allowed : refusal (refusals (length w) n e (length before)) ≡ told tt
+    allowed : refusal (receiveTests (length w) n e (length before)) ≡ told tt
     allowed = refused-not (isSetting n e) (isWord (length w) n e) (ltb (length before) (length w)) setting isOne (le-ltb (length before) (length w) room)
 
     fits : reads (length w) e (length before) ≡ true
@@ -159,7 +159,7 @@ w8 = 0x10 ∷ 0x80 ∷ 0xAF ∷ []
 
 -- each row is worked out by antt; A7 goes through all words that differ in one octet
 pub small : Small
-unfolding isOdd bitsOf bits number octetsOf sum lowered divided remainder check.generator plain preset checkBits checkOf agrees eight sixteen none widthOf isSetting isSendable sentLength isWord distance isCode isZeroAt noneAt noneNear horner times powers logs many headAt elementAt listAt isEntry copies skip inTurn elementSlots listSlots slots cut pieces channelsOf
+unfolding isOdd bitsOf bits number octetsOf sum lowered divided remainder check.generator plain preset checkBits checkOf agrees eight sixteen none widthOf isSetting isSendable sentLength isWord distance isCode isZeroAt noneAt noneNear horner times powers logs many headAt elementAt listAt isEntry copies skip inTurn elementSlots listSlots slots cut payloadSlots channelsOf
 small = (
   refl,
   generator-two,

@@ -18,7 +18,7 @@ use Rattle.adaptation.specs.Receiving.{Receives, handedUnit}
 use Rattle.adaptation.specs.Claims.{isFaulty, Faultless}
 use Rattle.adaptation.specs.declared.Badge.{Badge}
 use Rattle.adaptation.specs.declared.Badge.the-variants.{OutOfReach}
-use Rattle.calls.specs.declared.Length.the-variants as length
+use Rattle.calls.specs.declared.Length.the-variants as sends
 use Rattle.adaptation.specs.declared.al1m.Judgement.{Judgement}
 use Rattle.adaptation.specs.declared.al1m.Received.{Received}
 use Rattle.adaptation.specs.declared.al1m.Received.the-variants as al1m
@@ -40,6 +40,6 @@ module _ (n e : ℕ) (w before after : List ℕ) (j : Judgement) where
 pub record Demand3 : Type 0 where
   pub repairs : (n e : ℕ) (w before after : List ℕ) (j : Judgement) → Receives n e w before (al1m.Unit j) after → Repairs n e w before after j
   -- a unit of which at most e octets changed is handed up as sent with the true count
-  pub asSent : (n e m : ℕ) (u room sent w before after : List ℕ) (r : Received) → Sends n e u room (length.Octets m) sent
+  pub asSent : (n e m : ℕ) (u room sent w before after : List ℕ) (r : Received) → Sends n e u room (sends.Octets m) sent
       → length w ≡ m → distance w (take m sent) ≤ e → m ≤ length before → Receives n e w before r after
       → (b : Badge) × (r ≡ al1m.Unit (record { badge = b; changed = distance w (take m sent); length = length u })) × (handedUnit b w after (length u) ≡ u) × (isFaulty b ≡ false)

@@ -23,7 +23,7 @@ use Rattle.adaptation.specs.declared.Badge.the-variants.{Clean, Corrected, OutO
 use Rattle.adaptation.specs.declared.al1m.Received.{Received}
 use Rattle.adaptation.specs.declared.al1m.Received.the-variants as al1m
 use Rattle.table.specs.Form.{isEntry}
-use Rattle.table.specs.Slots.{pieces, channelsOf}
+use Rattle.table.specs.Slots.{payloadSlots, channelsOf}
 use mathlib.Core.Bool.{true}
 
 pub data Vector : Type 0 where
@@ -52,7 +52,7 @@ Holds (generator e g) = code.generator e ≡ polynomial elements (code.word g)
 Holds (sent n e u c) = Coded (kindAt n) e u c
 Holds (received n e w b k u) = ReceivedAs n e w b k u
 Holds (lengths t n e r) = sentLength t n e ≡ r
-Holds (channels s n l) = (isEntry s ≡ true) × (channelsOf (pieces s n) ≡ l)
+Holds (channels s n l) = (isEntry s ≡ true) × (channelsOf (payloadSlots s n) ≡ l)
 
 -- A10's entry is [channel 1 twice, [channel 2 once, channel 3 twice] until closing], by its numbers
 abbrev pub Small : Type 0

@@ -11,7 +11,7 @@ use mathlib.Core.Path.{_≡_}
 use mathlib.Core.List.{List}
 use Prim.Native.Nat.{ℕ, _+_, _*_}
 use lib.IntN.{ℤ, pos, negℤ}
-use Rattle.calls.specs.Refusal.{Told, refused, told, says}
+use Rattle.calls.specs.Refusal.{Told, refused, told, lengthSays}
 use Rattle.adaptation.specs.Handed.{badgeNumber}
 use Rattle.adaptation.specs.Sending.{Sends}
 use Rattle.adaptation.specs.Receiving.{Receives}
@@ -34,7 +34,7 @@ receiveAnswer (Refused k) = negℤ (pos k)
 pub record EncodeIs (n e : ℕ) (u before : List ℕ) (r : ℤ) (after : List ℕ) : Type 0 where
   pub outcome : Length
   pub encoded : Sends n e u before outcome after
-  pub number : r ≡ answer (says outcome)
+  pub number : r ≡ answer (lengthSays outcome)
 
 pub record ReceiveIs (n e : ℕ) (w before : List ℕ) (r : ℤ) (after : List ℕ) : Type 0 where
   pub outcome : Received

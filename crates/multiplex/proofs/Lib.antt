@@ -23,3 +23,4 @@ pub mod Sorting
 pub mod Unique
 pub mod Theorems
 pub mod Bounds
+pub mod Laws

@@ -1,12 +1,15 @@
 -- Any two answers that a promise of the C entries allows are equal, and so is what they leave in the lent octets. (`kyte_length` answers
--- by an equation: `p ∙ sym q` is the proof.)
+-- by an equation: `p ∙ sym q` is the proof.) The crates above take these and nothing else.
+--
+--   encode-once     sending
+--   receive-once    receiving
 --
 -- Assumes nothing.
 use mathlib.Core.Path.{_≡_, sym, ap, _∙_}
 use mathlib.Core.List.{List}
 use Prim.Native.Nat.{ℕ}
 use lib.IntN.{ℤ}
-use Rattle.calls.specs.Refusal.{says}
+use Rattle.calls.specs.Refusal.{lengthSays}
 use Rattle.adaptation.proofs.Laws.{encodedUnique, receivedUnique}
 use Rattle.calls.specs.declared.Length.{Length}
 use Rattle.kyteblossom.specs.Answer.{answer, receiveAnswer, EncodeIs, ReceiveIs}
@@ -15,7 +18,7 @@ module _ (n e : ℕ) (u before after left : List ℕ) (r q : ℤ) where
   pub encode-once : EncodeIs n e u before r after → EncodeIs n e u before q left → (r ≡ q) × (after ≡ left)
   encode-once a b =
       let same = encodedUnique n e u before after left (a .outcome) (b .outcome) (a .encoded) (b .encoded) in
-      (a .number ∙ ap (λ (l : Length). answer (says l)) (same .0) ∙ sym (b .number), same .1)
+      (a .number ∙ ap (λ (l : Length). answer (lengthSays l)) (same .0) ∙ sym (b .number), same .1)
 
   pub receive-once : ReceiveIs n e u before r after → ReceiveIs n e u before q left → (r ≡ q) × (after ≡ left)
   receive-once a b =
