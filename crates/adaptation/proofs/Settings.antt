@@ -1,8 +1,7 @@
 -- The settings that may be asked for, and the words that may be received.
 --
---   setting-unknown   a width that is none
---   setting-over      e over 127
---   setting-true      both right
+--   setting-unknown   settings that may not be asked for
+--   setting-known     .. and those that may, with the width
 --   kind-asked        the check of a width that is asked for
 --   word-long         a word over 255 octets
 --   word-short        .. one with no octet of a unit
@@ -10,34 +9,35 @@
 --   word-all          .. and only then
 --
 -- Assumes nothing.
-use mathlib.Core.Path.{_≡_, ap, _∙_}
-use mathlib.Core.Bool.{Bool, true, false, _&&_, and-false}
+use mathlib.Core.Path.{_≡_, refl, ap}
+use mathlib.Core.Bool.{Bool, true, false, cond, _&&_, and-false}
 use Prim.Native.Nat.{ℕ, _+_, _*_, _≤_, _<_}
 use borrow.Author.Tests.{le-leb, lt-leb, leb-true}
 use lib.Dec.{leb}
-use Rattle.octets.specs.Tests.{both-true}
+use Rattle.octets.specs.Tests.{both-true, never}
 use Rattle.adaptation.specs.Width.{kindOf, widthOf, isKnown, isWidth, kindAsked, kindAt}
-use Rattle.adaptation.specs.AL1M.{mostRepairs, longestWord, isSetting}
+use Rattle.adaptation.specs.AL1M.{mostRepairs, longestWord, isSetting, settingOf}
 use Rattle.adaptation.specs.Receiving.{isWord}
 use Rattle.adaptation.specs.declared.checks.Width.{Width}
 use Rattle.adaptation.specs.declared.checks.Asked.{Asked}
 use Rattle.adaptation.specs.declared.checks.Asked.the-variants.{Known, Unknown}
 
 module _ (n e : ℕ) where
-  abbrev by : Asked → Bool
-  by a = isKnown a && leb e mostRepairs
+  pub setting-unknown : settingOf n e ≡ Unknown → isSetting n e ≡ false
+  unfolding isSetting settingOf
+  setting-unknown = by (leb e mostRepairs)
+    where
+      by : (b : Bool) → cond b (widthOf n) Unknown ≡ Unknown → isWidth n && b ≡ false
+      by true k = ap (λ (a : Asked). isKnown a && true) k
+      by false k = and-false (isWidth n)
 
-  pub setting-unknown : widthOf n ≡ Unknown → isSetting n e ≡ false
-  unfolding isSetting
-  setting-unknown k = ap by k
-
-  pub setting-over : mostRepairs < e → isSetting n e ≡ false
-  unfolding isSetting
-  setting-over h = rw (lt-leb e mostRepairs h) (and-false (isWidth n))
-
-  pub setting-true : (w : Width) → widthOf n ≡ Known w → e ≤ mostRepairs → isSetting n e ≡ true
-  unfolding isSetting
-  setting-true w k h = ap by k ∙ le-leb e mostRepairs h
+  pub setting-known : (w : Width) → settingOf n e ≡ Known w → (isSetting n e ≡ true) × (widthOf n ≡ Known w) × (e ≤ mostRepairs)
+  unfolding isSetting settingOf
+  setting-known w = by (leb e mostRepairs) refl
+    where
+      by : (b : Bool) → leb e mostRepairs ≡ b → cond b (widthOf n) Unknown ≡ Known w → (isWidth n && b ≡ true) × (widthOf n ≡ Known w) × (e ≤ mostRepairs)
+      by true h k = (ap (λ (a : Asked). isKnown a && true) k, k, leb-true e mostRepairs h)
+      by false h k = never (cc)
 
 pub kind-asked : (n : ℕ) (w : Width) → widthOf n ≡ Known w → kindAt n ≡ kindOf w
 kind-asked n w k = ap kindAsked k

@@ -3,6 +3,7 @@
 --   mostRepairs        the largest e
 --   longestWord        the longest code word
 --   isSetting b e      a check of b bits and e repairs may be asked for
+--   settingOf b e      .. that check
 --   sentOctets t b e   a unit of t octets, its check of l octets and the parity: t + l + 2e
 --   isSendable t b e   such a unit may be sent
 --   al1mTests s r x    what refuses, in this order: settings that are not s, a length that is not r, a room that is x, too small
@@ -10,12 +11,14 @@
 --   sentLength t b e   the answer to it
 --
 -- Assumes nothing.
-use mathlib.Core.Bool.{Bool, false, not, _&&_}
+use mathlib.Core.Bool.{Bool, false, cond, not, _&&_}
 use mathlib.Core.List.{List, [], _∷_}
 use Prim.Native.Nat.{ℕ, _+_, _*_}
 use lib.Dec.{leb}
 use Rattle.calls.specs.Refusal.{Told, refused, told, Test, _when_, checked}
-use Rattle.adaptation.specs.Width.{isWidth, kindAt}
+use Rattle.adaptation.specs.Width.{widthOf, isWidth, kindAt}
+use Rattle.adaptation.specs.declared.checks.Asked.{Asked}
+use Rattle.adaptation.specs.declared.checks.Asked.the-variants.{Unknown}
 
 abbrev pub mostRepairs : ℕ
 mostRepairs = 127
@@ -25,6 +28,9 @@ longestWord = 255
 
 unfoldable pub isSetting : ℕ → ℕ → Bool
 isSetting b e = isWidth b && leb e mostRepairs
+
+unfoldable pub settingOf : ℕ → ℕ → Asked
+settingOf b e = cond (leb e mostRepairs) (widthOf b) Unknown
 
 abbrev pub sentOctets : ℕ → ℕ → ℕ → ℕ
 sentOctets t b e = t + kindAt b .octets + 2 * e

@@ -14,7 +14,7 @@ ghost use Rattle.codeword.specs.declared.Reach.the-variants.{Found};
 ghost use Rattle.calls.specs.Refusal.{lengthSays};
 ghost use Rattle.adaptation.specs.Check.{Kind};
 ghost use Rattle.adaptation.specs.Width.{kindOf};
-ghost use Rattle.adaptation.specs.AL1M.{sentLength};
+ghost use Rattle.adaptation.specs.AL1M.{longestWord, settingOf, sentLength};
 ghost use Rattle.adaptation.specs.Sending.{SentIs, Sends};
 ghost use Rattle.adaptation.specs.Receiving.{badgeOf, isBare, handedUnit, HandedIs, Receives};
 
@@ -36,16 +36,23 @@ pub enum Received {
     Refused(u8),
 }
 
+// The check of width bits, where it and e repairs may be asked for: else refusal 1.
+fn setting_of(width: u32, e: u32) -> Asked
+    ensures { λ r. ⌜ r ≡ settingOf width e ⌝ }
+{
+    if MOST_REPAIRS < e {
+        return Asked::Unknown;
+    }
+    checks::width_of(width)
+}
+
 // How many octets a unit is sent in, with a check of width bits and a code that repairs e octets: refusals 1, 2.
 pub fn sent_length(unit: usize, width: u32, e: u32) -> Length
     ensures { λ r. ⌜ lengthSays r ≡ sentLength unit width e ⌝ }
 {
-    let Asked::Known(w) = checks::width_of(width) else {
+    let Asked::Known(w) = setting_of(width, e) else {
         return Length::Refused(1);
     };
-    if MOST_REPAIRS < e {
-        return Length::Refused(1);
-    }
     if unit == 0 {
         return Length::Refused(2);
     }
@@ -61,11 +68,13 @@ pub fn sent_length(unit: usize, width: u32, e: u32) -> Length
 
 // Writes the unit, its check and the parity to the front of `sent`.
 fn put(unit: &[u8], w: Width, e: usize, sent: &mut [u8])
-    requires { ⌜ (0 < length (now unit)) × (length (now unit) + kindOf w .octets + 2 * e ≤ 255) × (length (now unit) + kindOf w .octets + 2 * e ≤ length (now sent)) ⌝ }
-    ensures { λ _. ⌜ SentIs (kindOf w) e (now (unit .entry)) (now (sent .entry)) (length (now (unit .entry)) + kindOf w .octets + 2 * e) (now (sent .exit)) ⌝ }
+    requires { ⌜ (0 < length (now unit)) × (length (now unit) + kindOf w .octets + 2 * e ≤ longestWord)
+        × (length (now unit) + kindOf w .octets + 2 * e ≤ length (now sent)) ⌝ }
+    ensures { λ _. ⌜ SentIs (kindOf w) e (now (unit .entry)) (now (sent .entry))
+        (length (now (unit .entry)) + kindOf w .octets + 2 * e) (now (sent .exit)) ⌝ }
 {
     let t = unit.len();
-    let mut message = [0u8; 255];
+    let mut message = [0u8; LONGEST_WORD];
     octets::write(&mut message, 0, unit);
     seals::seal(&mut message, t, w);
     let k = t + checks::octets_of(w);
@@ -76,7 +85,7 @@ fn put(unit: &[u8], w: Width, e: usize, sent: &mut [u8])
 pub fn encode(unit: &[u8], width: u32, e: u32, sent: &mut [u8]) -> Length
     ensures { λ r. ⌜ Sends width e (now (unit .entry)) (now (sent .entry)) r (now (sent .exit)) ⌝ }
 {
-    let Asked::Known(w) = checks::width_of(width) else {
+    let Asked::Known(w) = setting_of(width, e) else {
         return Length::Refused(1);
     };
     match sent_length(unit.len(), width, e) {
@@ -116,7 +125,8 @@ fn badge_of(bare: bool, changed: usize, agrees: bool) -> Badge
 
 // Looks for the code word, and judges the unit by it.
 fn judge(received: &[u8], w: Width, e: usize, repair: &mut [u8]) -> Judgement
-    requires { ⌜ (length (now received) ≤ 255) × (kindOf w .octets + 2 * e < length (now received)) × (length (now received) ≤ length (now repair)) ⌝ }
+    requires { ⌜ (length (now received) ≤ longestWord) × (kindOf w .octets + 2 * e < length (now received))
+        × (length (now received) ≤ length (now repair)) ⌝ }
     ensures { λ r. ⌜ HandedIs (kindOf w) e (now (received .entry)) (now (repair .entry)) r (now (repair .exit)) ⌝ }
 {
     let l = checks::octets_of(w);
@@ -143,12 +153,9 @@ fn judge(received: &[u8], w: Width, e: usize, repair: &mut [u8]) -> Judgement
 pub fn receive(received: &[u8], width: u32, e: u32, repair: &mut [u8]) -> Received
     ensures { λ r. ⌜ Receives width e (now (received .entry)) (now (repair .entry)) r (now (repair .exit)) ⌝ }
 {
-    let Asked::Known(w) = checks::width_of(width) else {
+    let Asked::Known(w) = setting_of(width, e) else {
         return Received::Refused(1);
     };
-    if MOST_REPAIRS < e {
-        return Received::Refused(1);
-    }
     let n = received.len();
     if LONGEST_WORD < n {
         return Received::Refused(2);

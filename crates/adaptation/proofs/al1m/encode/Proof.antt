@@ -8,7 +8,7 @@ use lib.ListN.{length}
 use Rattle.adaptation.specs.AL1M.{isSendable, sentOctets}
 use Rattle.adaptation.specs.Check.{Kind}
 use Rattle.adaptation.proofs.Coding.{coding-refused, coding-short, coding-allowed, coding-all, sent-at}
-use Rattle.adaptation.proofs.Settings.{setting-unknown, kind-asked}
+use Rattle.adaptation.proofs.Settings.{setting-unknown, setting-known, kind-asked}
 use Rattle.adaptation.proofs.Refusals.{refused-setting}
 use Rattle.adaptation.specs.declared.checks.Asked.the-variants.{Known}
 use Rattle.adaptation.specs.Width.{kindOf, widthOf, kindAt}
@@ -16,13 +16,13 @@ use Rattle.adaptation.proofs.al1m.encode.Statement.{statement}
 use Rattle.adaptation.proofs.al1m.encode.Tie as tie
 
 known : (c : tie.After-w) → widthOf (c .before .before .before .before .before .args .width) ≡ Known (c .w .given .0 .0)
-known c = sym (c .before .before .width-of .ensures) ∙ c .w .given .1
+known c = setting-known _ (c .before .before .before .before .before .args .e) _ (sym (c .before .before .setting-of .ensures) ∙ c .w .given .1) .1
 
 octets : (c : tie.After-w) → kindAt (c .before .before .before .before .before .args .width) .octets ≡ kindOf (c .w .given .0 .0) .octets
 octets c = ap (λ (κ : Kind). κ .octets) (kind-asked _ _ (known c))
 
-width-of-requires : tie.Need-width-of-requires
-width-of-requires c κs = search needs
+setting-of-requires : tie.Need-setting-of-requires
+setting-of-requires c κs = search needs
 
 enum-known-w : tie.Need-enum-known-w
 enum-known-w c = search needs
@@ -33,7 +33,7 @@ enum-told c = search needs
 returns : tie.Need-returns
 returns c =
     let a = c .before .before .before .before .before .args in
-    record { first = refused-setting _ (isSendable (length (now (a .unit))) (a .width) (a .e)) (ltb (length (now (a .sent))) (sentOctets (length (now (a .unit))) (a .width) (a .e))) (setting-unknown _ _ (sym (c .before .before .width-of .ensures) ∙ c .enum-told .given .1)); same = refl }
+    record { first = refused-setting _ (isSendable (length (now (a .unit))) (a .width) (a .e)) (ltb (length (now (a .sent))) (sentOctets (length (now (a .unit))) (a .width) (a .e))) (setting-unknown _ _ (sym (c .before .before .setting-of .ensures) ∙ c .enum-told .given .1)); same = refl }
 
 sent-length-requires : tie.Need-sent-length-requires
 sent-length-requires c κs = search needs
@@ -71,7 +71,7 @@ pub encode-spec : {M : Type 1} → statement M
 encode-spec =
     tie.close
     (tie.spec
-    width-of-requires
+    setting-of-requires
     enum-known-w
     enum-told
     returns
