@@ -7,6 +7,9 @@ pub mod checks; // checks.rt: the checks of 8 and 16 bits
 mod seals; // seals.rt: a check behind its octets
 mod tables; // tables.rt: the remainders of octets
 
+ghost use mathlib.Core.Path.{_≡_};
+ghost use Rattle.adaptation.specs.Handed.{badgeNumber};
+
 // The octets of the longest unit of AL1 and AL2; in AL2 its number and its check count too.
 pub const LONGEST_UNIT: usize = 1024;
 
@@ -17,4 +20,17 @@ pub enum Badge {
     OutOfReach,
     CheckFailed,
     Unchecked,
+}
+
+// Document 01's number for a badge.
+pub fn badge_number(badge: Badge) -> u8
+    ensures { λ r. ⌜ r ≡ badgeNumber badge ⌝ }
+{
+    match badge {
+        Badge::Clean => 0,
+        Badge::Corrected => 1,
+        Badge::OutOfReach => 2,
+        Badge::CheckFailed => 3,
+        Badge::Unchecked => 4,
+    }
 }

@@ -1,16 +1,20 @@
 // What the benchmark times: payloads of 255 octets, each from the same state. No host calls these entries.
+use channels::ALL_OCTETS;
 use channels::ChannelNumber;
 use channels::Channels;
+use channels::PLACE_OCTETS;
 use multiplex::demultiplexer;
 use multiplex::demultiplexer::Finished;
 use multiplex::multiplexer;
-use multiplex::multiplexer::Sent;
+use multiplex::multiplexer::Made;
 use table::Code;
+use table::LONGEST_PAYLOAD;
+use table::TABLE_NUMBERS;
 ghost use Prim.Native.Nat.{_≤_};
 
 // Channel 1, whole, and channels 2 and 3, segmentable; entry 1 is row 5 of table 2 (000, 6.6):
 // {LCN1,RC4},{{LCN2,RC1},{LCN3,RC2},RC UCF}.
-fn set_up(table: &mut [u16; 1455]) -> Channels {
+fn set_up(table: &mut [u16; TABLE_NUMBERS]) -> Channels {
     let row = [2u16, 4, 0, 1, 0, 2, 1, 0, 2, 2, 0, 3];
     table::replace(table, Code(1), &row);
     let mut s = channels::new();
@@ -20,8 +24,8 @@ fn set_up(table: &mut [u16; 1455]) -> Channels {
 }
 
 // Units wait on every channel: 4 octets on channel 1, 1,024 on the others.
-fn fill(s: Channels, waiting: &mut [u8; 16384]) -> Channels {
-    let unit = [0u8; 1024];
+fn fill(s: Channels, waiting: &mut [u8; ALL_OCTETS]) -> Channels {
+    let unit = [0u8; PLACE_OCTETS];
     let mut next = channels::post(s, waiting, ChannelNumber(0), &unit).channels;
     next = channels::post(next, waiting, ChannelNumber(1), &unit[..4]).channels;
     next = channels::post(next, waiting, ChannelNumber(2), &unit).channels;
@@ -39,12 +43,12 @@ fn accepts(finished: Finished) -> u32
 }
 
 // 1 for a payload that was made.
-fn makes(sent: Sent) -> u32
+fn makes(made: Made) -> u32
     ensures { λ r. ⌜ r ≤ 1 ⌝ }
 {
-    match sent {
-        Sent::Payload { octets: _, mark: _ } => 1,
-        Sent::Refused(_) => 0,
+    match made {
+        Made::Payload { octets: _, mark: _ } => 1,
+        Made::Refused(_) => 0,
     }
 }
 
@@ -53,14 +57,14 @@ fn makes(sent: Sent) -> u32
 pub extern "C" fn bench_demux(
     rounds: u32,
     code: u32,
-    held: &mut [u8; 16384],
+    held: &mut [u8; ALL_OCTETS],
     payload: &[u8],
     output: &mut [u8],
     units: &mut [u16],
 ) -> u32
     ensures { λ r. ⌜ r ≤ rounds ⌝ }
 {
-    let mut table = [0u16; 1455];
+    let mut table = [0u16; TABLE_NUMBERS];
     let s = set_up(&mut table);
     let mut accepted = 0;
     let mut done = 0;
@@ -87,19 +91,19 @@ pub extern "C" fn bench_demux(
 pub extern "C" fn bench_mux(
     rounds: u32,
     code: u32,
-    waiting: &mut [u8; 16384],
+    waiting: &mut [u8; ALL_OCTETS],
     payload: &mut [u8],
 ) -> u32
     ensures { λ r. ⌜ r ≤ rounds ⌝ }
 {
-    let mut table = [0u16; 1455];
+    let mut table = [0u16; TABLE_NUMBERS];
     let s = fill(set_up(&mut table), waiting);
     let mut made = 0;
     let mut done = 0;
     while done < rounds {
-        let r = multiplexer::multiplex(s, waiting, &table, Code(code), 255, payload);
-        let sent = r.sent;
-        made += makes(sent);
+        let r = multiplexer::multiplex(s, waiting, &table, Code(code), LONGEST_PAYLOAD, payload);
+        let made = r.made;
+        made += makes(made);
         done += 1;
     }
     made

@@ -21,15 +21,9 @@ pub struct Verdict {
     pub channels: Channels,
 }
 
-// The tally's column of a badge.
+// The tally's column of a badge: 1 for badge 0, and so on.
 fn column(badge: Badge) -> usize {
-    match badge {
-        Badge::Clean => 1,
-        Badge::Corrected => 2,
-        Badge::OutOfReach => 3,
-        Badge::CheckFailed => 4,
-        Badge::Unchecked => 5,
-    }
+    1 + adaptation::badge_number(badge) as usize
 }
 
 fn not_handed_up(s: Channels) -> Verdict {
@@ -85,7 +79,7 @@ fn by_al2(
 // Whether the unit that AL1M hands up is what was sent.
 fn is_sent<'a>(
     part: &'a [u8],
-    repair: &'a [u8; 255],
+    repair: &'a [u8; al1m::LONGEST_WORD],
     badge: Badge,
     length: usize,
     sent: &[u8],
@@ -101,7 +95,7 @@ fn by_al1m(
     length: usize,
     sent: &[u8],
 ) -> Verdict {
-    let mut repair = [0u8; 255];
+    let mut repair = [0u8; al1m::LONGEST_WORD];
     let width = plan::width(channel);
     let e = plan::repairs(channel);
     let received = layers::al1m_at(output, start, length, width, e, &mut repair);
@@ -161,7 +155,7 @@ pub fn count(t: Tally, channel: u16, v: Verdict) -> Tally {
     if 0 < v.column {
         next = tally::add(next, channel, v.column, 1);
     }
-    if v.repaired <= 255 {
+    if v.repaired <= al1m::LONGEST_WORD {
         next = tally::add(next, channel, tally::REPAIRED, v.repaired as u32);
     }
     if is_wrongly_green(v) {

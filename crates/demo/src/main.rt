@@ -16,9 +16,9 @@ use way::Call;
 const ROUNDS: usize = 100;
 
 fn main() {
-    let mut waiting = [0u8; 16384];
-    let mut held = [0u8; 16384];
-    let mut table = [0u16; 1455];
+    let mut waiting = [0u8; channels::ALL_OCTETS];
+    let mut held = [0u8; channels::ALL_OCTETS];
+    let mut table = [0u16; table::TABLE_NUMBERS];
     plan::fill(&mut table);
     let mut call = way::start();
     let mut round = 0;

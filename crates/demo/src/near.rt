@@ -28,7 +28,7 @@ pub fn first(unit: &[u8; 128], n: usize) -> &[u8] {
 }
 
 // The unit with what its layer adds, at the front of out; and the channels behind it.
-fn code(s: Channels, channel: u16, unit: &[u8], out: &mut [u8; 255]) -> Sent {
+fn code(s: Channels, channel: u16, unit: &[u8], out: &mut [u8; al1m::LONGEST_WORD]) -> Sent {
     if channel == plan::DATA {
         return layers::send(s, ChannelNumber(channel), true, unit, out);
     }
@@ -44,8 +44,8 @@ fn post_coded(
     s: Channels,
     channel: u16,
     length: Length,
-    out: &[u8; 255],
-    waiting: &mut [u8; 16384],
+    out: &[u8; al1m::LONGEST_WORD],
+    waiting: &mut [u8; channels::ALL_OCTETS],
 ) -> Channels {
     match length {
         Length::Octets(n) => {
@@ -57,9 +57,14 @@ fn post_coded(
 }
 
 // Makes, codes and posts a channel's unit; AL1 adds nothing.
-fn post_one(s: Channels, channel: u16, round: usize, waiting: &mut [u8; 16384]) -> Channels {
+fn post_one(
+    s: Channels,
+    channel: u16,
+    round: usize,
+    waiting: &mut [u8; channels::ALL_OCTETS],
+) -> Channels {
     let mut unit = [0u8; 128];
-    let mut out = [0u8; 255];
+    let mut out = [0u8; al1m::LONGEST_WORD];
     make(channel, round, &mut unit);
     let n = plan::unit_length(channel);
     if channel == plan::CONTROL {
@@ -73,7 +78,7 @@ fn post_one(s: Channels, channel: u16, round: usize, waiting: &mut [u8; 16384]) 
 }
 
 // One unit on each channel.
-pub fn post_all(s: Channels, round: usize, waiting: &mut [u8; 16384]) -> Channels {
+pub fn post_all(s: Channels, round: usize, waiting: &mut [u8; channels::ALL_OCTETS]) -> Channels {
     let mut next = s;
     let mut channel = 0;
     while channel < plan::CHANNELS {

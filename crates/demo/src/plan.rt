@@ -46,7 +46,7 @@ pub fn repairs(channel: u16) -> u32 {
 
 // The entries: 1 is {LCN1,RC25},{{LCN2,RC1},{LCN3,RC3},RC UCF}, 2 is {LCN4,RC13},{{LCN2,RC2},{LCN3,RC6},{LCN0,RC1},RC UCF},
 // 3 is {LCN3,RC UCF}, 4 is {LCN2,RC UCF}.
-pub fn fill(table: &mut [u16; 1455]) {
+pub fn fill(table: &mut [u16; table::TABLE_NUMBERS]) {
     table::replace(table, Code(1), &[2, 25, 0, 1, 0, 2, 1, 0, 2, 3, 0, 3]);
     table::replace(
         table,

@@ -3,13 +3,20 @@ use crate::far;
 use crate::plan;
 use crate::tally;
 use crate::tally::Tally;
+use channels::ALL_OCTETS;
 use channels::ChannelNumber;
 use channels::Channels;
 use multiplex::demultiplexer;
 use multiplex::demultiplexer::Finished;
 use multiplex::multiplexer;
-use multiplex::multiplexer::Sent;
+use multiplex::multiplexer::Made;
+use multiplex::units;
+use multiplex::units::ENOUGH_OUTPUT;
+use multiplex::units::ENOUGH_UNITS;
+use multiplex::units::Listed;
 use table::Code;
+use table::LONGEST_PAYLOAD;
+use table::TABLE_NUMBERS;
 
 // The octets of a payload, at most.
 const ROOM: usize = 90;
@@ -70,9 +77,9 @@ fn hit(noise: u32, octet: u8) -> u8 {
 }
 
 // Damages one octet.
-fn damage_one(call: Call, payload: &mut [u8; 255], i: usize) -> Call {
+fn damage_one(call: Call, payload: &mut [u8; LONGEST_PAYLOAD], i: usize) -> Call {
     let mut next = call;
-    if 255 <= i {
+    if LONGEST_PAYLOAD <= i {
         return next;
     }
     let old = payload[i];
@@ -88,7 +95,7 @@ fn damage_one(call: Call, payload: &mut [u8; 255], i: usize) -> Call {
 }
 
 // Damages the n octets of a payload.
-fn damage(call: Call, payload: &mut [u8; 255], n: usize) -> Call {
+fn damage(call: Call, payload: &mut [u8; LONGEST_PAYLOAD], n: usize) -> Call {
     let mut next = call;
     let mut i = 0;
     while i < n {
@@ -98,21 +105,15 @@ fn damage(call: Call, payload: &mut [u8; 255], n: usize) -> Call {
     next
 }
 
-fn wide(n: u16) -> usize {
-    n as usize
-}
-
-// The finished unit j: its channel, start and length stand in `units`.
+// Judges the finished unit j of the list.
 fn judge_one(call: Call, round: usize, output: &[u8], units: &[u16], j: usize) -> Call {
     let mut next = call;
-    if units.len() / 3 <= j {
+    let Listed::At(unit) = units::unit_at(units, j) else {
         return next;
-    }
-    let channel = units[3 * j];
-    let start = wide(units[3 * j + 1]);
-    let length = wide(units[3 * j + 2]);
+    };
+    let channel = unit.channel;
     let before = call.far;
-    let v = far::judge(before, channel, round, output, start, length);
+    let v = far::judge(before, channel, round, output, unit.start, unit.length);
     let after = v.channels;
     next.far = after;
     let counted = call.tally;
@@ -122,7 +123,13 @@ fn judge_one(call: Call, round: usize, output: &[u8], units: &[u16], j: usize) -
 }
 
 // Every finished unit.
-fn judge_all(call: Call, round: usize, n: usize, output: &[u8; 1280], units: &[u16; 765]) -> Call {
+fn judge_all(
+    call: Call,
+    round: usize,
+    n: usize,
+    output: &[u8; ENOUGH_OUTPUT],
+    units: &[u16; ENOUGH_UNITS],
+) -> Call {
     let mut next = call;
     let mut j = 0;
     while j < n {
@@ -139,11 +146,11 @@ fn deliver(
     code: u32,
     mark: bool,
     payload: &[u8],
-    held: &mut [u8; 16384],
-    table: &[u16; 1455],
+    held: &mut [u8; ALL_OCTETS],
+    table: &[u16; TABLE_NUMBERS],
 ) -> Call {
-    let mut output = [0u8; 1280];
-    let mut units = [0u16; 765];
+    let mut output = [0u8; ENOUGH_OUTPUT];
+    let mut units = [0u16; ENOUGH_UNITS];
     let mut next = call;
     let before = call.far;
     let r = demultiplexer::demultiplex(
@@ -166,7 +173,7 @@ fn deliver(
 }
 
 // The first n octets of a payload.
-fn first(payload: &[u8; 255], n: usize) -> &[u8] {
+fn first(payload: &[u8; LONGEST_PAYLOAD], n: usize) -> &[u8] {
     octets::front(payload, n)
 }
 
@@ -181,18 +188,18 @@ fn carry(
     call: Call,
     round: usize,
     code: u32,
-    waiting: &[u8; 16384],
-    held: &mut [u8; 16384],
-    table: &[u16; 1455],
+    waiting: &[u8; ALL_OCTETS],
+    held: &mut [u8; ALL_OCTETS],
+    table: &[u16; TABLE_NUMBERS],
 ) -> Carried {
-    let mut payload = [0u8; 255];
+    let mut payload = [0u8; LONGEST_PAYLOAD];
     let mut next = call;
     let before = call.near;
     let r = multiplexer::multiplex(before, waiting, table, Code(code), ROOM, &mut payload);
     let after = r.channels;
     next.near = after;
-    let sent = r.sent;
-    let Sent::Payload { octets, mark } = sent else {
+    let made = r.made;
+    let Made::Payload { octets, mark } = made else {
         return Carried {
             any: false,
             call: next,
@@ -220,9 +227,9 @@ fn carry_out(
     call: Call,
     round: usize,
     code: u32,
-    waiting: &[u8; 16384],
-    held: &mut [u8; 16384],
-    table: &[u16; 1455],
+    waiting: &[u8; ALL_OCTETS],
+    held: &mut [u8; ALL_OCTETS],
+    table: &[u16; TABLE_NUMBERS],
 ) -> Call {
     let mut next = call;
     let mut turns: usize = 16384;
@@ -238,9 +245,9 @@ fn carry_out(
 pub fn carry_all(
     call: Call,
     round: usize,
-    waiting: &[u8; 16384],
-    held: &mut [u8; 16384],
-    table: &[u16; 1455],
+    waiting: &[u8; ALL_OCTETS],
+    held: &mut [u8; ALL_OCTETS],
+    table: &[u16; TABLE_NUMBERS],
 ) -> Call {
     let mut next = call;
     next = carry_out(next, round, 1, waiting, held, table);

@@ -1,5 +1,4 @@
 // The C entries: numbers and octet buffers, nothing else. include/kyteblossom.h declares them.
-use adaptation::Badge;
 use adaptation::al1m;
 use adaptation::al1m::Judgement;
 use adaptation::al1m::Received;
@@ -8,7 +7,6 @@ ghost use mathlib.Core.Path.{_≡_};
 ghost use Prim.Native.Nat.{_<_};
 ghost use lib.IntN.{pos, negℤ};
 ghost use Rattle.adaptation.specs.AL1M.{sentLength};
-ghost use Rattle.adaptation.specs.Handed.{badgeNumber};
 ghost use Rattle.kyteblossom.specs.Answer.{answer, packed, EncodeIs, ReceiveIs};
 
 // A refusal as the host reads it: minus its number.
@@ -16,19 +14,6 @@ fn refusal(k: u8) -> i32
     ensures { λ r. ⌜ r ≡ negℤ (pos k) ⌝ }
 {
     0 - k as i32
-}
-
-// Document 01's number for a badge.
-fn number(badge: Badge) -> u32
-    ensures { λ r. ⌜ r ≡ badgeNumber badge ⌝ }
-{
-    match badge {
-        Badge::Clean => 0,
-        Badge::Corrected => 1,
-        Badge::OutOfReach => 2,
-        Badge::CheckFailed => 3,
-        Badge::Unchecked => 4,
-    }
 }
 
 // A unit that is handed up, as one number.
@@ -39,7 +24,7 @@ fn pack(j: Judgement) -> i32
     let badge = j.badge;
     let changed = j.changed as u32;
     let length = j.length as u32;
-    (number(badge) + 256 * changed + 65536 * length) as i32
+    (adaptation::badge_number(badge) as u32 + 256 * changed + 65536 * length) as i32
 }
 
 // How many octets a unit is sent in, or minus the refusal's number.

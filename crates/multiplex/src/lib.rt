@@ -2,3 +2,4 @@
 
 pub mod demultiplexer; // demultiplexer.rt: a payload's octets given back to their channels
 pub mod multiplexer; // multiplexer.rt: waiting octets laid out as a payload
+pub mod units; // units.rt: the list of finished units, read
