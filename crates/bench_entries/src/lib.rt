@@ -102,8 +102,8 @@ pub extern "C" fn bench_mux(
     let mut done = 0;
     while done < rounds {
         let r = multiplexer::multiplex(s, waiting, &table, Code(code), LONGEST_PAYLOAD, payload);
-        let made = r.made;
-        made += makes(made);
+        let last = r.made;
+        made += makes(last);
         done += 1;
     }
     made
