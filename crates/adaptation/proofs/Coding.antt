@@ -22,13 +22,13 @@ use lib.ListN.{length, take, length-append}
 use lib.Seq.{take-append-seam}
 use Rattle.octets.specs.Tests.{both-true}
 use Rattle.octets.specs.Written.{written, written-front}
-use Rattle.codeword.specs.CodeWord.{Octets}
+use Rattle.codeword.specs.CodeWord.{Octets, longestWord}
 use Rattle.codeword.specs.Encoding.{Encoded}
-use Rattle.codeword.proofs.Systematic.{octets-append, parity-codeWord, encodes-true, encoded-is}
+use Rattle.codeword.proofs.Laws.{octets-append, parity-codeWord, encodes-true, encoded-is}
 use Rattle.calls.specs.Refusal.{refused, told, refusal}
 use Rattle.adaptation.specs.Check.{Kind, checkOf}
 use Rattle.adaptation.specs.Width.{kindAt}
-use Rattle.adaptation.specs.AL1M.{longestWord, isSetting, isSendable, sentOctets, sentLength}
+use Rattle.adaptation.specs.AL1M.{isSetting, isSendable, sentOctets, sentLength}
 use Rattle.adaptation.specs.Sending.{message, encodeTests, SentIs}
 use Rattle.adaptation.proofs.Behind.{check-length, check-octets, sealed-front}
 use Rattle.adaptation.proofs.Refusals.{refused-room, refused-not, refused-sooner, refused-later}
@@ -46,7 +46,7 @@ module _ (κ : Kind) (u : List ℕ) where
       ap₂ take (hk ∙ sym message-length) (hb ∙ ap (λ (x : List ℕ). written x (length u) (checkOf κ (take (length u) x))) ha ∙ sealed-front κ u d (omega arith))
       ∙ written-front d (message κ u) (rw message-length h)
 
-  pub sent-is : (e : ℕ) (m before after : List ℕ) (n : ℕ) → Octets u → m ≡ message κ u → 0 < length u → length u + κ .octets + 2 * e ≤ 255
+  pub sent-is : (e : ℕ) (m before after : List ℕ) (n : ℕ) → Octets u → m ≡ message κ u → 0 < length u → length u + κ .octets + 2 * e ≤ longestWord
       → length u + κ .octets + 2 * e ≤ length before → Encoded e m before n after → SentIs κ e u before (length u + κ .octets + 2 * e) after
   sent-is e m before after n o is some all room p =
       let l = message-length in

@@ -24,7 +24,7 @@ use lib.Dec.{eqb, lit<}
 use lib.ListN.{length, getD, take, drop, replicate, length-take, length-drop}
 use lib.Seq.{take-at, drop-at, take-append-le, drop-append-le}
 use Rattle.algebra.specs.Division.{sum}
-use Rattle.algebra.proofs.Division.{sum-length}
+use Rattle.algebra.proofs.Laws.{sum-length}
 use Rattle.adaptation.specs.Binary.{𝔹, plus, plus-nil}
 use Rattle.adaptation.specs.Bits.{isOdd, bitsOf, bits, number, octetsOf}
 

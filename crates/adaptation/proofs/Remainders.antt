@@ -20,7 +20,8 @@ use lib.ListN.{length, replicate, length-replicate}
 use Rattle.algebra.specs.Series.{Series, Operations, operations}
 use Rattle.algebra.specs.Polynomial.{Remainder, polynomial, raised}
 use Rattle.algebra.specs.Division.{sum}
-use Rattle.algebra.proofs.Register.{register, remainder-raised, register-is}
+use Rattle.algebra.specs.Register.{register}
+use Rattle.algebra.proofs.Laws.{remainder-raised, register-is}
 use Rattle.adaptation.specs.Binary.{𝔹}
 use Rattle.adaptation.specs.Check.{Kind, width, coefficients, generator, plain, preset, checkBits}
 

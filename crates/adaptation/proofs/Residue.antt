@@ -21,7 +21,8 @@ use lib.Bits.{bitXor}
 use lib.ListN.{length, getD, take, drop, replicate, length-append, length-replicate, length-drop, take-append-drop}
 use lib.Seq.{length-take-le, take-all, take-suc}
 use Rattle.algebra.specs.Division.{sum, remainder}
-use Rattle.algebra.proofs.Register.{register, register-length, register-none, register-more, register-zeros}
+use Rattle.algebra.specs.Register.{register}
+use Rattle.algebra.proofs.Laws.{register-length, register-none, register-more, register-zeros}
 use Rattle.adaptation.specs.Binary.{𝔹}
 use Rattle.adaptation.specs.Bits.{bitsOf, bits, number, octetsOf}
 use Rattle.adaptation.specs.Check.{Kind, width, generator, plain, preset, checkBits, checkOf}

@@ -13,10 +13,11 @@ use Prim.Native.Nat.{ℕ, _+_, _*_, _≤_, _<_}
 use native.Mathlib.Omega.{arith}
 use borrow.Author.Tests.{le-leb, lt-leb}
 use lib.Dec.{leb}
+use Rattle.codeword.specs.CodeWord.{longestWord}
 use Rattle.calls.specs.Refusal.{Told, refused, told, checked}
 use Rattle.adaptation.specs.Check.{none, eight, sixteen}
 use Rattle.adaptation.specs.Width.{kindOf, widthOf, kindAsked}
-use Rattle.adaptation.specs.AL1M.{longestWord, settingOf, isSendable, al1mTests, sentLength}
+use Rattle.adaptation.specs.AL1M.{settingOf, isSendable, al1mTests, sentLength}
 use Rattle.adaptation.specs.declared.checks.Width.{Width}
 use Rattle.adaptation.specs.declared.checks.Width.the-variants.{Zero, Eight, Sixteen}
 use Rattle.adaptation.specs.declared.checks.Asked.{Asked}

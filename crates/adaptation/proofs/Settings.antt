@@ -14,9 +14,10 @@ use mathlib.Core.Bool.{Bool, true, false, cond, _&&_, and-false}
 use Prim.Native.Nat.{ℕ, _+_, _*_, _≤_, _<_}
 use borrow.Author.Tests.{le-leb, lt-leb, leb-true}
 use lib.Dec.{leb}
+use Rattle.codeword.specs.CodeWord.{longestWord}
 use Rattle.octets.specs.Tests.{both-true, never}
 use Rattle.adaptation.specs.Width.{kindOf, widthOf, isKnown, isWidth, kindAsked, kindAt}
-use Rattle.adaptation.specs.AL1M.{mostRepairs, longestWord, isSetting, settingOf}
+use Rattle.adaptation.specs.AL1M.{mostRepairs, isSetting, settingOf}
 use Rattle.adaptation.specs.Receiving.{isWord}
 use Rattle.adaptation.specs.declared.checks.Width.{Width}
 use Rattle.adaptation.specs.declared.checks.Asked.{Asked}

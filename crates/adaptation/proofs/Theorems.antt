@@ -15,19 +15,16 @@ use lib.ListN.{length, take}
 use lib.Seq.{take-take, take-append-seam}
 use Rattle.octets.specs.Tests.{both-true, never}
 use Rattle.octets.specs.Written.{written, written-front}
-use Rattle.codeword.specs.CodeWord.{CodeWord, distance, Within}
+use Rattle.codeword.specs.CodeWord.{CodeWord, distance, Within, longestWord}
 use Rattle.codeword.specs.Repair.{reads, Repaired, FoundIs}
 use Rattle.codeword.specs.declared.Reach.{Reach}
 use Rattle.codeword.specs.declared.Reach.the-variants as reach
-use Rattle.codeword.proofs.Distance.{distance-self, distance-zero}
-use Rattle.codeword.proofs.Systematic.{codeWord-only}
-use Rattle.codeword.proofs.Repairing.{reads-true}
-use Rattle.codeword.proofs.Theorems.{neverSecond, zeroSyndromes, repairedUnique}
+use Rattle.codeword.proofs.Laws.{distance-self, distance-zero, codeWord-only, reads-true, neverSecond, zeroSyndromes, repairedUnique}
 use Rattle.calls.specs.Refusal.{Told, refused, told, refusal}
 use Rattle.calls.proofs.Laws.{told-refused}
 use Rattle.adaptation.specs.Check.{none, agrees}
 use Rattle.adaptation.specs.Width.{isWidth, kindAt}
-use Rattle.adaptation.specs.AL1M.{longestWord, isSetting, isSendable, sentOctets}
+use Rattle.adaptation.specs.AL1M.{isSetting, isSendable, sentOctets}
 use Rattle.adaptation.specs.Sending as sending
 use Rattle.adaptation.specs.Sending.{message, Coded, Sends}
 use Rattle.adaptation.specs.Receiving.{isWord, receiveTests, isBare, badgeOf, changedOf, handedUnit, HandedIs, Receives}
@@ -49,7 +46,7 @@ module _ (n e : ℕ) (w before : List ℕ) (allowed : refusal (receiveTests (len
   passed : (isSetting n e ≡ true) × (isWord (length w) n e ≡ true) × (ltb (length before) (length w) ≡ false)
   passed = refused-none (isSetting n e) (isWord (length w) n e) (ltb (length before) (length w)) allowed
 
-  word-is : (length w ≤ 255) × (1 + kindAt n .octets + 2 * e ≤ length w) × (length w ≤ length before)
+  word-is : (length w ≤ longestWord) × (1 + kindAt n .octets + 2 * e ≤ length w) × (length w ≤ length before)
   word-is =
       let b = word-all (length w) n e (passed .1) in
       (b .0, b .1, ltb-false (length before) (length w) (passed .2))
@@ -59,7 +56,7 @@ module _ (n e : ℕ) (w before : List ℕ) (allowed : refusal (receiveTests (len
 
 -- ---- what was found, by what it is within
 
-module _ (e : ℕ) (w before after c : List ℕ) (short : length w ≤ 255) (room : length w ≤ length before) (k : ℕ) (f : FoundIs e w before k after) (h : Within e w c) where
+module _ (e : ℕ) (w before after c : List ℕ) (short : length w ≤ longestWord) (room : length w ≤ length before) (k : ℕ) (f : FoundIs e w before k after) (h : Within e w c) where
   found-same : f .found ≡ c
   found-same = neverSecond e w (f .found) c short (f .within) h
 
@@ -108,7 +105,7 @@ chosen b (suc k) t w after c z h = h
 
 module _ (n e : ℕ) (w before after : List ℕ) (j : Judgement) (allowed : refusal (receiveTests (length w) n e (length before)) ≡ told tt)
     (h : HandedIs (kindAt n) e w before j after) where
-  known : (length w ≤ 255) × (1 + kindAt n .octets + 2 * e ≤ length w) × (length w ≤ length before)
+  known : (length w ≤ longestWord) × (1 + kindAt n .octets + 2 * e ≤ length w) × (length w ≤ length before)
   known = word-is n e w before allowed
 
   as-found : (k : ℕ) → h .reach ≡ reach.Found k → FoundIs e w before k after
@@ -235,7 +232,7 @@ module _ (n e m : ℕ) (u room sent : List ℕ) (s : Sends n e u room (sends.Oct
   long : m ≡ sentOctets (length u) n e
   long = s .1 .count ∙ coded .long ∙ ap (λ (k : ℕ). k + 2 * e) (message-length (kindAt n) u)
 
-  sizes : (0 < length u) × (m ≤ 255) × (m ≤ length room)
+  sizes : (0 < length u) × (m ≤ longestWord) × (m ≤ length room)
   unfolding isSendable
   sizes =
       let b = both-true (leb 1 (length u)) (leb (sentOctets (length u) n e) longestWord) (sendable .1) in
@@ -285,10 +282,10 @@ sentIsHandedUp n e m u room sent w before after r s l near fits p = handed n e m
 
 -- ---- how large the numbers are
 
-pub sent-small : (n e m : ℕ) (u room sent : List ℕ) → Sends n e u room (sends.Octets m) sent → m ≤ 255
+pub sent-small : (n e m : ℕ) (u room sent : List ℕ) → Sends n e u room (sends.Octets m) sent → m ≤ longestWord
 sent-small n e m u room sent s = sizes n e m u room sent s .1
 
-pub handed-small : (n e : ℕ) (w before after : List ℕ) (j : Judgement) → Receives n e w before (receive.Unit j) after → (j .changed ≤ 127) × (j .length ≤ 255)
+pub handed-small : (n e : ℕ) (w before after : List ℕ) (j : Judgement) → Receives n e w before (receive.Unit j) after → (j .changed ≤ 127) × (j .length ≤ longestWord)
 unfolding isSetting
 handed-small n e w before after j (allowed, h) =
     (omega (arith, h .changed-is, changed (h .reach) (h .repaired), leb-true e 127 (both-true (isWidth n) (leb e 127) (passed n e w before allowed .0) .1)), omega (arith, h .length-is, word-is n e w before allowed .0))

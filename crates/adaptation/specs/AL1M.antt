@@ -1,7 +1,6 @@
 -- The lengths of AL1M's units (document 01, "AL1M units"; 003, D.4.1.4 and D.4.1.7.3).
 --
 --   mostRepairs        the largest e
---   longestWord        the longest code word
 --   isSetting b e      a check of b bits and e repairs may be asked for
 --   settingOf b e      .. that check
 --   sentOctets t b e   a unit of t octets, its check of l octets and the parity: t + l + 2e
@@ -15,6 +14,7 @@ use mathlib.Core.Bool.{Bool, false, cond, not, _&&_}
 use mathlib.Core.List.{List, [], _∷_}
 use Prim.Native.Nat.{ℕ, _+_, _*_}
 use lib.Dec.{leb}
+use Rattle.codeword.specs.CodeWord.{longestWord}
 use Rattle.calls.specs.Refusal.{Told, refused, told, Test, _when_, checked}
 use Rattle.adaptation.specs.Width.{widthOf, isWidth, kindAt}
 use Rattle.adaptation.specs.declared.checks.Asked.{Asked}
@@ -22,9 +22,6 @@ use Rattle.adaptation.specs.declared.checks.Asked.the-variants.{Unknown}
 
 abbrev pub mostRepairs : ℕ
 mostRepairs = 127
-
-abbrev pub longestWord : ℕ
-longestWord = 255
 
 unfoldable pub isSetting : ℕ → ℕ → Bool
 isSetting b e = isWidth b && leb e mostRepairs

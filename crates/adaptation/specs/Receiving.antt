@@ -22,13 +22,14 @@ use mathlib.Core.List.{List}
 use Prim.Native.Nat.{ℕ, zero, suc, _+_, _-_, _*_}
 use lib.Dec.{eqb, leb, ltb}
 use lib.ListN.{length, take}
+use Rattle.codeword.specs.CodeWord.{longestWord}
 use Rattle.codeword.specs.Repair.{Repaired}
 use Rattle.codeword.specs.declared.Reach.{Reach}
 use Rattle.codeword.specs.declared.Reach.the-variants as reach
 use Rattle.calls.specs.Refusal.{told, Test, refusal, RefusedIs}
 use Rattle.adaptation.specs.Check.{Kind, agrees}
 use Rattle.adaptation.specs.Width.{kindAt}
-use Rattle.adaptation.specs.AL1M.{longestWord, al1mTests, isSetting}
+use Rattle.adaptation.specs.AL1M.{al1mTests, isSetting}
 use Rattle.adaptation.specs.declared.Badge.{Badge}
 use Rattle.adaptation.specs.declared.Badge.the-variants.{Clean, Corrected, OutOfReach, CheckFailed, Unchecked}
 use Rattle.adaptation.specs.declared.al1m.Judgement.{Judgement}

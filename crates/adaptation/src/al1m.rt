@@ -5,22 +5,22 @@ use crate::checks::Asked;
 use crate::checks::Width;
 use crate::seals;
 use calls::Length;
+use codeword::LONGEST_WORD;
 use codeword::Reach;
 ghost use mathlib.Core.Path.{_≡_};
 ghost use mathlib.Core.List.{List};
 ghost use Prim.Native.Nat.{ℕ, _+_, _*_, _≤_, _<_};
 ghost use lib.ListN.{length};
+ghost use Rattle.codeword.specs.CodeWord.{longestWord};
 ghost use Rattle.codeword.specs.declared.Reach.the-variants.{Found};
 ghost use Rattle.calls.specs.Refusal.{lengthSays};
 ghost use Rattle.adaptation.specs.Check.{Kind};
 ghost use Rattle.adaptation.specs.Width.{kindOf};
-ghost use Rattle.adaptation.specs.AL1M.{longestWord, settingOf, sentLength};
+ghost use Rattle.adaptation.specs.AL1M.{settingOf, sentLength};
 ghost use Rattle.adaptation.specs.Sending.{SentIs, Sends};
 ghost use Rattle.adaptation.specs.Receiving.{badgeOf, isBare, handedUnit, HandedIs, Receives};
 
-// The longestUnit code word, and the most octets of one that may be repaired (003, D.4.1.7.3).
-pub const LONGEST_WORD: usize = 255;
-
+// The most octets of a code word that may be repaired (003, D.4.1.7.3).
 pub const MOST_REPAIRS: u32 = 127;
 
 // A unit that is handed up: its badge, how many octets of the word were changed, and its length.

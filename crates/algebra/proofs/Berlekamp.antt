@@ -1,12 +1,10 @@
--- The algorithm of Berlekamp and Massey. B is kept shifted, x^m B of the textbook, so that the state at r is (C, B, L, b).
+-- The algorithm of Berlekamp and Massey keeps its state.
 --
---   State S C B r L b   what the loop keeps: C is a recurrence of length L for the first r terms of S, and no shorter one is;
---                       B is the C before L last grew, times x for each step since, and b what it fails by at r
---   start               at r = 0
---   step-zero           no discrepancy
---   step-keep           a discrepancy that is mended at the same length
---   step-grow           a discrepancy that makes the recurrence longer
---   bm-finds            if the first n terms are the syndromes of v ≤ n / 2 errors, L is v and C their locator
+--   state-start    at r = 0
+--   state-zero     no discrepancy
+--   state-keep     a discrepancy that is mended at the same length
+--   state-grow     a discrepancy that makes the recurrence longer
+--   bm-finds       if the first n terms are the syndromes of v ≤ n / 2 errors, L is v and C their locator
 --
 -- Assumes nothing.
 use mathlib.Core.Path.{_≡_, sym, _∙_}
@@ -15,37 +13,28 @@ use Prim.Native.Nat.{ℕ, zero, suc, _+_, _-_, _≤_, _<_}
 use native.Mathlib.Omega.{arith}
 use native.Mathlib.Decide.{decLe}
 use Rattle.algebra.specs.Field.{Field}
-use Rattle.algebra.proofs.Ring.{ring, ⊕-self}
 use Rattle.algebra.specs.Series.{Series, Below, Operations, operations}
+use Rattle.algebra.specs.Value.{ev}
+use Rattle.algebra.specs.Points.{Distinct, Inverses}
+use Rattle.algebra.specs.Massey.{Annihilates, MasseyState}
+use Rattle.algebra.specs.PowerSum.{synd}
+use Rattle.algebra.specs.Locator.{loc}
+use Rattle.algebra.proofs.Ring.{ring, ⊕-self}
 use Rattle.algebra.proofs.Product.{⊞-at, ⊡-at, sh-zero, sh-suc, unit-zero, ⊞-⊛, ⊡-⊛, sh-⊛, ⊛-local, below-sh}
-use Rattle.algebra.proofs.Value.{ev, ev-more}
-use Rattle.algebra.proofs.Roots.{Distinct, roots, below-unit}
-use Rattle.algebra.proofs.Recurrence.{Annihilates, massey}
-use Rattle.algebra.proofs.Locator.{Inverses, synd, loc, loc-one, below-loc, loc-annihilates, vanishes, inverses-distinct, locator-unique}
+use Rattle.algebra.proofs.Value.{ev-more}
+use Rattle.algebra.proofs.Roots.{roots, below-unit}
+use Rattle.algebra.proofs.Recurrence.{massey}
+use Rattle.algebra.proofs.Locator.{loc-one, below-loc, loc-annihilates, vanishes, inverses-distinct, locator-unique}
 
 module _ (𝓕 : Field) where
-  infixl 60 _⊕_
-  infixl 70 _⊙_
-  infixl 60 _⊞_
-  infixl 70 _⊛_
+  infixl 60 _⊕_ _⊞_
+  infixl 70 _⊙_ _⊛_
   infixr 80 _⊡_
   open Field 𝓕 using (Carrier as F, add as _⊕_, mul as _⊙_, nil as 𝟘, one as 𝟙)
   open Operations (operations 𝓕) using (_⊞_, _⊡_, _⊛_, unit, sh)
 
-  pub record State (S C B : Series 𝓕) (r L : ℕ) (b : F) : Type 0 where
-    pub c-one : C 0 ≡ 𝟙
-    pub c-below : Below 𝓕 (suc L) C
-    pub c-ann : Annihilates 𝓕 L r C S
-    pub short : L ≤ r
-    pub least : (v : ℕ) (Λ : Series 𝓕) → Λ 0 ≡ 𝟙 → Below 𝓕 (suc v) Λ → Annihilates 𝓕 v r Λ S → L ≤ v
-    pub b-zero : B 0 ≡ 𝟘
-    pub b-below : (k : ℕ) → suc r < k + L → B k ≡ 𝟘
-    pub b-ann : (k : ℕ) → r < k + L → k < r → (B ⊛ S) k ≡ 𝟘
-    pub b-ne : b ≢ 𝟘
-    pub b-at : 0 < L → (B ⊛ S) r ≡ b
-
-  pub start : (S : Series 𝓕) → State S unit (sh unit) 0 0 𝟙
-  start S = record {
+  pub state-start : (S : Series 𝓕) → MasseyState 𝓕 S unit (sh unit) 0 0 𝟙
+  state-start S = record {
     c-one = unit-zero 𝓕;
     c-below = below-unit 𝓕;
     c-ann = λ k l m. absurd (omega arith);
@@ -58,7 +47,7 @@ module _ (𝓕 : Field) where
     b-at = λ l. absurd (omega arith);
   }
 
-  module _ (S C B : Series 𝓕) (r L : ℕ) (b : F) (st : State S C B r L b) where
+  module _ {S C B : Series 𝓕} {r L : ℕ} {b : F} (st : MasseyState 𝓕 S C B r L b) where
     -- what sh B keeps
     sh-below : (k : ℕ) → suc (suc r) < k + L → sh B k ≡ 𝟘
     sh-below zero l = sh-zero 𝓕 B
@@ -89,12 +78,12 @@ module _ (𝓕 : Field) where
             rw (i, st .b-at z, e z) (⊕-self 𝓕 _)
         go (no p) = rw (st .c-ann k (omega arith) (omega arith), st .b-ann k (omega arith) (omega arith)) (simp ring)
 
-    -- no discrepancy
-    pub step-zero : (C ⊛ S) r ≡ 𝟘 → State S C (sh B) (suc r) L b
-    step-zero d = record {
-      c-one = st .c-one;
-      c-below = st .c-below;
-      c-ann = λ k l m. elim (decLe r k) [ yes p ↦ (let i : k ≡ r = omega arith in rw i d) | no p ↦ st .c-ann k l (omega arith) ];
+    -- the length stays
+    kept : (C′ : Series 𝓕) → C′ 0 ≡ 𝟙 → Below 𝓕 (suc L) C′ → Annihilates 𝓕 L (suc r) C′ S → MasseyState 𝓕 S C′ (sh B) (suc r) L b
+    kept C′ one below ann = record {
+      c-one = one;
+      c-below = below;
+      c-ann = ann;
       short = omega (arith, st .short);
       least = λ v Λ o d a. st .least v Λ o d (λ k l m. a k l (omega arith));
       b-zero = sh-zero 𝓕 B;
@@ -104,24 +93,16 @@ module _ (𝓕 : Field) where
       b-at = sh-last;
     }
 
-    -- a discrepancy, mended at the same length (also right for d ≡ 𝟘)
-    pub step-keep : (q : F) → q ⊙ b ≡ (C ⊛ S) r → r < L + L → State S (C ⊞ q ⊡ B) (sh B) (suc r) L b
-    step-keep q e l = record {
-      c-one = mix-one q;
-      c-below = mix-below q L (omega arith) (omega arith);
-      c-ann = mix-ann q L (omega arith) (omega arith) (λ z. e);
-      short = omega (arith, st .short);
-      least = λ v Λ o d a. st .least v Λ o d (λ k l m. a k l (omega arith));
-      b-zero = sh-zero 𝓕 B;
-      b-below = sh-below;
-      b-ann = sh-ann;
-      b-ne = st .b-ne;
-      b-at = sh-last;
-    }
+    pub state-zero : (C ⊛ S) r ≡ 𝟘 → MasseyState 𝓕 S C (sh B) (suc r) L b
+    state-zero d = kept C (st .c-one) (st .c-below)
+        (λ k l m. elim (decLe r k) [ yes p ↦ (let i : k ≡ r = omega arith in rw i d) | no p ↦ st .c-ann k l (omega arith) ])
 
-    -- a discrepancy that makes the recurrence longer
-    pub step-grow : (q : F) → q ⊙ b ≡ (C ⊛ S) r → (C ⊛ S) r ≢ 𝟘 → L + L ≤ r → State S (C ⊞ q ⊡ B) (sh C) (suc r) (suc r - L) ((C ⊛ S) r)
-    step-grow q e n l = record {
+    -- also right for d ≡ 𝟘
+    pub state-keep : (q : F) → q ⊙ b ≡ (C ⊛ S) r → r < L + L → MasseyState 𝓕 S (C ⊞ q ⊡ B) (sh B) (suc r) L b
+    state-keep q e l = kept _ (mix-one q) (mix-below q L (omega arith) (omega arith)) (mix-ann q L (omega arith) (omega arith) (λ z. e))
+
+    pub state-grow : (q : F) → q ⊙ b ≡ (C ⊛ S) r → (C ⊛ S) r ≢ 𝟘 → L + L ≤ r → MasseyState 𝓕 S (C ⊞ q ⊡ B) (sh C) (suc r) (suc r - L) ((C ⊛ S) r)
+    state-grow q e n l = record {
       c-one = mix-one q;
       c-below = mix-below q (suc r - L) (omega arith) (omega arith);
       c-ann = mix-ann q (suc r - L) (omega arith) (omega arith) (λ z. e);
@@ -144,7 +125,7 @@ module _ (𝓕 : Field) where
 
   -- what the last C is, if the first n of S are the syndromes of v ≤ n / 2 errors
   pub bm-finds : (v n L : ℕ) (S C B Y X Z : Series 𝓕) (b : F) → Distinct 𝓕 v X → Inverses 𝓕 v X Z → ((k : ℕ) → k < v → Y k ≢ 𝟘)
-      → ((i : ℕ) → i < n → S i ≡ synd 𝓕 v Y X i) → State S C B n L b → v + v ≤ n
+      → ((i : ℕ) → i < n → S i ≡ synd 𝓕 v Y X i) → MasseyState 𝓕 S C B n L b → v + v ≤ n
       → (L ≡ v) × (C ≡ loc 𝓕 v X)
   bm-finds v n L S C B Y X Z b D I ne s st m = (
     same,

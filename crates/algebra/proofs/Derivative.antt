@@ -1,79 +1,88 @@
 -- The formal derivative, in characteristic 2.
 --
---   deriv f       f₁, 0, f₃, 0, ..
---   deriv-one, deriv-two
---   deriv-lin     of (1 - a x) f
---   deriv-loc     the locator's derivative at Zₖ is Xₖ skip: Forney's divisor
+--   deriv-even, deriv-odd    it is f₁, 0, f₃, 0, ..
+--   deriv-loc                the locator's derivative at Zₖ is Xₖ skip: Forney's divisor
 --
 -- Assumes nothing.
 use mathlib.Core.Path.{_≡_, refl, sym, _∙_, fun-ext}
-use Prim.Native.Nat.{ℕ, zero, suc, _<_}
+use Prim.Native.Nat.{ℕ, zero, suc, _+_, _*_, _<_}
 use native.Mathlib.Omega.{arith}
 use Rattle.algebra.specs.Field.{Field}
-use Rattle.algebra.proofs.Ring.{ring, ⊕-𝟘, ⊕-self, ⊕-cancel}
 use Rattle.algebra.specs.Series.{Series, Below, Operations, operations}
+use Rattle.algebra.specs.Value.{ev}
+use Rattle.algebra.specs.Locator.{lin, loc, prod, skip}
+use Rattle.algebra.specs.Derivative.{deriv}
+use Rattle.algebra.proofs.Ring.{ring, ⊕-𝟘, ⊕-self, ⊕-cancel}
 use Rattle.algebra.proofs.Product.{below-tl, tl-at, tl-⊞, tl-⊡, tl-sh, ⊞-at, ⊡-at, sh-zero, sh-suc}
-use Rattle.algebra.proofs.Value.{ev, ev-⊞, ev-⊡}
-use Rattle.algebra.proofs.Locator.{lin, lin-is, ev-lin, loc, loc-suc, below-loc, ev-loc, prod, prod-root}
-use Rattle.algebra.proofs.Forney.{skip, skip-zero, skip-suc}
+use Rattle.algebra.proofs.Value.{ev-⊞, ev-⊡}
+use Rattle.algebra.proofs.Locator.{lin-is, ev-lin, loc-suc, below-loc, ev-loc, prod-root}
+use Rattle.algebra.proofs.Forney.{skip-zero, skip-suc}
 
 module _ (𝓕 : Field) where
-  infixl 60 _⊕_
+  infixl 60 _⊕_ _⊞_
   infixl 70 _⊙_
-  infixl 60 _⊞_
   infixr 80 _⊡_
   open Field 𝓕 using (Carrier as F, add as _⊕_, mul as _⊙_, nil as 𝟘, one as 𝟙)
   open Operations (operations 𝓕) using (_⊞_, _⊡_, sh, tl)
 
-  -- (n + 1) f₍ₙ₊₁₎ at n, by recursion: in characteristic 2 that is f₁, 0, f₃, 0, .. (`deriv-one`, `deriv-two`)
-  unfoldable pub deriv : Series 𝓕 → Series 𝓕
-  deriv f zero = f 1
-  deriv f (suc n) = f (suc (suc n)) ⊕ deriv (tl f) n
-
-  pub deriv-zero : (f : Series 𝓕) → deriv f 0 ≡ f 1
+  deriv-zero : (f : Series 𝓕) → deriv 𝓕 f 0 ≡ f 1
   unfolding deriv
   deriv-zero f = refl
 
-  pub deriv-suc : (f : Series 𝓕) (n : ℕ) → deriv f (suc n) ≡ f (suc (suc n)) ⊕ deriv (tl f) n
+  deriv-suc : (f : Series 𝓕) (n : ℕ) → deriv 𝓕 f (suc n) ≡ f (suc (suc n)) ⊕ deriv 𝓕 (tl f) n
   unfolding deriv
   deriv-suc f n = refl
 
-  pub deriv-one : (f : Series 𝓕) → deriv f 1 ≡ 𝟘
+  deriv-one : (f : Series 𝓕) → deriv 𝓕 f 1 ≡ 𝟘
   deriv-one f = rw (deriv-suc, deriv-zero, tl-at) (⊕-self 𝓕 _)
 
-  pub deriv-two : (f : Series 𝓕) (n : ℕ) → deriv f (suc (suc n)) ≡ deriv (tl (tl f)) n
+  deriv-two : (f : Series 𝓕) (n : ℕ) → deriv 𝓕 f (suc (suc n)) ≡ deriv 𝓕 (tl (tl f)) n
   deriv-two f n = rw (deriv-suc f (suc n), deriv-suc (tl f) n, tl-at) (⊕-cancel 𝓕 _ _)
 
+  pub deriv-even : (h : ℕ) (f : Series 𝓕) → deriv 𝓕 f (2 * h) ≡ f (2 * h + 1)
+  deriv-even zero f = deriv-zero f
+  deriv-even (suc h) f =
+      let e : 2 * suc h ≡ suc (suc (2 * h)) = omega arith in
+      let o : suc (suc (2 * h)) + 1 ≡ suc (suc (2 * h + 1)) = omega arith in
+      rw (e, o) (deriv-two f (2 * h) ∙ deriv-even h _ ∙ tl-at 𝓕 _ (2 * h + 1) ∙ tl-at 𝓕 f (suc (2 * h + 1)))
+
+  pub deriv-odd : (h : ℕ) (f : Series 𝓕) → deriv 𝓕 f (2 * h + 1) ≡ 𝟘
+  deriv-odd zero f = deriv-one f
+  deriv-odd (suc h) f =
+      let e : 2 * suc h + 1 ≡ suc (suc (2 * h + 1)) = omega arith in
+      rw e (deriv-two f (2 * h + 1) ∙ deriv-odd h _)
+
   -- the derivative is linear, and (x f)′ = f + x f′
-  deriv-⊞-at : (f g : Series 𝓕) (n : ℕ) → deriv (f ⊞ g) n ≡ deriv f n ⊕ deriv g n
+  deriv-⊞-at : (f g : Series 𝓕) (n : ℕ) → deriv 𝓕 (f ⊞ g) n ≡ deriv 𝓕 f n ⊕ deriv 𝓕 g n
   deriv-⊞-at f g zero = simp (deriv-zero, ⊞-at)
   deriv-⊞-at f g (suc n) = simp (deriv-suc, tl-⊞, ⊞-at, deriv-⊞-at (tl f) (tl g) n, ring)
 
-  deriv-⊡-at : (c : F) (f : Series 𝓕) (n : ℕ) → deriv (c ⊡ f) n ≡ c ⊙ deriv f n
+  deriv-⊡-at : (c : F) (f : Series 𝓕) (n : ℕ) → deriv 𝓕 (c ⊡ f) n ≡ c ⊙ deriv 𝓕 f n
   deriv-⊡-at c f zero = simp (deriv-zero, ⊡-at)
   deriv-⊡-at c f (suc n) = simp (deriv-suc, tl-⊡, ⊡-at, deriv-⊡-at c (tl f) n, ring)
 
-  deriv-sh-at : (f : Series 𝓕) (n : ℕ) → deriv (sh f) n ≡ f n ⊕ sh (deriv f) n
+  deriv-sh-at : (f : Series 𝓕) (n : ℕ) → deriv 𝓕 (sh f) n ≡ f n ⊕ sh (deriv 𝓕 f) n
   deriv-sh-at f zero = rw (deriv-zero, sh-suc, sh-zero) (sym (⊕-𝟘 𝓕 _))
   deriv-sh-at f (suc n) = simp (deriv-suc, sh-suc, tl-sh)
 
-  pub deriv-lin : (a : F) (f : Series 𝓕) → deriv (lin 𝓕 a f) ≡ a ⊡ f ⊞ lin 𝓕 a (deriv f)
+  deriv-lin : (a : F) (f : Series 𝓕) → deriv 𝓕 (lin 𝓕 a f) ≡ a ⊡ f ⊞ lin 𝓕 a (deriv 𝓕 f)
   deriv-lin a f = fun-ext (λ n.
-      rw (lin-is 𝓕 a f, lin-is 𝓕 a (deriv f), deriv-⊞-at, deriv-⊡-at, deriv-sh-at) (simp (⊞-at, ⊡-at, ring)))
+      rw (lin-is 𝓕 a f, lin-is 𝓕 a (deriv 𝓕 f), deriv-⊞-at, deriv-⊡-at, deriv-sh-at) (simp (⊞-at, ⊡-at, ring)))
 
-  pub below-deriv : (d : ℕ) (f : Series 𝓕) → Below 𝓕 (suc d) f → Below 𝓕 d (deriv f)
+  below-deriv : (d : ℕ) (f : Series 𝓕) → Below 𝓕 (suc d) f → Below 𝓕 d (deriv 𝓕 f)
   below-deriv d f h zero l = deriv-zero f ∙ h 1 (omega arith)
-  below-deriv zero f h (suc n) l = rw (deriv-suc, h (suc (suc n)) (omega arith), below-deriv 0 (tl f) (λ k m. tl-at 𝓕 f k ∙ h (suc k) (omega arith)) n (omega arith)) (⊕-𝟘 𝓕 𝟘)
+  below-deriv zero f h (suc n) l =
+      rw (deriv-suc, h (suc (suc n)) (omega arith), below-deriv 0 (tl f) (λ k m. tl-at 𝓕 f k ∙ h (suc k) (omega arith)) n (omega arith)) (⊕-𝟘 𝓕 𝟘)
   below-deriv (suc d) f h (suc n) l = rw (deriv-suc, h (suc (suc n)) (omega arith), below-deriv d (tl f) (below-tl 𝓕 (suc d) f h) n (omega arith)) (⊕-𝟘 𝓕 𝟘)
 
   -- Λ′ at the inverse of Xₖ
-  pub deriv-loc : (v : ℕ) (X : Series 𝓕) (k : ℕ) (z : F) → k < v → X k ⊙ z ≡ 𝟙 → ev 𝓕 v (deriv (loc 𝓕 v X)) z ≡ X k ⊙ skip 𝓕 v X k z
+  pub deriv-loc : (v : ℕ) (X : Series 𝓕) (k : ℕ) (z : F) → k < v → X k ⊙ z ≡ 𝟙 → ev 𝓕 v (deriv 𝓕 (loc 𝓕 v X)) z ≡ X k ⊙ skip 𝓕 v X k z
   deriv-loc zero X k z l h = absurd (omega arith)
   deriv-loc (suc v) X k z l h =
       rw (loc-suc, deriv-lin, ev-⊞, ev-⊡, ev-loc, ev-lin 𝓕 v (X 0) _ z (below-deriv v _ (below-loc 𝓕 v (tl X)))) (at k l h (deriv-loc v (tl X)))
     where
       at : (k : ℕ) → k < suc v → X k ⊙ z ≡ 𝟙
-          → ((i : ℕ) (z : F) → i < v → tl X i ⊙ z ≡ 𝟙 → ev 𝓕 v (deriv (loc 𝓕 v (tl X))) z ≡ tl X i ⊙ skip 𝓕 v (tl X) i z)
-          → X 0 ⊙ prod 𝓕 v (tl X) z ⊕ (𝟙 ⊕ X 0 ⊙ z) ⊙ ev 𝓕 v (deriv (loc 𝓕 v (tl X))) z ≡ X k ⊙ skip 𝓕 (suc v) X k z
+          → ((i : ℕ) (z : F) → i < v → tl X i ⊙ z ≡ 𝟙 → ev 𝓕 v (deriv 𝓕 (loc 𝓕 v (tl X))) z ≡ tl X i ⊙ skip 𝓕 v (tl X) i z)
+          → X 0 ⊙ prod 𝓕 v (tl X) z ⊕ (𝟙 ⊕ X 0 ⊙ z) ⊙ ev 𝓕 v (deriv 𝓕 (loc 𝓕 v (tl X))) z ≡ X k ⊙ skip 𝓕 (suc v) X k z
       at zero l h ih = rw (h, skip-zero) (simp ring)
       at (suc k) l h ih = rw (prod-root 𝓕 v (tl X) z k (omega arith) (rw tl-at h), ih k z (omega arith) (rw tl-at h), skip-suc, tl-at 𝓕 X k) (simp ring)

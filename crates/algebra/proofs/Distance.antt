@@ -1,5 +1,6 @@
 -- The distance of the code.
 --
+--   psum-⊞           the power sum of a sum of values
 --   light-is-none    a series of weight at most t whose t syndromes vanish is zero
 --
 -- Assumes nothing.
@@ -8,16 +9,17 @@ use mathlib.Core.Logic.{_≢_}
 use Prim.Native.Nat.{ℕ, zero, suc, _+_, _≤_, _<_}
 use native.Mathlib.Omega.{arith}
 use Rattle.algebra.specs.Field.{Field}
-use Rattle.algebra.proofs.Ring.{ring}
 use Rattle.algebra.specs.Series.{Series, Operations, operations}
+use Rattle.algebra.specs.Points.{Distinct}
+use Rattle.algebra.specs.PowerSum.{psum}
+use Rattle.algebra.specs.Support.{Support, pick, weight}
+use Rattle.algebra.proofs.Ring.{ring}
 use Rattle.algebra.proofs.Product.{tl-⊞, ⊞-at}
-use Rattle.algebra.proofs.Roots.{Distinct}
-use Rattle.algebra.proofs.PowerSum.{psum, psum-zero, psum-suc, vandermonde}
-use Rattle.algebra.proofs.Support.{Support, pick, pick-at, weight, support}
+use Rattle.algebra.proofs.PowerSum.{psum-zero, psum-suc, vandermonde}
+use Rattle.algebra.proofs.Support.{pick-at, support}
 
 module _ (𝓕 : Field) where
-  infixl 60 _⊕_
-  infixl 60 _⊞_
+  infixl 60 _⊕_ _⊞_
   open Field 𝓕 using (add as _⊕_, nil as 𝟘)
   open Operations (operations 𝓕) using (_⊞_, tl)
 
@@ -41,9 +43,9 @@ module _ (𝓕 : Field) where
 
         nil-at : (j : ℕ) → j < weight 𝓕 n E → E (at j) ≡ 𝟘
         nil-at j m = sym (pick-at 𝓕 E at j) ∙ vandermonde 𝓕 (weight 𝓕 n E) 1 (pick 𝓕 E at) (pick 𝓕 A at)
-            (λ i k q r. rw (pick-at 𝓕 A at i, pick-at 𝓕 A at k) (D (at i) (at k) (su .rises i k q r) (su .inside k r)))
-            (λ k q. rw pick-at (ne (at k) (su .inside k q))) sums j m
+            (λ i k q r. rw (pick-at 𝓕 A at i, pick-at 𝓕 A at k) (D (at i) (at k) (su .lists .rises i k q r) (su .lists .inside k r)))
+            (λ k q. rw pick-at (ne (at k) (su .lists .inside k q))) sums j m
 
         go : Dec (E p ≡ 𝟘) → E p ≡ 𝟘
         go (yes e) = e
-        go (no h) = let r = su .all p l h in absurd (su .not-nil (r .0) (r .1) (nil-at (r .0) (r .1)))
+        go (no h) = let r = su .lists .all p l h in absurd (su .lists .not-nil (r .0) (r .1) (nil-at (r .0) (r .1)))

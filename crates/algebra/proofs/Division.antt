@@ -1,16 +1,13 @@
 -- Long division gives the remainder.
 --
---   sum-length, lowered-length, divided-length, remainder-length   how many coefficients each has
---   polynomial-sum, polynomial-scaled, polynomial-zeros            their polynomials
---   polynomial-raised                                              of u and n zeros: x^n times that of u
---   raised-add, ⊞-none, ⊞-self                                     laws of raising, and of sums with 0 and with itself
---   divides-nothing, divides-raised                                what any g divides
---   divisor g                                                      x^w + g
---   monic, monic-top                                               .. has degree w and highest coefficient 1
---   remainder-is                                                   `remainder g p` is the remainder of p by x^w + g
---   remainder-same                                                 .. and the only list of w coefficients that is
---   remainder-block                                                from the remainder of f to that of x^n f + x^d u: n turns of the
---                                                                  shift register at once
+--   sum-length, remainder-length          how many coefficients each has
+--   polynomial-sum, polynomial-zeros      their polynomials
+--   polynomial-raised                     of u and n zeros: x^n times that of u
+--   raised-add, ⊞-none, ⊞-self            laws of raising, and of sums with 0 and with itself
+--   divides-nothing                       any g divides 0
+--   remainder-is                          `remainder g p` is the remainder of p by x^w + g, which is monic
+--   remainder-same                        .. and the only list of w coefficients that is
+--   remainder-block                       from the remainder of f to that of x^n f + x^d u: n turns of the shift register at once
 --
 -- Assumes nothing.
 use mathlib.Core.Path.{_≡_, refl, sym, _∙_, ap, fun-ext}
@@ -23,15 +20,16 @@ use Rattle.algebra.specs.Field.{Field}
 use Rattle.algebra.specs.Series.{Series, Below, Operations, operations}
 use Rattle.algebra.specs.Polynomial.{Divides, Remainder, monomial, polynomial, raised}
 use Rattle.algebra.specs.Division.{sum, scaled, lowered, divided, remainder}
+use Rattle.algebra.specs.Register.{divisor}
 use Rattle.algebra.proofs.Ring.{ring, ⊕-𝟘, ⊕-self, ⊙-𝟙}
-use Rattle.algebra.proofs.Product.{⊞-at, ⊡-at, sh-zero, sh-suc, none-at, none-⊛, below-⊞}
+use Rattle.algebra.proofs.Product.{⊞-at, ⊡-at, sh-⊞, sh-⊡, none-at, none-⊛, below-⊞}
 use Rattle.algebra.proofs.Remainder.{divides-⊞, divides-sh, divides-self, remainder-unique}
-use Rattle.algebra.proofs.Polynomial.{polynomial-none, polynomial-cons, below-polynomial, polynomial-at, raised-zero, raised-suc, sh-⊞, raised-⊞, raised-monomial, raised-none, below-raised, polynomial-append, polynomial-same}
+use Rattle.algebra.proofs.Polynomial.{polynomial-none, polynomial-cons, below-polynomial, polynomial-at, raised-zero, raised-suc}
+use Rattle.algebra.proofs.Polynomial.{raised-⊞, raised-monomial, raised-none, below-raised, polynomial-append, polynomial-same}
 
 module _ (𝓕 : Field) where
-  infixl 60 _⊕_
+  infixl 60 _⊕_ _⊞_
   infixl 70 _⊙_
-  infixl 60 _⊞_
   infixr 80 _⊡_
   open Field 𝓕 using (Carrier as F, add as _⊕_, mul as _⊙_, nil as 𝟘, one as 𝟙)
   open Operations (operations 𝓕) using (_⊞_, _⊡_, none, sh)
@@ -43,17 +41,10 @@ module _ (𝓕 : Field) where
   monomial-⊞ zero a b = fun-ext (λ k. simp (⊞-at, ⊡-at, ring))
   monomial-⊞ (suc n) a b = ap sh (monomial-⊞ n a b) ∙ sh-⊞ 𝓕 (monomial 𝓕 n a) (monomial 𝓕 n b)
 
-  sh-⊡ : (c : F) (f : Series 𝓕) → sh (c ⊡ f) ≡ c ⊡ sh f
-  sh-⊡ c f = fun-ext at
-    where
-      at : (k : ℕ) → sh (c ⊡ f) k ≡ (c ⊡ sh f) k
-      at zero = rw (⊡-at 𝓕 c (sh f), sh-zero 𝓕 (c ⊡ f), sh-zero 𝓕 f) (simp ring)
-      at (suc k) = rw (⊡-at 𝓕 c (sh f), sh-suc 𝓕 (c ⊡ f), sh-suc 𝓕 f, ⊡-at)
-
   monomial-⊡ : (n : ℕ) (a b : F) → monomial 𝓕 n (a ⊙ b) ≡ a ⊡ monomial 𝓕 n b
   unfolding monomial
   monomial-⊡ zero a b = fun-ext (λ k. simp (⊡-at, ring))
-  monomial-⊡ (suc n) a b = ap sh (monomial-⊡ n a b) ∙ sh-⊡ a (monomial 𝓕 n b)
+  monomial-⊡ (suc n) a b = ap sh (monomial-⊡ n a b) ∙ sh-⊡ 𝓕 a (monomial 𝓕 n b)
 
   monomial-𝟘 : (n : ℕ) → monomial 𝓕 n 𝟘 ≡ none
   monomial-𝟘 n = fun-ext (λ k. ap (λ (a : F). monomial 𝓕 n a k) (sym (⊕-self 𝓕 𝟘)) ∙ (rw (monomial-⊞, ⊞-at, none-at) (simp ring)))
@@ -66,11 +57,11 @@ module _ (𝓕 : Field) where
   sum-length (a ∷ p) [] = refl
   sum-length (a ∷ p) (b ∷ q) = ap suc (sum-length p q)
 
-  pub lowered-length : (g : List F) (a : F) (p : List F) → length (lowered 𝓕 g (a ∷ p)) ≡ length p
+  lowered-length : (g : List F) (a : F) (p : List F) → length (lowered 𝓕 g (a ∷ p)) ≡ length p
   unfolding lowered
   lowered-length g a p = sum-length p (scaled 𝓕 a g)
 
-  pub divided-length : (k : ℕ) (g p : List F) → length (divided 𝓕 k g p) ≡ length p - k
+  divided-length : (k : ℕ) (g p : List F) → length (divided 𝓕 k g p) ≡ length p - k
   unfolding lowered divided
   divided-length zero g p = sym (sub-zero (length p))
   divided-length (suc k) g [] = divided-length k g [] ∙ (omega arith)
@@ -104,7 +95,7 @@ module _ (𝓕 : Field) where
       ∙ (rw (sum-length p q, polynomial-sum p q (omega arith), monomial-⊞, polynomial-cons 𝓕 a p, polynomial-cons 𝓕 b q, e, raised-⊞, raised-monomial, n)
       (fun-ext (λ k. simp (⊞-at, ring))))
 
-  pub polynomial-scaled : (c : F) (p : List F) → polynomial 𝓕 (scaled 𝓕 c p) ≡ c ⊡ polynomial 𝓕 p
+  polynomial-scaled : (c : F) (p : List F) → polynomial 𝓕 (scaled 𝓕 c p) ≡ c ⊡ polynomial 𝓕 p
   polynomial-scaled c [] = rw polynomial-none (fun-ext (λ k. none-at 𝓕 k ∙ sym (⊡-at 𝓕 c none k ∙ (rw none-at (simp ring)))))
   polynomial-scaled c (a ∷ p) =
       polynomial-cons 𝓕 (c ⊙ a) (scaled 𝓕 c p)
@@ -120,13 +111,10 @@ module _ (𝓕 : Field) where
 
   -- ---- the remainder
 
-  abbrev pub divisor : List F → Series 𝓕
-  divisor g = polynomial 𝓕 (𝟙 ∷ g)
-
-  pub monic : (g : List F) → Below 𝓕 (suc (length g)) (divisor g)
+  monic : (g : List F) → Below 𝓕 (suc (length g)) (divisor 𝓕 g)
   monic g = below-polynomial 𝓕 (𝟙 ∷ g)
 
-  pub monic-top : (g : List F) → divisor g (length g) ≡ 𝟙
+  monic-top : (g : List F) → divisor 𝓕 g (length g) ≡ 𝟙
   monic-top g =
       let z : suc (length g) - suc (length g) ≡ 0 = omega arith in
       polynomial-at 𝓕 (𝟙 ∷ g) (length g) (omega arith) ∙ (rw z)
@@ -134,7 +122,7 @@ module _ (𝓕 : Field) where
   pub divides-nothing : (g : Series 𝓕) → Divides 𝓕 g none
   divides-nothing g = record { quotient = none; degree = 0; finite = λ k l. none-at 𝓕 k; is = sym (none-⊛ 𝓕 g) }
 
-  pub divides-raised : (g f : Series 𝓕) (n : ℕ) → Divides 𝓕 g f → Divides 𝓕 g (raised 𝓕 n f)
+  divides-raised : (g f : Series 𝓕) (n : ℕ) → Divides 𝓕 g f → Divides 𝓕 g (raised 𝓕 n f)
   divides-raised g f zero d = rw raised-zero d
   divides-raised g f (suc n) d = rw raised-suc (divides-sh 𝓕 g _ (divides-raised g f n d))
 
@@ -144,29 +132,29 @@ module _ (𝓕 : Field) where
 
   -- a step takes a multiple of the divisor off
   lowered-sum : (g : List F) (a : F) (p : List F) → length g ≤ length p
-      → polynomial 𝓕 (a ∷ p) ⊞ polynomial 𝓕 (lowered 𝓕 g (a ∷ p)) ≡ raised 𝓕 (length p - length g) (a ⊡ divisor g)
+      → polynomial 𝓕 (a ∷ p) ⊞ polynomial 𝓕 (lowered 𝓕 g (a ∷ p)) ≡ raised 𝓕 (length p - length g) (a ⊡ divisor 𝓕 g)
   unfolding lowered
   lowered-sum g a p l =
       let n : length g + (length p - length g) ≡ length p = omega arith in
       let m : length (scaled 𝓕 a g) ≤ length p = rw length-map l in
-      rw (polynomial-cons 𝓕 a p, polynomial-sum p (scaled 𝓕 a g) m, polynomial-scaled, length-map, polynomial-cons 𝓕 𝟙 g, divisor-scaled, raised-⊞, raised-monomial, n)
-      (fun-ext (λ k. simp (⊞-at, ring)))
+      rw (polynomial-cons 𝓕 a p, polynomial-sum p (scaled 𝓕 a g) m, polynomial-scaled, length-map)
+      (rw (polynomial-cons 𝓕 𝟙 g, divisor-scaled, raised-⊞, raised-monomial, n) (fun-ext (λ k. simp (⊞-at, ring))))
 
-  divided-divides : (k : ℕ) (g p : List F) → k + length g ≤ length p → Divides 𝓕 (divisor g) (polynomial 𝓕 p ⊞ polynomial 𝓕 (divided 𝓕 k g p))
+  divided-divides : (k : ℕ) (g p : List F) → k + length g ≤ length p → Divides 𝓕 (divisor 𝓕 g) (polynomial 𝓕 p ⊞ polynomial 𝓕 (divided 𝓕 k g p))
   unfolding divided
-  divided-divides zero g p l = rw (⊞-self (polynomial 𝓕 p)) (divides-nothing (divisor g))
+  divided-divides zero g p l = rw (⊞-self (polynomial 𝓕 p)) (divides-nothing (divisor 𝓕 g))
   divided-divides (suc k) g [] l = absurd (omega arith)
   divided-divides (suc k) g (a ∷ p) l =
       let q : List F = lowered 𝓕 g (a ∷ p) in
       rw (← ⊞-through (polynomial 𝓕 (a ∷ p)) (polynomial 𝓕 q) (polynomial 𝓕 (divided 𝓕 k g q)))
-      (divides-⊞ 𝓕 (divisor g) _ _
-      (rw (lowered-sum g a p (omega arith)) (divides-raised (divisor g) _ (length p - length g) (divides-self 𝓕 (divisor g) a)))
+      (divides-⊞ 𝓕 (divisor 𝓕 g) _ _
+      (rw (lowered-sum g a p (omega arith)) (divides-raised (divisor 𝓕 g) _ (length p - length g) (divides-self 𝓕 (divisor 𝓕 g) a)))
       (divided-divides k g q (rw lowered-length (omega arith))))
 
   remainder-small : (g p : List F) → length g ≤ length p → Below 𝓕 (length g) (polynomial 𝓕 (remainder 𝓕 g p))
   remainder-small g p l k m = below-polynomial 𝓕 (remainder 𝓕 g p) k (rw (remainder-length g p l) m)
 
-  pub remainder-is : (g p : List F) → length g ≤ length p → Remainder 𝓕 (divisor g) (length g) (polynomial 𝓕 p) (polynomial 𝓕 (remainder 𝓕 g p))
+  pub remainder-is : (g p : List F) → length g ≤ length p → Remainder 𝓕 (divisor 𝓕 g) (length g) (polynomial 𝓕 p) (polynomial 𝓕 (remainder 𝓕 g p))
   unfolding remainder
   remainder-is g p l = record {
     small = remainder-small g p l;
@@ -174,9 +162,9 @@ module _ (𝓕 : Field) where
   }
 
   pub remainder-same : (g : List F) (f : Series 𝓕) (r s : List F) → length r ≡ length g → length s ≡ length g
-      → Remainder 𝓕 (divisor g) (length g) f (polynomial 𝓕 r) → Remainder 𝓕 (divisor g) (length g) f (polynomial 𝓕 s) → r ≡ s
+      → Remainder 𝓕 (divisor 𝓕 g) (length g) f (polynomial 𝓕 r) → Remainder 𝓕 (divisor 𝓕 g) (length g) f (polynomial 𝓕 s) → r ≡ s
   remainder-same g f r s lr ls hr hs =
-      polynomial-same 𝓕 r s (lr ∙ sym ls) (remainder-unique 𝓕 (length g) (divisor g) f _ _ (monic g) (monic-top g) hr hs)
+      polynomial-same 𝓕 r s (lr ∙ sym ls) (remainder-unique 𝓕 (length g) (divisor 𝓕 g) f _ _ (monic g) (monic-top g) hr hs)
 
   -- ---- n turns of the shift register at once
 

@@ -1,7 +1,6 @@
 -- The coefficients of G = (x - a) (x - a²) .. (x - aᵐ), each from the one above it.
 --
---   geometric         (x - aᵐ) G(a x) = aᵐ (x - 1) G(x)
---   geometric-ratio   so Gₖ (aᵏ - aᵐ) = aᵐ (aᵏ⁺¹ - 1) Gₖ₊₁
+--   geometric-ratio   since (x - aᵐ) G(a x) = aᵐ (x - 1) G(x), Gₖ (aᵏ - aᵐ) = aᵐ (aᵏ⁺¹ - 1) Gₖ₊₁
 --
 -- Assumes nothing.
 use mathlib.Core.Path.{_≡_, refl, sym, _∙_, ap, fun-ext}
@@ -9,11 +8,11 @@ use Prim.Native.Nat.{ℕ, zero, suc}
 use Rattle.algebra.specs.Field.{Field}
 use Rattle.algebra.specs.Series.{Series, Operations, operations}
 use Rattle.algebra.specs.Polynomial.{root, rooted}
-use Rattle.algebra.proofs.Ring.{ring, eq-of-sum, sum-of-eq}
-use Rattle.algebra.proofs.Product.{⊡-at, unit-zero, unit-suc}
-use Rattle.algebra.proofs.Roots.{root-at, root-first, rooted-zero, rooted-suc}
 use Rattle.algebra.specs.Power.{pow, rising}
-use Rattle.algebra.proofs.PowerSum.{pow-zero, pow-suc}
+use Rattle.algebra.proofs.Ring.{ring, eq-of-sum, sum-of-eq}
+use Rattle.algebra.proofs.Product.{⊞-at, ⊡-at, unit-zero, unit-suc, sh-⊞, sh-⊡}
+use Rattle.algebra.proofs.Roots.{root-is, root-at, root-first, rooted-zero, rooted-suc}
+use Rattle.algebra.proofs.Powers.{pow-zero, pow-suc, rising-at}
 
 module _ (𝓕 : Field) where
   infixl 60 _⊕_
@@ -21,10 +20,6 @@ module _ (𝓕 : Field) where
   infixr 80 _⊡_
   open Field 𝓕 using (Carrier as F, add as _⊕_, mul as _⊙_, one as 𝟙)
   open Operations (operations 𝓕) using (_⊡_, unit)
-
-  pub rising-at : (a : F) (i : ℕ) → rising 𝓕 a i ≡ pow 𝓕 a (suc i)
-  unfolding rising
-  rising-at a i = refl
 
   -- f(a x)
   scaled : F → Series 𝓕 → Series 𝓕
@@ -47,22 +42,15 @@ module _ (𝓕 : Field) where
     where
       at : (k : ℕ) → scaled a (root 𝓕 (a ⊙ r) f) k ≡ (a ⊡ root 𝓕 r (scaled a f)) k
       at zero = rw (scaled-at a (root 𝓕 (a ⊙ r) f), ⊡-at, root-first 𝓕 (a ⊙ r) f, root-first 𝓕 r (scaled a f), scaled-at, pow-zero) (simp ring)
-      at (suc k) = rw (scaled-at a (root 𝓕 (a ⊙ r) f), ⊡-at, root-at 𝓕 (a ⊙ r) f, root-at 𝓕 r (scaled a f), scaled-at a f k, scaled-at a f (suc k), pow-suc 𝓕 a k) (simp ring)
+      at (suc k) =
+          rw (scaled-at a (root 𝓕 (a ⊙ r) f), ⊡-at, root-at 𝓕 (a ⊙ r) f, root-at 𝓕 r (scaled a f), scaled-at a f k, scaled-at a f (suc k), pow-suc 𝓕 a k)
+          (simp ring)
 
   root-⊡ : (r c : F) (f : Series 𝓕) → root 𝓕 r (c ⊡ f) ≡ c ⊡ root 𝓕 r f
-  root-⊡ r c f = fun-ext at
-    where
-      at : (k : ℕ) → root 𝓕 r (c ⊡ f) k ≡ (c ⊡ root 𝓕 r f) k
-      at zero = rw (root-first 𝓕 r (c ⊡ f), ⊡-at 𝓕 c (root 𝓕 r f), root-first 𝓕 r f, ⊡-at) (simp ring)
-      at (suc k) = rw (root-at 𝓕 r (c ⊡ f), ⊡-at 𝓕 c (root 𝓕 r f), root-at 𝓕 r f, ⊡-at 𝓕 c f k, ⊡-at 𝓕 c f (suc k)) (simp ring)
+  root-⊡ r c f = simp (root-is, sh-⊡) (fun-ext (λ k. simp (⊞-at, ⊡-at, ring)))
 
   root-root : (r s : F) (f : Series 𝓕) → root 𝓕 r (root 𝓕 s f) ≡ root 𝓕 s (root 𝓕 r f)
-  root-root r s f = fun-ext at
-    where
-      at : (k : ℕ) → root 𝓕 r (root 𝓕 s f) k ≡ root 𝓕 s (root 𝓕 r f) k
-      at zero = rw (root-first 𝓕 r (root 𝓕 s f), root-first 𝓕 s (root 𝓕 r f), root-first 𝓕 s f, root-first 𝓕 r f) (simp ring)
-      at (suc zero) = rw (root-at 𝓕 r (root 𝓕 s f), root-at 𝓕 s (root 𝓕 r f), root-first 𝓕 s f, root-first 𝓕 r f, root-at 𝓕 s f, root-at 𝓕 r f) (simp ring)
-      at (suc (suc k)) = rw (root-at 𝓕 r (root 𝓕 s f), root-at 𝓕 s (root 𝓕 r f), root-at 𝓕 s f k, root-at 𝓕 s f (suc k), root-at 𝓕 r f k, root-at 𝓕 r f (suc k)) (simp ring)
+  root-root r s f = simp (root-is, sh-⊞, sh-⊡) (fun-ext (λ k. simp (⊞-at, ⊡-at, ring)))
 
   geometric : (a : F) (m : ℕ) → root 𝓕 (pow 𝓕 a m) (scaled a (rooted 𝓕 m (rising 𝓕 a))) ≡ pow 𝓕 a m ⊡ root 𝓕 𝟙 (rooted 𝓕 m (rising 𝓕 a))
   geometric a zero = rw (rooted-zero, pow-zero, scaled-unit) (fun-ext (λ k. rw ⊡-at (simp ring)))

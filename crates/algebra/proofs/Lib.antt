@@ -18,3 +18,4 @@ pub mod Geometric
 pub mod Polynomial
 pub mod Division
 pub mod Register
+pub mod Laws

@@ -1,11 +1,16 @@
 -- The polynomial of a list of coefficients, the highest first.
 --
---   below-polynomial      its degree is below the list's length
---   polynomial-at         its coefficient at k is the list's element k from the end
---   polynomial-append     of u ++ p: x^n times that of u, plus that of p, which has n elements
---   polynomial-snoc       of one element more
---   polynomial-same       two lists of one length with the same polynomial are equal
---   raised-⊞, raised-sh   raising goes through sums and shifts
+--   polynomial-none, polynomial-cons     the clauses of the definition
+--   below-polynomial                     its degree is below the list's length
+--   polynomial-at                        its coefficient at k is the list's element k from the end
+--   polynomial-append                    of u ++ p: x^n times that of u, plus that of p, which has n elements
+--   polynomial-snoc                      of one element more
+--   polynomial-same                      two lists of one length with the same polynomial are equal
+--   raised-zero, raised-suc              the clauses of raising
+--   raised-⊞, raised-sh, raised-none,    it goes through sums and shifts, and raises 0 to 0 and a x^k to a x^(k+n)
+--   raised-monomial
+--   raised-low, raised-high              the coefficients of x^n f, below n and from n on
+--   below-raised                         the degree
 --
 -- Assumes nothing.
 use mathlib.Core.Path.{_≡_, refl, sym, _∙_, ap, fun-ext}
@@ -20,12 +25,11 @@ use Rattle.algebra.specs.Field.{Field}
 use Rattle.algebra.specs.Series.{Series, Below, Operations, operations}
 use Rattle.algebra.specs.Polynomial.{monomial, polynomial, raised}
 use Rattle.algebra.proofs.Ring.{ring, ⊕-𝟘, 𝟘-⊕}
-use Rattle.algebra.proofs.Product.{⊞-at, none-at, sh-zero, sh-suc, below-⊞, below-more, below-sh}
+use Rattle.algebra.proofs.Product.{⊞-at, none-at, sh-zero, sh-suc, sh-⊞, sh-none, below-⊞, below-more, below-sh}
 use Rattle.algebra.proofs.Remainder.{monomial-top, monomial-above, monomial-below, monomial-suc}
 
 module _ (𝓕 : Field) where
-  infixl 60 _⊕_
-  infixl 60 _⊞_
+  infixl 60 _⊕_ _⊞_
   open Field 𝓕 using (Carrier as F, add as _⊕_, nil as 𝟘)
   open Operations (operations 𝓕) using (_⊞_, none, sh)
 
@@ -67,13 +71,6 @@ module _ (𝓕 : Field) where
   unfolding raised
   raised-zero f = refl
 
-  pub sh-⊞ : (f g : Series 𝓕) → sh (f ⊞ g) ≡ sh f ⊞ sh g
-  sh-⊞ f g = fun-ext at
-    where
-      at : (k : ℕ) → sh (f ⊞ g) k ≡ (sh f ⊞ sh g) k
-      at zero = rw (⊞-at 𝓕 (sh f), sh-zero 𝓕 (f ⊞ g), sh-zero 𝓕 f, sh-zero 𝓕 g) (sym (⊕-𝟘 𝓕 𝟘))
-      at (suc k) = rw (⊞-at 𝓕 (sh f), sh-suc 𝓕 (f ⊞ g), sh-suc 𝓕 f, sh-suc 𝓕 g, ⊞-at)
-
   pub raised-⊞ : (n : ℕ) (f g : Series 𝓕) → raised 𝓕 n (f ⊞ g) ≡ raised 𝓕 n f ⊞ raised 𝓕 n g
   raised-⊞ zero f g = rw (raised-zero (f ⊞ g), raised-zero f, raised-zero g)
   raised-⊞ (suc n) f g = rw (raised-suc n (f ⊞ g), raised-suc n f, raised-suc n g, raised-⊞ n f g, sh-⊞)
@@ -88,11 +85,17 @@ module _ (𝓕 : Field) where
 
   pub raised-none : (n : ℕ) → raised 𝓕 n none ≡ none
   raised-none zero = raised-zero none
-  raised-none (suc n) = raised-suc n none ∙ ap sh (raised-none n) ∙ fun-ext at
-    where
-      at : (k : ℕ) → sh none k ≡ none k
-      at zero = sh-zero 𝓕 none ∙ sym (none-at 𝓕 0)
-      at (suc k) = sh-suc 𝓕 none k ∙ none-at 𝓕 k ∙ sym (none-at 𝓕 (suc k))
+  raised-none (suc n) = rw (raised-suc, raised-none n) (sh-none 𝓕)
+
+  pub raised-low : (n : ℕ) (f : Series 𝓕) (k : ℕ) → k < n → raised 𝓕 n f k ≡ 𝟘
+  raised-low zero f k l = absurd (omega arith)
+  raised-low (suc n) f zero l = rw raised-suc (sh-zero 𝓕 _)
+  raised-low (suc n) f (suc k) l = rw (raised-suc, sh-suc) (raised-low n f k (omega arith))
+
+  pub raised-high : (n : ℕ) (f : Series 𝓕) (k : ℕ) → n ≤ k → raised 𝓕 n f k ≡ f (k - n)
+  raised-high zero f k l = rw raised-zero (ap f (omega arith))
+  raised-high (suc n) f zero l = absurd (omega arith)
+  raised-high (suc n) f (suc k) l = rw (raised-suc, sh-suc) (raised-high n f k (omega arith) ∙ ap f (omega arith))
 
   pub below-raised : (n d : ℕ) (f : Series 𝓕) → Below 𝓕 d f → Below 𝓕 (d + n) (raised 𝓕 n f)
   below-raised zero d f h = rw (raised-zero, add-zero) h
@@ -109,7 +112,8 @@ module _ (𝓕 : Field) where
   pub polynomial-snoc : (u : List F) (a : F) → polynomial 𝓕 (u ++ a ∷ []) ≡ sh (polynomial 𝓕 u) ⊞ monomial 𝓕 0 a
   polynomial-snoc u a =
       polynomial-append u (a ∷ [])
-      ∙ (rw (raised-suc 0 (polynomial 𝓕 u), raised-zero, polynomial-cons a [], polynomial-none) (fun-ext (λ k. ⊞-at 𝓕 _ _ k ∙ ap (λ (x : F). sh (polynomial 𝓕 u) k ⊕ x) (⊞-at 𝓕 _ none k ∙ (rw none-at (⊕-𝟘 𝓕 _))) ∙ sym (⊞-at 𝓕 _ _ k))))
+      ∙ (rw (raised-suc 0 (polynomial 𝓕 u), raised-zero, polynomial-cons a [], polynomial-none)
+      (fun-ext (λ k. ⊞-at 𝓕 _ _ k ∙ ap (λ (x : F). sh (polynomial 𝓕 u) k ⊕ x) (⊞-at 𝓕 _ none k ∙ (rw none-at (⊕-𝟘 𝓕 _))) ∙ sym (⊞-at 𝓕 _ _ k))))
 
   pub polynomial-same : (u w : List F) → length u ≡ length w → polynomial 𝓕 u ≡ polynomial 𝓕 w → u ≡ w
   polynomial-same u w e p = ext-getD 𝟘 u w e at

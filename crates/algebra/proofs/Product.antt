@@ -5,7 +5,9 @@
 --   tl-⊞, tl-⊡, tl-none, tl-unit, tl-sh, tl-⊛            what is left without the first coefficient
 --   ⊛-comm, ⊛-assoc, ⊛-left, ⊞-⊛, ⊛-⊞, ⊡-⊛, ⊛-⊡,     a commutative ring, in which sh f is x f
 --   none-⊛, unit-⊛, sh-⊛
---   below-..                                              the degree of what the operations make
+--   sh-⊞, sh-⊡, sh-none                                  x (f + g), x (c f) and x 0
+--   below-none, below-tl, below-⊞, below-⊡, below-sh,    the degree of what the operations make
+--   below-more
 --   window        (f g) at r sees g from r - d to r only, if f has degree at most d
 --   ⊛-local       .. and g up to r only
 --
@@ -19,10 +21,8 @@ use Rattle.algebra.specs.Series.{Series, Below, Operations, operations}
 use Rattle.algebra.proofs.Ring.{ring, ⊕-𝟘}
 
 module _ (𝓕 : Field) where
-  infixl 60 _⊕_
-  infixl 70 _⊙_
-  infixl 60 _⊞_
-  infixl 70 _⊛_
+  infixl 60 _⊕_ _⊞_
+  infixl 70 _⊙_ _⊛_
   infixr 80 _⊡_
   open Field 𝓕 using (Carrier as F, add as _⊕_, mul as _⊙_, nil as 𝟘, one as 𝟙)
   open Operations (operations 𝓕) using (_⊞_, _⊡_, _⊛_, none, unit, sh, tl)
@@ -161,6 +161,27 @@ module _ (𝓕 : Field) where
 
   pub sh-⊛ : (f g : Series 𝓕) → sh f ⊛ g ≡ sh (f ⊛ g)
   sh-⊛ f g = fun-ext (sh-⊛-at f g)
+
+  pub sh-⊞ : (f g : Series 𝓕) → sh (f ⊞ g) ≡ sh f ⊞ sh g
+  sh-⊞ f g = fun-ext at
+    where
+      at : (k : ℕ) → sh (f ⊞ g) k ≡ (sh f ⊞ sh g) k
+      at zero = rw (⊞-at (sh f), sh-zero (f ⊞ g), sh-zero f, sh-zero g) (sym (⊕-𝟘 𝓕 𝟘))
+      at (suc k) = rw (⊞-at (sh f), sh-suc (f ⊞ g), sh-suc f, sh-suc g, ⊞-at)
+
+  pub sh-⊡ : (c : F) (f : Series 𝓕) → sh (c ⊡ f) ≡ c ⊡ sh f
+  sh-⊡ c f = fun-ext at
+    where
+      at : (k : ℕ) → sh (c ⊡ f) k ≡ (c ⊡ sh f) k
+      at zero = rw (⊡-at c (sh f), sh-zero (c ⊡ f), sh-zero f) (simp ring)
+      at (suc k) = rw (⊡-at c (sh f), sh-suc (c ⊡ f), sh-suc f, ⊡-at)
+
+  pub sh-none : sh none ≡ none
+  sh-none = fun-ext at
+    where
+      at : (k : ℕ) → sh none k ≡ none k
+      at zero = sh-zero none ∙ sym (none-at 0)
+      at (suc k) = sh-suc none k ∙ none-at k ∙ sym (none-at (suc k))
 
   -- ---- polynomials
 

@@ -1,7 +1,6 @@
--- Linear recurrences, and Massey's lemma.
+-- Massey's lemma.
 --
---   Annihilates a r f S   f S has no term from x^a up to, and not at, x^r
---   massey                a recurrence of length L that fails first at r, and one of length v that does not fail up to r: r < v + L
+--   massey    a recurrence of length L that fails first at r, and one of length v that does not fail up to r: r < v + L
 --
 -- Assumes nothing.
 use mathlib.Core.Path.{_≡_, sym, _∙_, ap}
@@ -10,8 +9,9 @@ use Prim.Native.Nat.{ℕ, suc, _+_, _≤_, _<_}
 use native.Mathlib.Omega.{arith}
 use native.Mathlib.Decide.{decLe}
 use Rattle.algebra.specs.Field.{Field}
-use Rattle.algebra.proofs.Ring.{𝟙-⊙}
 use Rattle.algebra.specs.Series.{Series, Below, Operations, operations}
+use Rattle.algebra.specs.Massey.{Annihilates}
+use Rattle.algebra.proofs.Ring.{𝟙-⊙}
 use Rattle.algebra.proofs.Product.{⊛-left, window}
 
 module _ (𝓕 : Field) where
@@ -19,18 +19,14 @@ module _ (𝓕 : Field) where
   open Field 𝓕 using (nil as 𝟘, one as 𝟙)
   open Operations (operations 𝓕) using (_⊛_)
 
-  -- f annihilates S from index a up to, and not at, r
-  abbrev pub Annihilates : ℕ → ℕ → Series 𝓕 → Series 𝓕 → Type 0
-  Annihilates a r f S = (k : ℕ) → a ≤ k → k < r → (f ⊛ S) k ≡ 𝟘
-
   -- the first coefficient that does not vanish is the same seen through a product with constant coefficient 1
   leading : (v r : ℕ) (Λ C S : Series 𝓕) → Λ 0 ≡ 𝟙 → Below 𝓕 (suc v) Λ
       → ((k : ℕ) → r ≤ k + v → k < r → (C ⊛ S) k ≡ 𝟘) → (Λ ⊛ (C ⊛ S)) r ≡ (C ⊛ S) r
   leading v r Λ C S u d w = window 𝓕 v r Λ (C ⊛ S) d w ∙ (rw u (𝟙-⊙ 𝓕 _))
 
   pub massey : (L v r : ℕ) (C Λ S : Series 𝓕)
-      → C 0 ≡ 𝟙 → Below 𝓕 (suc L) C → Annihilates L r C S → (C ⊛ S) r ≢ 𝟘
-      → Λ 0 ≡ 𝟙 → Below 𝓕 (suc v) Λ → Annihilates v (suc r) Λ S
+      → C 0 ≡ 𝟙 → Below 𝓕 (suc L) C → Annihilates 𝓕 L r C S → (C ⊛ S) r ≢ 𝟘
+      → Λ 0 ≡ 𝟙 → Below 𝓕 (suc v) Λ → Annihilates 𝓕 v (suc r) Λ S
       → r < v + L
   massey L v r C Λ S c0 cd ca ne l0 ld la = go (decLe (suc r) (v + L))
     where

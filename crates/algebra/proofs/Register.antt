@@ -1,11 +1,8 @@
--- A register that divides by x^w + g, where g has w coefficients: it starts with s, and takes a content c.
+-- The register that divides by x^w + g.
 --
---   register g s c     what it then holds: the sum of the remainders of x^k s and of x^w c, where c has k coefficients
---   taken s c          the polynomial x^k s + x^w c
 --   remainder-raised   the remainder of x^n c, by long division of c and n zeros
 --   register-length    it holds w coefficients
---   register-is        the register is the remainder of what it took
---   register-same      .. so whatever list is that remainder is what it holds
+--   register-is        the register is the remainder of what it took, and so the one list of w coefficients that is
 --   register-zeros     started with zeros, it is the remainder of x^w c
 --   register-none      with no content it is what it started with
 --   register-more      n coefficients more, at once: the n highest that it held go through the division with the new ones,
@@ -22,11 +19,13 @@ use Rattle.algebra.specs.Field.{Field}
 use Rattle.algebra.specs.Series.{Series, Below, Operations, operations}
 use Rattle.algebra.specs.Polynomial.{Remainder, polynomial, raised}
 use Rattle.algebra.specs.Division.{sum, remainder}
+use Rattle.algebra.specs.Register.{divisor, taken, register}
 use Rattle.algebra.proofs.Ring.{ring, 𝟘-⊕}
 use Rattle.algebra.proofs.Product.{⊞-at, none-at, below-⊞}
 use Rattle.algebra.proofs.Remainder.{divides-⊞}
 use Rattle.algebra.proofs.Polynomial.{polynomial-none, below-polynomial, raised-zero, raised-⊞, raised-none, polynomial-append}
-use Rattle.algebra.proofs.Division.{divisor, ⊞-none, ⊞-self, divides-nothing, sum-length, remainder-length, polynomial-sum, polynomial-zeros, polynomial-raised, remainder-is, remainder-same, raised-add, remainder-block}
+use Rattle.algebra.proofs.Division.{⊞-none, ⊞-self, divides-nothing, sum-length, remainder-length, polynomial-sum, polynomial-zeros}
+use Rattle.algebra.proofs.Division.{polynomial-raised, remainder-is, remainder-same, raised-add, remainder-block}
 
 module _ (𝓕 : Field) where
   infixl 60 _⊞_
@@ -60,12 +59,6 @@ module _ (𝓕 : Field) where
   none-⊞ : (f : Series 𝓕) → none ⊞ f ≡ f
   none-⊞ f = fun-ext (λ k. ⊞-at 𝓕 none f k ∙ (rw none-at (𝟘-⊕ 𝓕 (f k))))
 
-  abbrev pub taken : (w : ℕ) → List F → List F → Series 𝓕
-  taken w s c = raised 𝓕 (length c) (polynomial 𝓕 s) ⊞ raised 𝓕 w (polynomial 𝓕 c)
-
-  unfoldable pub register : List F → List F → List F → List F
-  register g s c = sum 𝓕 (remainder 𝓕 g (s ++ zeros (length c))) (remainder 𝓕 g (c ++ zeros (length g)))
-
   module _ (g : List F) where
     abbrev w : ℕ
     w = length g
@@ -80,50 +73,52 @@ module _ (𝓕 : Field) where
     padded-remainder c n l = remainder-length 𝓕 g (c ++ zeros n) (rw padded-length l)
 
     module _ (s : List F) (full : length s ≡ w) where
-      pub register-length : (c : List F) → length (register g s c) ≡ w
+      pub register-length : (c : List F) → length (register 𝓕 g s c) ≡ w
       unfolding register
       register-length c = sum-length 𝓕 _ _ ∙ padded-remainder s (length c) (omega arith)
 
-      pub register-is : (c : List F) → IsRemainder (taken w s c) (register g s c)
+      pub register-is : (c : List F) → IsRemainder (taken 𝓕 w s c) (register 𝓕 g s c)
       unfolding register
       register-is c =
-          rw (polynomial-plus (remainder 𝓕 g (s ++ zeros (length c))) (remainder 𝓕 g (c ++ zeros w)) (padded-remainder s (length c) (omega arith) ∙ sym (padded-remainder c w (omega arith))))
+          rw (polynomial-plus (remainder 𝓕 g (s ++ zeros (length c))) (remainder 𝓕 g (c ++ zeros w))
+          (padded-remainder s (length c) (omega arith) ∙ sym (padded-remainder c w (omega arith))))
           (remainder-⊞ (divisor 𝓕 g) _ _ _ _ w (remainder-raised s (length c) (omega arith)) (remainder-raised c w (omega arith)))
 
       -- what holds of the remainder of what it took is said of the register
-      pub register-same : (c r : List F) → length r ≡ w → IsRemainder (taken w s c) r → register g s c ≡ r
-      register-same c r l h = remainder-same 𝓕 g (taken w s c) (register g s c) r (register-length c) l (register-is c) h
+      register-same : (c r : List F) → length r ≡ w → IsRemainder (taken 𝓕 w s c) r → register 𝓕 g s c ≡ r
+      register-same c r l h = remainder-same 𝓕 g (taken 𝓕 w s c) (register 𝓕 g s c) r (register-length c) l (register-is c) h
 
-      pub register-none : register g s [] ≡ s
+      pub register-none : register 𝓕 g s [] ≡ s
       register-none =
           register-same [] s full
-          (rw (raised-zero, polynomial-none, raised-none, ⊞-none) (remainder-itself (divisor 𝓕 g) (polynomial 𝓕 s) w (λ k l. below-polynomial 𝓕 s k (omega arith))))
+          (rw (raised-zero, polynomial-none, raised-none, ⊞-none)
+          (remainder-itself (divisor 𝓕 g) (polynomial 𝓕 s) w (λ k l. below-polynomial 𝓕 s k (omega arith))))
 
-      module _ (c a b d : List F) (held : register g s c ≡ a ++ b) (n : length a ≡ length d) where
+      module _ (c a b d : List F) (held : register 𝓕 g s c ≡ a ++ b) (n : length a ≡ length d) where
         parts : length b + length d ≡ w
         parts = omega (arith, length-append a b, sym (ap length held) ∙ register-length c)
 
         moved : length (b ++ zeros (length d)) ≡ w
         moved = padded-length b (length d) ∙ parts
 
-        more-taken : taken w s (c ++ d) ≡ raised 𝓕 (length d) (taken w s c) ⊞ raised 𝓕 w (polynomial 𝓕 d)
+        more-taken : taken 𝓕 w s (c ++ d) ≡ raised 𝓕 (length d) (taken 𝓕 w s c) ⊞ raised 𝓕 w (polynomial 𝓕 d)
         more-taken =
-            rw (length-append, polynomial-append 𝓕 c d, raised-⊞ 𝓕 w (raised 𝓕 (length d) (polynomial 𝓕 c)), raised-⊞ 𝓕 (length d), raised-add 𝓕 (length d) w, raised-add 𝓕 (length c), raised-add 𝓕 w (length d), add-comm w (length d))
-            (fun-ext (λ k. simp (⊞-at, ring)))
+            rw (length-append, polynomial-append 𝓕 c d, raised-⊞ 𝓕 w (raised 𝓕 (length d) (polynomial 𝓕 c)), raised-⊞ 𝓕 (length d))
+            (rw (raised-add 𝓕 (length d) w, raised-add 𝓕 (length c), raised-add 𝓕 w (length d), add-comm w (length d)) (fun-ext (λ k. simp (⊞-at, ring))))
 
-        before : IsRemainder (taken w s c) (a ++ b)
+        before : IsRemainder (taken 𝓕 w s c) (a ++ b)
         before = rw (← held) (register-is c)
 
-        pub register-more : register g s (c ++ d) ≡ sum 𝓕 (b ++ zeros (length d)) (remainder 𝓕 g (sum 𝓕 a d ++ zeros w))
+        pub register-more : register 𝓕 g s (c ++ d) ≡ sum 𝓕 (b ++ zeros (length d)) (remainder 𝓕 g (sum 𝓕 a d ++ zeros w))
         register-more =
             register-same (c ++ d) _ (sum-length 𝓕 (b ++ zeros (length d)) _ ∙ moved)
             (rw (more-taken, polynomial-plus (b ++ zeros (length d)) _ (moved ∙ sym (padded-remainder (sum 𝓕 a d) w (omega arith))), polynomial-raised)
-            (remainder-block 𝓕 w (length b) (length d) parts (divisor 𝓕 g) (taken w s c) (polynomial 𝓕 a) (polynomial 𝓕 b) (polynomial 𝓕 d) _
+            (remainder-block 𝓕 w (length b) (length d) parts (divisor 𝓕 g) (taken 𝓕 w s c) (polynomial 𝓕 a) (polynomial 𝓕 b) (polynomial 𝓕 d) _
             (rw (← polynomial-append 𝓕 a b) before)
             (below-polynomial 𝓕 b)
             (rw (← polynomial-plus a d n) (remainder-raised (sum 𝓕 a d) w (omega arith)))))
 
-    pub register-zeros : (c : List F) → register g (zeros w) c ≡ remainder 𝓕 g (c ++ zeros w)
+    pub register-zeros : (c : List F) → register 𝓕 g (zeros w) c ≡ remainder 𝓕 g (c ++ zeros w)
     register-zeros c =
         register-same (zeros w) (length-replicate w 𝟘) c _ (padded-remainder c w (omega arith))
         (rw (polynomial-zeros, raised-none, none-⊞) (remainder-raised c w (omega arith)))

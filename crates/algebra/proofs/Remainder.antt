@@ -1,11 +1,12 @@
 -- Division with remainder.
 --
+--   monomial-top, monomial-above,          the coefficients of a x^n: a at n, zero above and below
+--   monomial-below, monomial-suc           .. and x times it is a x^(n+1)
 --   divides-⊞, divides-sh, divides-self    sums, shifts and multiples of what g divides it divides too
---   ⊛-top                                  the highest coefficient of a product
---   divides-none                           what a monic g of degree d divides is zero, if its degree is below d
---   remainder-unique                       so there is one remainder
+--   remainder-unique                       what a monic g of degree d divides is zero, if its degree is below d: there is one remainder
 --   remainder-step                         from the remainder of f to that of x f + a x^d: one turn of the shift register of
 --                                          figure D.3/H.223, with the feedback a + p₍d₋₁₎
+--   turned-small                           .. which has degree below d
 --
 -- Assumes nothing.
 use mathlib.Core.Path.{_≡_, refl, sym, _∙_, ap, ap₂, fun-ext}
@@ -16,15 +17,14 @@ use native.Mathlib.Decide.{decLe}
 use Rattle.algebra.specs.Field.{Field}
 use Rattle.algebra.specs.Series.{Series, Below, Operations, operations}
 use Rattle.algebra.specs.Polynomial.{Divides, Remainder, monomial}
-use Rattle.algebra.proofs.Ring.{ring, ⊕-𝟘, ⊙-𝟙, eq-of-sum}
-use Rattle.algebra.proofs.Product.{⊞-at, ⊡-at, sh-zero, sh-suc, unit-zero, none-at, ⊛-suc, ⊞-⊛, ⊡-⊛, sh-⊛, unit-⊛, none-⊛, window, below-none, below-tl, below-⊞, below-⊡, below-sh, below-more}
+use Rattle.algebra.proofs.Ring.{ring, ⊙-𝟙, eq-of-sum}
+use Rattle.algebra.proofs.Product.{tl-at, ⊞-at, ⊡-at, sh-zero, sh-suc, sh-⊞, unit-zero, none-at, ⊛-suc, ⊞-⊛, ⊡-⊛, sh-⊛, unit-⊛, none-⊛}
+use Rattle.algebra.proofs.Product.{window, below-none, below-tl, below-⊞, below-⊡, below-sh, below-more}
 use Rattle.algebra.proofs.Roots.{below-unit}
 
 module _ (𝓕 : Field) where
-  infixl 60 _⊕_
-  infixl 70 _⊙_
-  infixl 60 _⊞_
-  infixl 70 _⊛_
+  infixl 60 _⊕_ _⊞_
+  infixl 70 _⊙_ _⊛_
   infixr 80 _⊡_
   open Field 𝓕 using (Carrier as F, add as _⊕_, mul as _⊙_, nil as 𝟘, one as 𝟙)
   open Operations (operations 𝓕) using (_⊞_, _⊡_, _⊛_, none, unit, sh, tl)
@@ -80,7 +80,7 @@ module _ (𝓕 : Field) where
   ⊛-top : (a b : ℕ) (f g : Series 𝓕) → Below 𝓕 (suc a) f → Below 𝓕 (suc b) g → (f ⊛ g) (a + b) ≡ f a ⊙ g b
   ⊛-top zero b f g h k = rw zero-add (window 𝓕 0 b f g h (λ i l m. absurd (omega arith)))
   ⊛-top (suc a) b f g h k =
-      rw (suc-add, ⊛-suc 𝓕 f g (a + b), ⊛-top a b (tl f) g (below-tl 𝓕 (suc a) f h) k, k (suc (a + b)) (omega arith), Rattle.algebra.proofs.Product.tl-at 𝓕 f a) (simp ring)
+      rw (suc-add, ⊛-suc 𝓕 f g (a + b), ⊛-top a b (tl f) g (below-tl 𝓕 (suc a) f h) k, k (suc (a + b)) (omega arith), tl-at 𝓕 f a) (simp ring)
 
   -- the quotient of a product of degree below d, from its highest coefficient down
   quotient-none : (D d : ℕ) (g q : Series 𝓕) → Below 𝓕 (suc d) g → g d ≡ 𝟙 → Below 𝓕 D q → Below 𝓕 d (q ⊛ g) → q ≡ none
@@ -93,7 +93,7 @@ module _ (𝓕 : Field) where
       lower : Below 𝓕 D q
       lower k l = elim (decLe (suc D) k) [ yes p ↦ hq k p | no p ↦ (let e : k ≡ D = omega arith in rw e lead) ]
 
-  pub divides-none : (d : ℕ) (g f : Series 𝓕) → Below 𝓕 (suc d) g → g d ≡ 𝟙 → Divides 𝓕 g f → Below 𝓕 d f → f ≡ none
+  divides-none : (d : ℕ) (g f : Series 𝓕) → Below 𝓕 (suc d) g → g d ≡ 𝟙 → Divides 𝓕 g f → Below 𝓕 d f → f ≡ none
   divides-none d g f hg top p hf =
       p .is ∙ ap (λ (q : Series 𝓕). q ⊛ g) (quotient-none (p .degree) d g (p .quotient) hg top (p .finite) (rw (← p .is) hf)) ∙ none-⊛ 𝓕 g
 
@@ -117,7 +117,7 @@ module _ (𝓕 : Field) where
     abbrev turned : Series 𝓕
     turned = sh p ⊞ monomial 𝓕 (suc d) a ⊞ (p d ⊕ a) ⊡ g
 
-    pub turned-at : (k : ℕ) → turned k ≡ sh p k ⊕ monomial 𝓕 (suc d) a k ⊕ (p d ⊕ a) ⊙ g k
+    turned-at : (k : ℕ) → turned k ≡ sh p k ⊕ monomial 𝓕 (suc d) a k ⊕ (p d ⊕ a) ⊙ g k
     turned-at k = rw (⊞-at, ⊞-at, ⊡-at)
 
     pub turned-small : Below 𝓕 (suc d) turned
@@ -129,14 +129,7 @@ module _ (𝓕 : Field) where
         go (no m) = let e : k ≡ d = omega arith in rw (e, monomial-top (suc d) a, top) (simp ring)
 
     turned-sum : sh f ⊞ monomial 𝓕 (suc d) a ⊞ turned ≡ sh (f ⊞ p) ⊞ (p d ⊕ a) ⊡ g
-    turned-sum = fun-ext at
-      where
-        sum-sh : (k : ℕ) → sh (f ⊞ p) k ≡ sh f k ⊕ sh p k
-        sum-sh zero = rw (sh-zero 𝓕 (f ⊞ p), sh-zero 𝓕 f, sh-zero 𝓕 p) (sym (⊕-𝟘 𝓕 𝟘))
-        sum-sh (suc k) = rw (sh-suc 𝓕 (f ⊞ p), sh-suc 𝓕 f, sh-suc 𝓕 p, ⊞-at)
-
-        at : (k : ℕ) → (sh f ⊞ monomial 𝓕 (suc d) a ⊞ turned) k ≡ (sh (f ⊞ p) ⊞ (p d ⊕ a) ⊡ g) k
-        at k = simp (⊞-at, ⊡-at, sum-sh k, ring)
+    turned-sum = rw sh-⊞ (fun-ext (λ k. simp (⊞-at, ⊡-at, ring)))
 
     pub remainder-step : Remainder 𝓕 g (suc d) (sh f ⊞ monomial 𝓕 (suc d) a) turned
     remainder-step = record {

@@ -1,7 +1,6 @@
 -- What the search for the roots of the locator shows. The n places have distinct locators A, with inverses Z; S are the syndromes,
 -- and (C, L) is what Berlekamp and Massey's algorithm made of the first t of them.
 --
---   Search n v L C Z at   `at` lists, rising, all v places below n at whose Z the polynomial C, of degree at most L, is zero
 --   length-complete       if S are the syndromes of an error of weight w with 2 w ≤ t, then L = w
 --   search-complete       .. and the search finds L places
 --   divisor-ne            if it finds L places, Forney's divisor is not zero there
@@ -16,30 +15,30 @@ use native.Mathlib.Decide.{decLt}
 use Rattle.algebra.specs.Field.{Field}
 use Rattle.algebra.specs.Series as Ser
 use Rattle.algebra.specs.Series.{Series, Operations, operations}
+use Rattle.algebra.specs.Power.{pow}
+use Rattle.algebra.specs.Value.{ev}
+use Rattle.algebra.specs.Points.{Distinct, Inverses}
+use Rattle.algebra.specs.PowerSum.{psum, synd}
+use Rattle.algebra.specs.Locator.{loc, prod, skip}
+use Rattle.algebra.specs.Massey.{MasseyState}
+use Rattle.algebra.specs.Derivative.{deriv}
+use Rattle.algebra.specs.Support.{Support, Lists, pick, weight, one-if}
+use Rattle.algebra.specs.Search.{Search}
 use Rattle.algebra.proofs.Ring.{ring, mul-ne, 𝟘-⊙, 𝟙-⊙}
 use Rattle.algebra.proofs.Product.{⊛-local, tl-at}
-use Rattle.algebra.proofs.Value.{ev}
-use Rattle.algebra.proofs.Roots.{Distinct}
-use Rattle.algebra.specs.Power.{pow}
-use Rattle.algebra.proofs.PowerSum.{pow-zero, pow-suc, psum, psum-zero, psum-suc}
-use Rattle.algebra.proofs.Locator.{Inverses, left-ne, synd, synd-at, loc, loc-one, below-loc, ev-loc, prod, prod-root, loc-annihilates, link-ne, locator-unique}
-use Rattle.algebra.proofs.Berlekamp.{State, bm-finds}
-use Rattle.algebra.proofs.Forney.{skip, skip-ne, prod-ne, forney-sound}
-use Rattle.algebra.proofs.Derivative.{deriv, deriv-loc}
-use Rattle.algebra.proofs.Support.{Support, Lists, pick, pick-at, weight, weight-zero, weight-suc, one-if, support, support-of, psum-cong}
+use Rattle.algebra.proofs.PowerSum.{psum-zero, psum-suc}
+use Rattle.algebra.proofs.Locator.{left-ne, synd-at, loc-one, below-loc, ev-loc, prod-root, loc-annihilates, link-ne, locator-unique}
+use Rattle.algebra.proofs.Berlekamp.{bm-finds}
+use Rattle.algebra.proofs.Forney.{skip-ne, prod-ne, forney-sound}
+use Rattle.algebra.proofs.Derivative.{deriv-loc}
+use Rattle.algebra.proofs.Support.{pick-at, weight-zero, weight-suc, support, support-of, psum-cong}
+use Rattle.algebra.proofs.Powers.{pow-zero, pow-suc}
 
 module _ (𝓕 : Field) where
   infixl 60 _⊕_
-  infixl 70 _⊙_
-  infixl 70 _⊛_
+  infixl 70 _⊙_ _⊛_
   open Field 𝓕 using (Carrier as F, add as _⊕_, mul as _⊙_, nil as 𝟘, one as 𝟙)
   open Operations (operations 𝓕) using (_⊛_, tl)
-
-  pub record Search (n v L : ℕ) (C Z : Series 𝓕) (at : ℕ → ℕ) : Type 0 where
-    pub inside : (j : ℕ) → j < v → at j < n
-    pub rises : (i j : ℕ) → i < j → j < v → at i < at j
-    pub root : (j : ℕ) → j < v → ev 𝓕 (suc L) C (Z (at j)) ≡ 𝟘
-    pub all : (p : ℕ) → p < n → ev 𝓕 (suc L) C (Z p) ≡ 𝟘 → (j : ℕ) × (j < v) × (at j ≡ p)
 
   distinct-any : (n : ℕ) (A : Series 𝓕) → Distinct 𝓕 n A → (i j : ℕ) → i < n → j < n → i ≢ j → A i ≢ A j
   distinct-any n A D i j l m h = elim (decLt i j) [ yes p ↦ D i j p m | no p ↦ (λ e. D j i (omega arith) l (sym e)) ]
@@ -93,7 +92,7 @@ module _ (𝓕 : Field) where
       sym (psum-cong 𝓕 n _ E A A i (λ k l. keeps k) (λ k l. refl)) ∙ sym (psum-one n U E A i) ∙ su .sums _ 1
       ∙ psum-one v (pick 𝓕 U at) (pick 𝓕 E at) (pick 𝓕 A at) i ∙ psum-cong 𝓕 v _ _ _ _ i (λ k l. keeps (at k)) (λ k l. refl)
 
-  module _ (n t L : ℕ) (A Z S C B : Series 𝓕) (b : F) (D : Distinct 𝓕 n A) (I : Inverses 𝓕 n A Z) (st : State 𝓕 S C B t L b) where
+  module _ {n t L : ℕ} {A Z S C B : Series 𝓕} {b : F} (D : Distinct 𝓕 n A) (I : Inverses 𝓕 n A Z) (st : MasseyState 𝓕 S C B t L b) where
     -- the listed places' locators and their inverses
     module _ (v : ℕ) (at : ℕ → ℕ) (inside : (j : ℕ) → j < v → at j < n) (rises : (i j : ℕ) → i < j → j < v → at i < at j) where
       listed-distinct : Distinct 𝓕 v (pick 𝓕 A at)
@@ -107,7 +106,7 @@ module _ (𝓕 : Field) where
     least-weight E syn =
         st .least w (loc 𝓕 w X) (loc-one 𝓕 w X) (below-loc 𝓕 w X)
         (λ k l o. ⊛-local 𝓕 (loc 𝓕 w X) S (synd 𝓕 w Y X) k (λ i p. syn i (omega arith) ∙ su .sums A (suc i) ∙ sym (synd-at 𝓕 w Y X i))
-        ∙ loc-annihilates 𝓕 w t Y X (pick 𝓕 Z at) (listed-inverses w at (su .inside) (su .rises)) k l o)
+        ∙ loc-annihilates 𝓕 w t Y X (pick 𝓕 Z at) (listed-inverses w at (su .lists .inside) (su .lists .rises)) k l o)
       where
         w : ℕ
         w = weight 𝓕 n E
@@ -137,8 +136,9 @@ module _ (𝓕 : Field) where
       located : (L ≡ weight 𝓕 n E) × (C ≡ loc 𝓕 (weight 𝓕 n E) (pick 𝓕 A at))
       located =
           bm-finds 𝓕 (weight 𝓕 n E) t L S C B (pick 𝓕 E at) (pick 𝓕 A at) (pick 𝓕 Z at) b
-          (listed-distinct (weight 𝓕 n E) at (su .inside) (su .rises)) (listed-inverses (weight 𝓕 n E) at (su .inside) (su .rises))
-          (λ k l. rw pick-at (su .not-nil k l)) (λ i l. syn i l ∙ su .sums A (suc i) ∙ sym (synd-at 𝓕 (weight 𝓕 n E) (pick 𝓕 E at) (pick 𝓕 A at) i)) st few
+          (listed-distinct (weight 𝓕 n E) at (su .lists .inside) (su .lists .rises)) (listed-inverses (weight 𝓕 n E) at (su .lists .inside) (su .lists .rises))
+          (λ k l. rw pick-at (su .lists .not-nil k l))
+          (λ i l. syn i l ∙ su .sums A (suc i) ∙ sym (synd-at 𝓕 (weight 𝓕 n E) (pick 𝓕 E at) (pick 𝓕 A at) i)) st few
 
       pub length-complete : L ≡ weight 𝓕 n E
       length-complete = located .0
@@ -148,16 +148,17 @@ module _ (𝓕 : Field) where
 
       error-root : (p : ℕ) → p < n → E p ≢ 𝟘 → ev 𝓕 (suc L) C (Z p) ≡ 𝟘
       error-root p l h =
-          let r = su .all p l h in
+          let r = su .lists .all p l h in
           value-at p ∙ prod-root 𝓕 (weight 𝓕 n E) (pick 𝓕 A at) (Z p) (r .0) (r .1) (rw (pick-at, r .2) (I p l))
 
       root-error : (p : ℕ) → p < n → ev 𝓕 (suc L) C (Z p) ≡ 𝟘 → E p ≢ 𝟘
       root-error p l h z =
           prod-ne 𝓕 (weight 𝓕 n E) (pick 𝓕 A at) (Z p)
-          (λ j m. rw pick-at (link-ne 𝓕 (A (at j)) (A p) (Z p) (I p l) (distinct-any n A D (at j) p (su .inside j m) l (λ e. su .not-nil j m (rw e z)))))
+          (λ j m. rw pick-at (link-ne 𝓕 (A (at j)) (A p) (Z p) (I p l)
+          (distinct-any n A D (at j) p (su .lists .inside j m) l (λ e. su .lists .not-nil j m (rw e z)))))
           (sym (value-at p) ∙ h)
 
-      pub search-complete : (v : ℕ) (bt : ℕ → ℕ) → Search n v L C Z bt → v ≡ L
+      pub search-complete : (v : ℕ) (bt : ℕ → ℕ) → Search 𝓕 n v L C Z bt → v ≡ L
       search-complete v bt found =
           support-of 𝓕 n v E bt (record {
             inside = found .inside;
@@ -168,7 +169,7 @@ module _ (𝓕 : Field) where
 
     -- ---- if L roots are found, C is their locator
 
-    module _ (at : ℕ → ℕ) (found : Search n L L C Z at) where
+    module _ (at : ℕ → ℕ) (found : Search 𝓕 n L L C Z at) where
       root-listed : (j : ℕ) → j < L → ev 𝓕 (suc L) C (pick 𝓕 Z at j) ≡ 𝟘
       root-listed j l = rw pick-at (found .root j l)
 

@@ -1,11 +1,16 @@
 -- Roots of polynomials.
 --
---   quo d f r        the quotient of f, of degree at most d, by x - r
---   quo-splits       f = (x - r) quo + f(r)
---   Distinct d X     X₀, .., X₍d₋₁₎ are distinct
---   roots            d distinct points at which the first d coefficients evaluate to zero: all d are zero
---   divides-root     what (x - X₀) .. (x - Xₘ₋₁) divides is zero at each Xᵢ
---   roots-divide     and what is zero at each of the distinct Xᵢ it divides
+--   quo d f r                        the quotient of f, of degree at most d, by x - r
+--   factor-theorem                   f(x) - f(r) = (x - r) quo(x)
+--   quo-splits                       where f(r) = 0, f = (x - r) quo
+--   distinct-tl                      distinct points, without the first
+--   roots                            d distinct points at which the first d coefficients evaluate to zero: all d are zero
+--   root-is, root-at, root-first     (x - r) f, and its coefficients
+--   rooted-zero, rooted-suc          the clauses of (x - X₀) .. (x - Xₘ₋₁)
+--   below-unit, below-rooted         the degrees of 1 and of it
+--   rooted-top                       its highest coefficient is 1
+--   divides-root                     what it divides is zero at each Xᵢ
+--   roots-divide                     and what is zero at each of the distinct Xᵢ it divides
 --
 -- Assumes nothing.
 use mathlib.Core.Path.{_≡_, refl, sym, _∙_, ap, fun-ext, _≡⟨_⟩_, _∎}
@@ -17,15 +22,16 @@ use Rattle.algebra.specs.Field.{Field}
 use Rattle.algebra.specs.Series as Ser
 use Rattle.algebra.specs.Series.{Series, Below, Operations, operations}
 use Rattle.algebra.specs.Polynomial.{Divides, root, rooted}
+use Rattle.algebra.specs.Value.{ev}
+use Rattle.algebra.specs.Points.{Distinct}
 use Rattle.algebra.proofs.Ring.{ring, ⊙-𝟘, ⊙-comm, factor, mul-ne, sum-ne}
-use Rattle.algebra.proofs.Product.{tl-at, ⊞-at, ⊡-at, sh-zero, sh-suc, unit-zero, unit-suc, below-⊞, below-⊡, below-sh, below-more, below-tl, ⊞-⊛, ⊡-⊛, sh-⊛, ⊛-comm, unit-⊛}
-use Rattle.algebra.proofs.Value.{ev, ev-zero, ev-suc, ev-one, ev-⊞, ev-⊡, ev-sh, ev-unit, ev-more, ev-⊛}
+use Rattle.algebra.proofs.Product.{tl-at, ⊞-at, ⊡-at, sh-zero, sh-suc, unit-zero, unit-suc, below-⊞, below-⊡, below-sh, below-more}
+use Rattle.algebra.proofs.Product.{below-tl, ⊞-⊛, ⊡-⊛, sh-⊛, ⊛-comm, unit-⊛}
+use Rattle.algebra.proofs.Value.{ev-zero, ev-suc, ev-one, ev-⊞, ev-⊡, ev-sh, ev-unit, ev-more, ev-⊛}
 
 module _ (𝓕 : Field) where
-  infixl 60 _⊕_
-  infixl 70 _⊙_
-  infixl 60 _⊞_
-  infixl 70 _⊛_
+  infixl 60 _⊕_ _⊞_
+  infixl 70 _⊙_ _⊛_
   infixr 80 _⊡_
   open Field 𝓕 using (Carrier as F, add as _⊕_, mul as _⊙_, nil as 𝟘, one as 𝟙)
   open Operations (operations 𝓕) using (_⊞_, _⊡_, _⊛_, unit, sh, tl)
@@ -64,15 +70,12 @@ module _ (𝓕 : Field) where
       sym (tl-at 𝓕 f k) ∙ quo-zero d (tl f) r (sym (quo-head d f r) ∙ q 0 (omega arith))
       (λ i m. sym (ap (λ s. s i) (quo-tl d f r)) ∙ tl-at 𝓕 _ i ∙ q (suc i) (omega arith)) k (omega arith)
 
-  abbrev pub Distinct : ℕ → (ℕ → F) → Type 0
-  Distinct d X = (i j : ℕ) → i < j → j < d → X i ≢ X j
-
-  pub distinct-tl : (d : ℕ) (X : Series 𝓕) → Distinct (suc d) X → Distinct d (tl X)
+  pub distinct-tl : (d : ℕ) (X : Series 𝓕) → Distinct 𝓕 (suc d) X → Distinct 𝓕 d (tl X)
   unfolding Ser.tl
   distinct-tl d X h i j l m = h (suc i) (suc j) (omega arith) (omega arith)
 
   -- d distinct points at which the first d coefficients evaluate to zero: all d are zero
-  pub roots : (d : ℕ) (f X : Series 𝓕) → Distinct d X → ((k : ℕ) → k < d → ev 𝓕 d f (X k) ≡ 𝟘) → (k : ℕ) → k < d → f k ≡ 𝟘
+  pub roots : (d : ℕ) (f X : Series 𝓕) → Distinct 𝓕 d X → ((k : ℕ) → k < d → ev 𝓕 d f (X k) ≡ 𝟘) → (k : ℕ) → k < d → f k ≡ 𝟘
   roots zero f X D e k l = absurd (omega arith)
   roots (suc d) f X D e k l = quo-zero d f (X 0) (e 0 (omega arith)) (roots d (quo d f (X 0)) (tl X) (distinct-tl d X D) at) k l
     where
@@ -82,7 +85,7 @@ module _ (𝓕 : Field) where
 
   -- ---- the factor x - r
 
-  root-is : (r : F) (f : Series 𝓕) → root 𝓕 r f ≡ sh f ⊞ r ⊡ f
+  pub root-is : (r : F) (f : Series 𝓕) → root 𝓕 r f ≡ sh f ⊞ r ⊡ f
   unfolding root
   root-is r f = refl
 
@@ -92,10 +95,10 @@ module _ (𝓕 : Field) where
   pub root-first : (r : F) (f : Series 𝓕) → root 𝓕 r f 0 ≡ r ⊙ f 0
   root-first r f = rw (root-is, ⊞-at, ⊡-at, sh-zero) (simp ring)
 
-  pub root-⊛ : (r : F) (f g : Series 𝓕) → root 𝓕 r f ⊛ g ≡ root 𝓕 r (f ⊛ g)
+  root-⊛ : (r : F) (f g : Series 𝓕) → root 𝓕 r f ⊛ g ≡ root 𝓕 r (f ⊛ g)
   root-⊛ r f g = simp (root-is, ⊞-⊛, ⊡-⊛, sh-⊛)
 
-  pub below-root : (d : ℕ) (r : F) (f : Series 𝓕) → Below 𝓕 d f → Below 𝓕 (suc d) (root 𝓕 r f)
+  below-root : (d : ℕ) (r : F) (f : Series 𝓕) → Below 𝓕 d f → Below 𝓕 (suc d) (root 𝓕 r f)
   below-root d r f h = rw root-is (below-⊞ 𝓕 (suc d) (sh f) _ (below-sh 𝓕 d f h) (below-⊡ 𝓕 (suc d) r f (below-more 𝓕 d (suc d) f (omega arith) h)))
 
   ev-root : (d : ℕ) (r : F) (f : Series 𝓕) (x : F) → Below 𝓕 d f → ev 𝓕 (suc d) (root 𝓕 r f) x ≡ (x ⊕ r) ⊙ ev 𝓕 d f x
@@ -171,7 +174,7 @@ module _ (𝓕 : Field) where
       ∙ ev-⊛ 𝓕 (d .degree) (suc m) N (d .quotient) (rooted 𝓕 m X) (X i) (d .finite) (below-rooted m X) (omega arith)
       ∙ (rw (rooted-root m X i l) (⊙-𝟘 𝓕 _))
 
-  pub roots-divide : (m n : ℕ) (X f : Series 𝓕) → Below 𝓕 n f → Distinct m X → ((i : ℕ) → i < m → ev 𝓕 n f (X i) ≡ 𝟘) → Divides 𝓕 (rooted 𝓕 m X) f
+  pub roots-divide : (m n : ℕ) (X f : Series 𝓕) → Below 𝓕 n f → Distinct 𝓕 m X → ((i : ℕ) → i < m → ev 𝓕 n f (X i) ≡ 𝟘) → Divides 𝓕 (rooted 𝓕 m X) f
   roots-divide zero n X f h D e = record { quotient = f; degree = n; finite = h; is = sym (rw (rooted-zero, ⊛-comm 𝓕 f) (unit-⊛ 𝓕 f)) }
   roots-divide (suc m) n X f h D e = next (roots-divide m n X f h (λ i j l o. D i j l (omega arith)) (λ i l. e i (omega arith)))
     where

@@ -1,10 +1,10 @@
 -- The places at which a series is not zero.
 --
---   weight n E           their number below n
---   Support n v E at     `at` lists them, v of them, rising; the power sums over all n places are those over the v
---   support              there is such a list
---   Lists n v E at       what a search shows of the places that it lists
---   support-of           .. is enough
+--   pick-at                     the clause of `pick`
+--   weight-zero, weight-suc     those of the weight
+--   support                     there is a list of the places
+--   support-of                  what a search shows of the places that it lists is enough: they are as many, and the sums are right
+--   psum-cong                   power sums of equal values at equal points
 --
 -- Assumes nothing.
 use mathlib.Core.Path.{_≡_, refl, sym, _∙_, ap}
@@ -13,12 +13,14 @@ use Prim.Native.Nat.{ℕ, zero, suc, _+_, _≤_, _<_}
 use native.Mathlib.Omega.{arith}
 use native.Mathlib.Decide.{decLe}
 use Rattle.algebra.specs.Field.{Field}
-use Rattle.algebra.proofs.Ring.{ring}
 use Rattle.algebra.specs.Series as Ser
 use Rattle.algebra.specs.Series.{Series, Operations, operations}
-use Rattle.algebra.proofs.Product.{tl-at}
 use Rattle.algebra.specs.Power.{pow}
-use Rattle.algebra.proofs.PowerSum.{psum, psum-zero, psum-suc}
+use Rattle.algebra.specs.PowerSum.{psum}
+use Rattle.algebra.specs.Support.{one-if, weight, pick, Lists, Support}
+use Rattle.algebra.proofs.Ring.{ring}
+use Rattle.algebra.proofs.Product.{tl-at}
+use Rattle.algebra.proofs.PowerSum.{psum-zero, psum-suc}
 
 module _ (𝓕 : Field) where
   infixl 60 _⊕_
@@ -26,36 +28,15 @@ module _ (𝓕 : Field) where
   open Field 𝓕 using (add as _⊕_, mul as _⊙_, nil as 𝟘)
   open Operations (operations 𝓕) using (tl)
 
-  unfoldable pub pick : Series 𝓕 → (ℕ → ℕ) → Series 𝓕
-  pick f at j = f (at j)
-
-  pub pick-at : (f : Series 𝓕) (at : ℕ → ℕ) (j : ℕ) → pick f at j ≡ f (at j)
+  pub pick-at : (f : Series 𝓕) (at : ℕ → ℕ) (j : ℕ) → pick 𝓕 f at j ≡ f (at j)
   unfolding pick
   pick-at f at j = refl
 
-  -- `at` lists the v positions below n at which E is not zero
-  pub record Support (n v : ℕ) (E : Series 𝓕) (at : ℕ → ℕ) : Type 0 where
-    pub inside : (j : ℕ) → j < v → at j < n
-    pub rises : (i j : ℕ) → i < j → j < v → at i < at j
-    pub not-nil : (j : ℕ) → j < v → E (at j) ≢ 𝟘
-    pub all : (p : ℕ) → p < n → E p ≢ 𝟘 → (j : ℕ) × (j < v) × (at j ≡ p)
-    pub sums : (A : Series 𝓕) (i : ℕ) → psum 𝓕 n E A i ≡ psum 𝓕 v (pick E at) (pick A at) i
-
-  -- the number of positions below n at which E is not zero
-  unfoldable pub one-if : {A : Type 0} → Dec A → ℕ
-  one-if (yes a) = 0
-  one-if (no n) = 1
-
-  unfoldable pub weight : ℕ → Series 𝓕 → ℕ
-  unfolding one-if
-  weight zero E = 0
-  weight (suc n) E = one-if (𝓕 .decide (E 0) 𝟘) + weight n (tl E)
-
-  pub weight-zero : (E : Series 𝓕) → weight 0 E ≡ 0
+  pub weight-zero : (E : Series 𝓕) → weight 𝓕 0 E ≡ 0
   unfolding weight
   weight-zero E = refl
 
-  pub weight-suc : (n : ℕ) (E : Series 𝓕) → weight (suc n) E ≡ one-if (𝓕 .decide (E 0) 𝟘) + weight n (tl E)
+  pub weight-suc : (n : ℕ) (E : Series 𝓕) → weight 𝓕 (suc n) E ≡ one-if 𝓕 (𝓕 .decide (E 0) 𝟘) + weight 𝓕 n (tl E)
   unfolding weight
   weight-suc n E = refl
 
@@ -67,75 +48,71 @@ module _ (𝓕 : Field) where
   front at zero = 0
   front at (suc j) = suc (at j)
 
-  module _ (n v : ℕ) (E : Series 𝓕) (at : ℕ → ℕ) (s : Support n v (tl E) at) where
-    support-skip : E 0 ≡ 𝟘 → Support (suc n) v E (up at)
+  module _ (n v : ℕ) (E : Series 𝓕) (at : ℕ → ℕ) (s : Support 𝓕 n v (tl E) at) where
+    support-skip : E 0 ≡ 𝟘 → Support 𝓕 (suc n) v E (up at)
     unfolding Ser.tl pick
     support-skip e = record {
-      inside = λ j l. omega (arith, s .inside j l);
-      rises = λ i j l m. omega (arith, s .rises i j l m);
-      not-nil = s .not-nil;
-      all = every;
+      lists = record {
+        inside = λ j l. omega (arith, s .lists .inside j l);
+        rises = λ i j l m. omega (arith, s .lists .rises i j l m);
+        not-nil = s .lists .not-nil;
+        all = every;
+      };
       sums = λ A i. psum-suc 𝓕 n E A i ∙ (rw (e, s .sums (tl A) i) (simp ring));
     }
       where
         every : (p : ℕ) → p < suc n → E p ≢ 𝟘 → (j : ℕ) × (j < v) × (suc (at j) ≡ p)
         every zero l h = absurd (h e)
-        every (suc p) l h = let r = s .all p (omega arith) h in (r .0, r .1, ap suc (r .2))
+        every (suc p) l h = let r = s .lists .all p (omega arith) h in (r .0, r .1, ap suc (r .2))
 
-    support-take : E 0 ≢ 𝟘 → Support (suc n) (suc v) E (front at)
+    support-take : E 0 ≢ 𝟘 → Support 𝓕 (suc n) (suc v) E (front at)
     unfolding Ser.tl pick front
-    support-take e = record { inside = ins; rises = ris; not-nil = ne; all = every; sums = tot }
+    support-take e = record { lists = record { inside = ins; rises = ris; not-nil = ne; all = every }; sums = tot }
       where
         ins : (j : ℕ) → j < suc v → front at j < suc n
         ins zero l = omega arith
-        ins (suc j) l = omega (arith, s .inside j (omega arith))
+        ins (suc j) l = omega (arith, s .lists .inside j (omega arith))
 
         ris : (i j : ℕ) → i < j → j < suc v → front at i < front at j
         ris zero zero l m = absurd (omega arith)
         ris zero (suc j) l m = omega arith
         ris (suc i) zero l m = absurd (omega arith)
-        ris (suc i) (suc j) l m = omega (arith, s .rises i j (omega arith) (omega arith))
+        ris (suc i) (suc j) l m = omega (arith, s .lists .rises i j (omega arith) (omega arith))
 
         ne : (j : ℕ) → j < suc v → E (front at j) ≢ 𝟘
         ne zero l = e
-        ne (suc j) l = s .not-nil j (omega arith)
+        ne (suc j) l = s .lists .not-nil j (omega arith)
 
         every : (p : ℕ) → p < suc n → E p ≢ 𝟘 → (j : ℕ) × (j < suc v) × (front at j ≡ p)
         every zero l h = (0, omega arith, refl)
-        every (suc p) l h = let r = s .all p (omega arith) h in let m : r .0 < v = r .1 in (suc (r .0), omega arith, ap suc (r .2))
+        every (suc p) l h = let r = s .lists .all p (omega arith) h in let m : r .0 < v = r .1 in (suc (r .0), omega arith, ap suc (r .2))
 
-        tot : (A : Series 𝓕) (i : ℕ) → psum 𝓕 (suc n) E A i ≡ psum 𝓕 (suc v) (pick E (front at)) (pick A (front at)) i
-        tot A i = psum-suc 𝓕 n E A i ∙ ap (λ x. E 0 ⊙ pow 𝓕 (A 0) i ⊕ x) (s .sums (tl A) i) ∙ sym (psum-suc 𝓕 v (pick E (front at)) (pick A (front at)) i)
+        tot : (A : Series 𝓕) (i : ℕ) → psum 𝓕 (suc n) E A i ≡ psum 𝓕 (suc v) (pick 𝓕 E (front at)) (pick 𝓕 A (front at)) i
+        tot A i = psum-suc 𝓕 n E A i ∙ ap (λ x. E 0 ⊙ pow 𝓕 (A 0) i ⊕ x) (s .sums (tl A) i) ∙ sym (psum-suc 𝓕 v (pick 𝓕 E (front at)) (pick 𝓕 A (front at)) i)
 
-  pub support : (n : ℕ) (E : Series 𝓕) → (at : ℕ → ℕ) × Support n (weight n E) E at
+  pub support : (n : ℕ) (E : Series 𝓕) → (at : ℕ → ℕ) × Support 𝓕 n (weight 𝓕 n E) E at
   unfolding weight
   support zero E = (
     (λ j. j),
     record {
-      inside = λ j l. absurd (omega arith);
-      rises = λ i j l m. absurd (omega arith);
-      not-nil = λ j l. absurd (omega arith);
-      all = λ p l. absurd (omega arith);
+      lists = record {
+        inside = λ j l. absurd (omega arith);
+        rises = λ i j l m. absurd (omega arith);
+        not-nil = λ j l. absurd (omega arith);
+        all = λ p l. absurd (omega arith);
+      };
       sums = λ A i. psum-zero 𝓕 E A i ∙ sym (psum-zero 𝓕 _ _ i);
     },
   )
   support (suc n) E = go (𝓕 .decide (E 0) 𝟘) (support n (tl E))
     where
-      go : (d : Dec (E 0 ≡ 𝟘)) → (at : ℕ → ℕ) × Support n (weight n (tl E)) (tl E) at → (at : ℕ → ℕ) × Support (suc n) (one-if d + weight n (tl E)) E at
-      go (yes e) r = let z : 0 + weight n (tl E) ≡ weight n (tl E) = omega arith in (up (r .0), rw z (support-skip n (weight n (tl E)) E (r .0) (r .1) e))
-      go (no e) r = let z : 1 + weight n (tl E) ≡ suc (weight n (tl E)) = omega arith in (front (r .0), rw z (support-take n (weight n (tl E)) E (r .0) (r .1) e))
+      go : (d : Dec (E 0 ≡ 𝟘)) → (at : ℕ → ℕ) × Support 𝓕 n (weight 𝓕 n (tl E)) (tl E) at
+          → (at : ℕ → ℕ) × Support 𝓕 (suc n) (one-if 𝓕 d + weight 𝓕 n (tl E)) E at
+      go (yes e) r = let z : 0 + weight 𝓕 n (tl E) ≡ weight 𝓕 n (tl E) = omega arith in (up (r .0), rw z (support-skip n (weight 𝓕 n (tl E)) E (r .0) (r .1) e))
+      go (no e) r =
+          let z : 1 + weight 𝓕 n (tl E) ≡ suc (weight 𝓕 n (tl E)) = omega arith in (front (r .0), rw z (support-take n (weight 𝓕 n (tl E)) E (r .0) (r .1) e))
 
-  -- what a search shows of the positions that it lists: `sums` then follows (`support-of`)
-  pub record Lists (n v : ℕ) (E : Series 𝓕) (at : ℕ → ℕ) : Type 0 where
-    pub inside : (j : ℕ) → j < v → at j < n
-    pub rises : (i j : ℕ) → i < j → j < v → at i < at j
-    pub not-nil : (j : ℕ) → j < v → E (at j) ≢ 𝟘
-    pub all : (p : ℕ) → p < n → E p ≢ 𝟘 → (j : ℕ) × (j < v) × (at j ≡ p)
-
-  pub lists-of : (n v : ℕ) (E : Series 𝓕) (at : ℕ → ℕ) → Support n v E at → Lists n v E at
-  lists-of n v E at s = record { inside = s .inside; rises = s .rises; not-nil = s .not-nil; all = s .all }
-
-  module _ (n v w : ℕ) (E : Series 𝓕) (at bt : ℕ → ℕ) (s : Lists n v E at) (t : Lists n w E bt) where
+  module _ (n v w : ℕ) (E : Series 𝓕) (at bt : ℕ → ℕ) (s : Lists 𝓕 n v E at) (t : Lists 𝓕 n w E bt) where
     -- the j-th of the one is the j-th of the other
     same-to : (m j : ℕ) → j < m → j < v → (j < w) × (at j ≡ bt j)
     same-to zero j l h = absurd (omega arith)
@@ -165,7 +142,7 @@ module _ (𝓕 : Field) where
               | no q ↦ absurd (let b = ih (u .0) (omega arith) (u .1) .1 in let a = t .rises (u .0) j (omega arith) j<w in omega arith)
             ]
 
-  count-le : (n v w : ℕ) (E : Series 𝓕) (at bt : ℕ → ℕ) → Lists n v E at → Lists n w E bt → v ≤ w
+  count-le : (n v w : ℕ) (E : Series 𝓕) (at bt : ℕ → ℕ) → Lists 𝓕 n v E at → Lists 𝓕 n w E bt → v ≤ w
   count-le n zero w E at bt s t = omega arith
   count-le n (suc v) w E at bt s t = same-to n (suc v) w E at bt s t (suc v) v (omega arith) (omega arith) .0
 
@@ -182,15 +159,12 @@ module _ (𝓕 : Field) where
             (λ k l. tl-at 𝓕 X k ∙ g (suc k) (omega arith) ∙ sym (tl-at 𝓕 U k)),
       )
 
-  pub support-of : (n v : ℕ) (E : Series 𝓕) (at : ℕ → ℕ) → Lists n v E at → (v ≡ weight n E) × Support n v E at
+  pub support-of : (n v : ℕ) (E : Series 𝓕) (at : ℕ → ℕ) → Lists 𝓕 n v E at → (v ≡ weight 𝓕 n E) × Support 𝓕 n v E at
   support-of n v E at s = (
     same,
     record {
-      inside = s .inside;
-      rises = s .rises;
-      not-nil = s .not-nil;
-      all = s .all;
-      sums = λ A i. u .sums A i ∙ (rw (← same) (sym (psum-cong v (pick E at) (pick E bt) (pick A at) (pick A bt) i
+      lists = s;
+      sums = λ A i. u .sums A i ∙ (rw (← same) (sym (psum-cong v (pick 𝓕 E at) (pick 𝓕 E bt) (pick 𝓕 A at) (pick 𝓕 A bt) i
           (λ k l. pick-at E at k ∙ ap E (match k l) ∙ sym (pick-at E bt k)) (λ k l. pick-at A at k ∙ ap A (match k l) ∙ sym (pick-at A bt k)))));
     },
   )
@@ -198,14 +172,14 @@ module _ (𝓕 : Field) where
       bt : ℕ → ℕ
       bt = support n E .0
 
-      u : Support n (weight n E) E bt
+      u : Support 𝓕 n (weight 𝓕 n E) E bt
       u = support n E .1
 
-      t : Lists n (weight n E) E bt
-      t = lists-of n (weight n E) E bt u
+      t : Lists 𝓕 n (weight 𝓕 n E) E bt
+      t = u .lists
 
-      same : v ≡ weight n E
-      same = let a = count-le n v (weight n E) E at bt s t in let b = count-le n (weight n E) v E bt at t s in omega arith
+      same : v ≡ weight 𝓕 n E
+      same = let a = count-le n v (weight 𝓕 n E) E at bt s t in let b = count-le n (weight 𝓕 n E) v E bt at t s in omega arith
 
       match : (k : ℕ) → k < v → at k ≡ bt k
-      match k l = same-to n v (weight n E) E at bt s t v k l l .1
+      match k l = same-to n v (weight 𝓕 n E) E at bt s t v k l l .1

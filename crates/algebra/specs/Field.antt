@@ -1,4 +1,6 @@
--- A commutative field in which x + x = 0, as one record.
+-- Fields of characteristic 2.
+--
+--   Field    a commutative field in which x + x = 0, as one record
 --
 -- Its laws in the form that proofs cite, and the ruleset `ring`, are in proofs/Ring.antt. Assumes nothing.
 use mathlib.Core.Path.{_≡_}

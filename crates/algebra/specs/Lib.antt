@@ -3,3 +3,13 @@ pub mod Series
 pub mod Polynomial
 pub mod Power
 pub mod Division
+pub mod Value
+pub mod Convolution
+pub mod Derivative
+pub mod Points
+pub mod PowerSum
+pub mod Locator
+pub mod Massey
+pub mod Support
+pub mod Search
+pub mod Register

@@ -5,6 +5,7 @@
 --   raised n f           x^n f
 --   Divides g f          g divides f: f = q g for a polynomial q
 --   Remainder g d f p    p, of degree below d, is the remainder of f by g, which has degree d: g divides f - p
+--   root r f             (x - r) f, which is (x + r) f
 --   rooted n X           (x - X₀) (x - X₁) .. (x - Xₙ₋₁)
 --
 -- Assumes nothing.
@@ -43,7 +44,6 @@ module _ (𝓕 : Field) where
     pub small : Below 𝓕 d p
     pub divides : Divides g (f ⊞ p)
 
-  -- (x - r) f, which is (x + r) f
   unfoldable pub root : 𝓕 .Carrier → Series 𝓕 → Series 𝓕
   root r f = sh f ⊞ r ⊡ f
 

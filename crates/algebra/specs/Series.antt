@@ -9,7 +9,8 @@
 --   tl f         (f - f₀) / x
 --   f ⊛ g        f g: its coefficient at n is f₀ gₙ + f₁ gₙ₋₁ + .. + fₙ g₀
 --   Below d f    f is a polynomial of degree below d
---   operations   the operations as one record, for an `open` line
+--   Operations   the operations as one record, for an `open` line
+--   operations   .. of a field
 --
 -- Every operation is shut; its clauses are the lemmas of proofs/Product.antt. Assumes nothing.
 use mathlib.Core.Path.{_≡_}

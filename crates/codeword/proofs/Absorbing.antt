@@ -1,23 +1,23 @@
 -- The syndromes of a word, an octet after another.
 --
---   points-start, points-next          α, α², .., one after another
---   absorbed-start, absorbed-next    one syndrome after another
---   syndromes-start, syndromes-next  one octet of the word after another
---   allZero-all, allZero-not         all of them zero, or not
---   zero-syndromes                   a word whose syndromes are all zero is a code word
+--   points-start, points-next                    α, α², .., one after another
+--   absorbed-start, absorbed-next                one syndrome after another
+--   syndromes-start, syndromes-next              one octet of the word after another
+--   allZero-none, allZero-more, allZero-not      all of them zero, or not
+--   zero-syndromes                               a word whose syndromes are all zero is a code word
 --
 -- Assumes nothing.
 use mathlib.Core.Path.{_≡_, refl, sym, ap, ap₂, _∙_}
 use mathlib.Core.Bool.{Bool, true, false, cond}
-use mathlib.Core.List.{List, [], _∷_, _++_}
+use mathlib.Core.List.{List, []}
 use Prim.Native.Nat.{ℕ, zero, suc, _+_, _*_, _≤_, _<_}
 use native.Mathlib.Numerals.{add-one}
 use native.Mathlib.Omega.{arith}
-use native.Mathlib.Decide.{ℕ-discrete}
+use native.Mathlib.Decide.{ℕ-discrete, decLe}
 use borrow.Author.Tests.{eqb-true, eq-eqb}
 use lib.Dec.{eqb}
 use lib.ListN.{length, getD, set, take, length-set}
-use lib.Seq.{getD-set-same, getD-set-other, take-suc}
+use lib.Seq.{getD-set-other}
 use Rattle.octets.specs.Tests.{never}
 use Rattle.algebra.specs.Field.{Field}
 use Rattle.algebra.specs.Power.{pow}
@@ -25,10 +25,10 @@ use Rattle.field.specs.Octet as Octet
 use Rattle.field.specs.Octet.Laws.{sum-octet, product-octet, power-octet}
 use Rattle.codeword.specs.Element.{elements, element, α}
 use Rattle.codeword.specs.Element.Laws.{element-sum, element-product, element-power, element-zero}
-use Rattle.codeword.specs.CodeWord.{Octets, CodeWord}
+use Rattle.codeword.specs.CodeWord.{longestWord, Octets, CodeWord}
 use Rattle.codeword.specs.Places.{value}
 use Rattle.codeword.specs.Syndromes.{PointsAre, Absorbed, SyndromesAre, allZero}
-use Rattle.codeword.proofs.Zeros.{zeros, zeros-at, octets-zeros, octets-set}
+use Rattle.codeword.proofs.Arrays.{zeros, zeros-at, array-zeros, array-set, set-below, take-next}
 use Rattle.codeword.proofs.Word.{value-none, value-snoc}
 use Rattle.codeword.proofs.Criterion.{zero-codeWord}
 
@@ -38,70 +38,56 @@ open Field elements using (Carrier as F, add as _⊕_, mul as _⊙_, nil as 𝟘
 
 -- ---- the points
 
-pub points-start : PointsAre 0 (zeros 255)
-points-start = record { long = refl; octets = octets-zeros 255; used = λ i l. absurd (omega arith) }
+pub points-start : PointsAre 0 zeros
+points-start = record { array = array-zeros; used = λ i l. absurd (omega arith) }
 
-pub points-next : (i v : ℕ) (x : List ℕ) → i < 255 → PointsAre i x → v ≡ Octet.power Octet.α (i + 1) → PointsAre (i + 1) (set x i v)
-points-next i v x h r e = record {
-  long = length-set x i v ∙ r .long;
-  octets = octets-set x i v (rw e (power-octet _ _)) (r .octets);
-  used = λ j l. go j l (ℕ-discrete j i);
+pub points-next : {i v : ℕ} {x : List ℕ} → i < longestWord → PointsAre i x → v ≡ Octet.power Octet.α (i + 1) → PointsAre (i + 1) (set x i v)
+points-next {i} {v} {x} h r e = record {
+  array = array-set x i v (rw e (power-octet _ _)) (r .array);
+  used = set-below (λ j y. element y ≡ pow elements α (suc j)) x i v (omega (arith, r .array .long)) (r .used) (rw (e, ← add-one i) (element-power (i + 1)));
 }
-  where
-    go : (j : ℕ) → j < i + 1 → Dec (j ≡ i) → element (getD (set x i v) j 0) ≡ pow elements α (suc j)
-    go j l (yes p) = rw (p, getD-set-same x i v 0 (omega (arith, r .long)), e, ← add-one i) (element-power (i + 1))
-    go j l (no n) = rw (getD-set-other x i j v 0 n) (r .used j (omega arith))
 
 -- ---- one octet into all syndromes
 
-pub absorbed-start : (a : ℕ) (x s : List ℕ) → Absorbed 0 a x s s
-absorbed-start a x s = record { long = refl; used = λ i l. absurd (omega arith); unused = λ i l. refl }
+pub absorbed-start : {a : ℕ} {x s : List ℕ} → Absorbed 0 a x s s
+absorbed-start = record { long = refl; used = λ i l. absurd (omega arith); unused = λ i l. refl }
 
-pub absorbed-next : (a i v : ℕ) (x s t : List ℕ) → Absorbed i a x s t → i < length s
+pub absorbed-next : {a i v : ℕ} {x s t : List ℕ} → Absorbed i a x s t → i < length s
     → v ≡ Octet.sum (Octet.product (getD x i 0) (getD t i 0)) a → Absorbed (i + 1) a x s (set t i v)
-absorbed-next a i v x s t h l e = record {
+absorbed-next {a} {i} {v} {x} {s} {t} h l e = record {
   long = length-set t i v ∙ h .long;
-  used = λ j m. go j m (ℕ-discrete j i);
+  used = set-below (λ j y. y ≡ Octet.sum (Octet.product (getD x j 0) (getD s j 0)) a) t i v (omega (arith, h .long)) (h .used)
+      (e ∙ ap (λ (y : ℕ). Octet.sum (Octet.product (getD x i 0) y) a) (h .unused i (omega arith)));
   unused = λ j m. getD-set-other t i j v 0 (omega arith) ∙ h .unused j (omega arith);
 }
-  where
-    go : (j : ℕ) → j < i + 1 → Dec (j ≡ i) → getD (set t i v) j 0 ≡ Octet.sum (Octet.product (getD x j 0) (getD s j 0)) a
-    go j m (yes p) =
-        rw p (getD-set-same t i v 0 (omega (arith, h .long)) ∙ e ∙ ap (λ (y : ℕ). Octet.sum (Octet.product (getD x i 0) y) a) (h .unused i (omega arith)))
-    go j m (no n) = getD-set-other t i j v 0 n ∙ h .used j (omega arith)
 
 -- ---- one octet of the word more
 
-pub syndromes-start : (m : ℕ) → SyndromesAre m [] (zeros 255)
-syndromes-start m = record {
-  long = refl;
-  octets = octets-zeros 255;
-  used = λ i l. ap element (zeros-at 255 i) ∙ element-zero ∙ sym (value-none _);
-  unused = λ i l. zeros-at 255 i;
+pub syndromes-start : {m : ℕ} → SyndromesAre m [] zeros
+syndromes-start = record {
+  array = array-zeros;
+  used = λ i l. ap element (zeros-at i) ∙ element-zero ∙ sym (value-none _);
+  unused = λ i l. zeros-at i;
 }
 
-pub syndromes-next : (m i a : ℕ) (w x s t : List ℕ) → PointsAre m x → i < length w → a ≡ getD w i 0 → a < 256
+pub syndromes-next : (m i a : ℕ) (w x s t : List ℕ) → PointsAre m x → i < length w → a ≡ getD w i 0 → a < Octet.size
     → SyndromesAre m (take i w) s → Absorbed m a x s t → SyndromesAre m (take (i + 1) w) t
 syndromes-next m i a w x s t rx l e a< h ab = record {
-  long = ab .long ∙ h .long;
-  octets = λ j. octets-at j (native.Mathlib.Decide.decLe m j);
+  array = record { long = ab .long ∙ h .array .long; octets = λ j. octets-at j (decLe m j) };
   used = λ j k.
       ap element (ab .used j k) ∙ element-sum _ _ (product-octet _ _) a<
-      ∙ ap (λ (y : F). y ⊕ element a) (element-product _ _ (rx .octets j) (h .octets j) ∙ ap₂ (λ (y z : F). y ⊙ z) (rx .used j k) (h .used j k))
-      ∙ sym (ap (λ (v : List ℕ). value v (pow elements α (suc j))) longer ∙ value-snoc (take i w) a (pow elements α (suc j)));
+      ∙ ap (λ (y : F). y ⊕ element a) (element-product _ _ (rx .array .octets j) (h .array .octets j) ∙ ap₂ (λ (y z : F). y ⊙ z) (rx .used j k) (h .used j k))
+      ∙ sym (ap (λ (v : List ℕ). value v (pow elements α (suc j))) (take-next w i a l e) ∙ value-snoc (take i w) a (pow elements α (suc j)));
   unused = λ j k. ab .unused j k ∙ h .unused j k;
 }
   where
-    longer : take (i + 1) w ≡ take i w ++ a ∷ []
-    longer = rw (add-one, e) (take-suc w i 0 l)
-
-    octets-at : (j : ℕ) → Dec (m ≤ j) → getD t j 0 < 256
-    octets-at j (yes k) = rw (ab .unused j k) (h .octets j)
+    octets-at : (j : ℕ) → Dec (m ≤ j) → getD t j 0 < Octet.size
+    octets-at j (yes k) = rw (ab .unused j k) (h .array .octets j)
     octets-at j (no k) = rw (ab .used j (omega arith)) (sum-octet _ _ (product-octet _ _) a<)
 
 -- ---- all of them zero
 
-pub allZero-all : (m : ℕ) (s : List ℕ) → allZero m s ≡ true → (i : ℕ) → i < m → getD s i 0 ≡ 0
+allZero-all : (m : ℕ) (s : List ℕ) → allZero m s ≡ true → (i : ℕ) → i < m → getD s i 0 ≡ 0
 unfolding allZero
 allZero-all zero s e i l = absurd (omega arith)
 allZero-all (suc m) s e i l = go (eqb (getD s m 0) 0) refl e (allZero-all m s) (ℕ-discrete i m)
@@ -127,6 +113,6 @@ allZero-not m i s l n = go (allZero m s) refl
     go true e = absurd (n (allZero-all m s e i l))
     go false e = e
 
-pub zero-syndromes : (e : ℕ) (w s : List ℕ) → 2 * e < 255 → Octets w → SyndromesAre (2 * e) w s → allZero (2 * e) s ≡ true → CodeWord e w
+pub zero-syndromes : (e : ℕ) (w s : List ℕ) → 2 * e < Octet.order → Octets w → SyndromesAre (2 * e) w s → allZero (2 * e) s ≡ true → CodeWord e w
 zero-syndromes e w s h o sy z =
     zero-codeWord e w h o (λ i l. sym (sy .used i l) ∙ ap element (allZero-all (2 * e) s z i l) ∙ element-zero)

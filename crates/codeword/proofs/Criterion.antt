@@ -2,7 +2,6 @@
 --
 --   codeWord-zero     a code word's are
 --   zero-codeWord     and a word of which they are is a code word
---   psum-sum          syndromes of a sum
 --
 -- Assumes nothing.
 use mathlib.Core.Path.{_≡_, sym, ap, _∙_}
@@ -12,7 +11,9 @@ use native.Mathlib.Omega.{arith}
 use lib.ListN.{length}
 use Rattle.algebra.specs.Power.{pow, rising}
 use Rattle.algebra.specs.Polynomial.{polynomial}
-use Rattle.algebra.proofs.Roots.{Distinct, divides-root, roots-divide}
+use Rattle.algebra.specs.Points.{Distinct}
+use Rattle.algebra.proofs.Laws.{divides-root, roots-divide}
+use Rattle.field.specs.Octet.{order}
 use Rattle.field.specs.Octet.Laws.{powers-distinct}
 use Rattle.codeword.specs.Element.{elements, octet, α}
 use Rattle.codeword.specs.Element.Laws.{octet-pow}
@@ -20,7 +21,7 @@ use Rattle.codeword.specs.CodeWord.{generator, word, Octets, CodeWord}
 use Rattle.codeword.specs.Places.{value}
 use Rattle.codeword.proofs.Word.{below-word}
 
-rising-distinct : (m : ℕ) → m < 255 → Distinct elements m (rising elements α)
+rising-distinct : (m : ℕ) → m < order → Distinct elements m (rising elements α)
 unfolding rising
 rising-distinct m h i j l o e =
     let q : suc i ≡ suc j = powers-distinct (suc i) (suc j) (omega arith) (omega arith) (sym (octet-pow _) ∙ ap octet e ∙ octet-pow _) in
@@ -30,7 +31,7 @@ pub codeWord-zero : (e : ℕ) (w : List ℕ) → CodeWord e w → (i : ℕ) → 
 unfolding value generator rising
 codeWord-zero e w c i l = divides-root elements (2 * e) (length w) (rising elements α) (polynomial elements (word w)) (below-word w) (c .divided) i l
 
-pub zero-codeWord : (e : ℕ) (w : List ℕ) → 2 * e < 255 → Octets w
+pub zero-codeWord : (e : ℕ) (w : List ℕ) → 2 * e < order → Octets w
     → ((i : ℕ) → i < 2 * e → value w (pow elements α (suc i)) ≡ elements .nil) → CodeWord e w
 unfolding value generator rising
 zero-codeWord e w h o z = record {

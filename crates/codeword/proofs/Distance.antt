@@ -21,32 +21,29 @@ use lib.Seq.{ext-getD}
 use Rattle.algebra.specs.Field.{Field}
 use Rattle.algebra.specs.Series.{Series, Operations, operations}
 use Rattle.algebra.specs.Power.{pow}
-use Rattle.algebra.proofs.Ring.{⊕-self, eq-of-sum, sum-of-eq}
-use Rattle.algebra.proofs.Product.{⊞-at, tl-⊞}
-use Rattle.algebra.proofs.PowerSum.{psum}
-use Rattle.algebra.proofs.Locator.{left-ne}
-use Rattle.algebra.proofs.Support.{weight, weight-zero, weight-suc, one-if}
-use Rattle.algebra.proofs.Distance.{psum-⊞, light-is-none}
+use Rattle.algebra.specs.PowerSum.{psum}
+use Rattle.algebra.specs.Support.{weight, one-if}
+use Rattle.algebra.proofs.Laws.{⊕-self, eq-of-sum, sum-of-eq, ⊞-at, tl-⊞, left-ne, weight-zero, weight-suc, psum-⊞, light-is-none}
+use Rattle.field.specs.Octet.{size}
 use Rattle.codeword.specs.Element.{elements, element, octet, α}
 use Rattle.codeword.specs.Element.Laws.{octet-element}
-use Rattle.codeword.specs.CodeWord.{Octets, CodeWord, differs, distance, Within}
+use Rattle.codeword.specs.CodeWord.{longestWord, Octets, CodeWord, differs, distance, Within}
 use Rattle.codeword.specs.Places.{places, locators, value}
 use Rattle.codeword.proofs.Word.{places-at, places-tl, locators-distinct, locators-inverse, value-places}
 use Rattle.codeword.proofs.Criterion.{codeWord-zero}
 
-infixl 60 _⊕_
-infixl 60 _⊞_
+infixl 60 _⊕_ _⊞_
 open Field elements using (Carrier as F, add as _⊕_, nil as 𝟘)
 open Operations (operations elements) using (_⊞_, tl)
 
 abbrev pub difference : List ℕ → List ℕ → Series elements
 difference v w = places v ⊞ places w
 
-element-same : (a b : ℕ) → a < 256 → b < 256 → element a ≡ element b → a ≡ b
+element-same : (a b : ℕ) → a < size → b < size → element a ≡ element b → a ≡ b
 element-same a b h k e = sym (octet-element a h) ∙ ap octet e ∙ octet-element b k
 
 -- one place
-one-place : (a b : ℕ) → a < 256 → b < 256 → (d : Dec (element a ⊕ element b ≡ 𝟘)) → differs a b ≡ one-if elements d
+one-place : (a b : ℕ) → a < size → b < size → (d : Dec (element a ⊕ element b ≡ 𝟘)) → differs a b ≡ one-if elements d
 unfolding one-if
 one-place a b h k (yes e) = rw (eq-eqb a b (element-same a b h k (eq-of-sum elements _ _ e)))
 one-place a b h k (no n) = rw (ne-eqb a b (λ e. n (sum-of-eq elements _ _ (ap element e))))
@@ -116,9 +113,10 @@ pub difference-value : (v w : List ℕ) → length v ≡ length w → (i : ℕ)
     → psum elements (length v) (difference v w) (locators (length v)) i ≡ value v (pow elements α i) ⊕ value w (pow elements α i)
 difference-value v w e i = psum-⊞ elements (length v) (places v) (places w) (locators (length v)) i ∙ (rw (value-places v i, value-places w i, e))
 
-pub codeWords-apart : (e : ℕ) (v w : List ℕ) → length v ≡ length w → length v ≤ 255 → CodeWord e v → CodeWord e w → distance v w ≤ 2 * e → v ≡ w
+pub codeWords-apart : (e : ℕ) (v w : List ℕ) → length v ≡ length w → length v ≤ longestWord → CodeWord e v → CodeWord e w → distance v w ≤ 2 * e → v ≡ w
 codeWords-apart e v w l h cv cw d =
-    ext-getD 0 v w l (λ p m. element-same _ _ (cv .octets p) (cw .octets p) (eq-of-sum elements _ _ (sym (⊞-at elements _ _ p ∙ (rw (places-at v p, places-at w p))) ∙ none p m)))
+    ext-getD 0 v w l (λ p m. element-same _ _ (cv .octets p) (cw .octets p)
+    (eq-of-sum elements _ _ (sym (⊞-at elements _ _ p ∙ (rw (places-at v p, places-at w p))) ∙ none p m)))
   where
     none : (p : ℕ) → p < length v → difference v w p ≡ 𝟘
     none =
@@ -127,7 +125,7 @@ codeWords-apart e v w l h cv cw d =
         (difference v w) (rw (← distance-weight v w l (cv .octets) (cw .octets)) d)
         (λ i m. difference-value v w l (suc i) ∙ (rw (codeWord-zero e v cv i m, codeWord-zero e w cw i m) (⊕-self elements 𝟘)))
 
-pub within-unique : (e : ℕ) (w c d : List ℕ) → length w ≤ 255 → Within e w c → Within e w d → c ≡ d
+pub within-unique : (e : ℕ) (w c d : List ℕ) → length w ≤ longestWord → Within e w c → Within e w d → c ≡ d
 within-unique e w c d h p q =
     codeWords-apart e c d (p .long ∙ sym (q .long)) (rw (p .long) h) (p .code) (q .code)
     (omega (arith, distance-triangle c w d (p .long) (sym (q .long)), distance-symmetric c w, p .near, q .near))

@@ -1,4 +1,4 @@
-pub mod Zeros
+pub mod Arrays
 pub mod Word
 pub mod Criterion
 pub mod Absorbing
@@ -12,3 +12,4 @@ pub mod Searching
 pub mod Correcting
 pub mod Repairing
 pub mod Theorems
+pub mod Laws

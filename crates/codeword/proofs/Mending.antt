@@ -1,26 +1,24 @@
 -- Adding a multiple of a shifted recurrence to another, and a discrepancy, a coefficient at a time.
 --
---   raised-low, raised-high         x^n f, below n and from n on
---   discrepancy-start, -next, -is   the sum that the loop has after j terms
+--   discrepancy-to c s r j          the sum that the loop has after j terms
+--   discrepancy-start, discrepancy-next, discrepancy-is    .. one after another
 --   mended-start, mended-next       one coefficient after another
 --   mended-whole                    the whole of it, where nothing lies beyond
 --
 -- Assumes nothing.
 use mathlib.Core.Path.{_≡_, refl, sym, ap, ap₂, fun-ext, _∙_}
 use mathlib.Core.List.{List}
-use Prim.Native.Nat.{ℕ, zero, suc, _+_, _-_, _≤_, _<_}
+use Prim.Native.Nat.{ℕ, _+_, _-_, _≤_, _<_}
 use native.Mathlib.Numerals.{add-one}
 use native.Mathlib.Omega.{arith}
-use native.Mathlib.Decide.{ℕ-discrete, decLe}
+use native.Mathlib.Decide.{decLe}
 use lib.ListN.{length, getD, set, length-set}
-use lib.Seq.{getD-set-same, getD-set-other}
+use lib.Seq.{getD-set-other}
 use Rattle.algebra.specs.Field.{Field}
-use Rattle.algebra.specs.Series.{Series, Operations, operations}
+use Rattle.algebra.specs.Series.{Operations, operations}
 use Rattle.algebra.specs.Polynomial.{raised}
-use Rattle.algebra.proofs.Ring.{⊕-𝟘, ⊙-𝟘}
-use Rattle.algebra.proofs.Product.{⊞-at, ⊡-at, sh-zero, sh-suc}
-use Rattle.algebra.proofs.Polynomial.{raised-zero, raised-suc}
-use Rattle.algebra.proofs.Loop.{dot, dot-zero, dot-suc}
+use Rattle.algebra.specs.Convolution.{dot}
+use Rattle.algebra.proofs.Laws.{raised-low, raised-high, ⊕-𝟘, ⊙-𝟘, ⊞-at, ⊡-at, dot-zero, dot-suc}
 use Rattle.field.specs.Octet as Octet
 use Rattle.field.specs.Octet.Laws.{sum-octet, product-octet}
 use Rattle.codeword.specs.Element.{elements, element, octet}
@@ -28,25 +26,14 @@ use Rattle.codeword.specs.Element.Laws.{octet-element, octet-add, octet-
 use Rattle.codeword.specs.CodeWord.{Octets}
 use Rattle.codeword.specs.Places.{places}
 use Rattle.codeword.specs.Locator.{Mended, discrepancyOf}
-use Rattle.codeword.proofs.Zeros.{octets-set}
+use Rattle.codeword.proofs.Arrays.{octets-set, set-below}
 use Rattle.codeword.proofs.Word.{places-at}
 
-infixl 60 _⊕_
+infixl 60 _⊕_ _⊞_
 infixl 70 _⊙_
-infixl 60 _⊞_
 infixr 80 _⊡_
 open Field elements using (Carrier as F, add as _⊕_, mul as _⊙_, nil as 𝟘)
 open Operations (operations elements) using (_⊞_, _⊡_)
-
-pub raised-low : (n : ℕ) (f : Series elements) (k : ℕ) → k < n → raised elements n f k ≡ 𝟘
-raised-low zero f k l = absurd (omega arith)
-raised-low (suc n) f zero l = rw raised-suc (sh-zero elements _)
-raised-low (suc n) f (suc k) l = rw (raised-suc, sh-suc) (raised-low n f k (omega arith))
-
-pub raised-high : (n : ℕ) (f : Series elements) (k : ℕ) → n ≤ k → raised elements n f k ≡ f (k - n)
-raised-high zero f k l = rw raised-zero (ap f (omega arith))
-raised-high (suc n) f zero l = absurd (omega arith)
-raised-high (suc n) f (suc k) l = rw (raised-suc, sh-suc) (raised-high n f k (omega arith) ∙ ap f (omega arith))
 
 -- ---- a discrepancy
 
@@ -57,7 +44,7 @@ pub discrepancy-start : (c s : List ℕ) (r : ℕ) → discrepancy-to c s r 0 �
 unfolding discrepancy-to
 discrepancy-start c s r = ap octet (dot-zero elements _ _ r) ∙ octet-nil
 
-pub discrepancy-next : (c s : List ℕ) (r j : ℕ) → getD c j 0 < 256 → getD s (r - j) 0 < 256
+pub discrepancy-next : (c s : List ℕ) (r j : ℕ) → getD c j 0 < Octet.size → getD s (r - j) 0 < Octet.size
     → discrepancy-to c s r (j + 1) ≡ Octet.sum (discrepancy-to c s r j) (Octet.product (getD c j 0) (getD s (r - j) 0))
 unfolding discrepancy-to
 discrepancy-next c s r j h k =
@@ -80,30 +67,31 @@ unfolding mended-at
 mended-low q n c b k e =
     ap (λ (x : F). places c k ⊕ element q ⊙ x) e ∙ ap (λ (x : F). places c k ⊕ x) (⊙-𝟘 elements (element q)) ∙ ⊕-𝟘 elements (places c k)
 
-pub mended-start : (q n : ℕ) (c b : List ℕ) → Octets c → Mended n q n c b c
+pub mended-start : {q n : ℕ} {c b : List ℕ} → Octets c → Mended n q n c b c
 unfolding mended-at
-mended-start q n c b o = record {
+mended-start {q} {n} {c} {b} o = record {
   long = refl;
   octets = o;
-  done = λ k l. sym (mended-low q n c b k (raised-low n (places b) k l));
+  done = λ k l. sym (mended-low q n c b k (raised-low elements n (places b) k l));
   left = λ k l. refl;
 }
 
-pub mended-next : (q n j v : ℕ) (c b d : List ℕ) → Mended j q n c b d → n ≤ j → j < length c → q < 256 → getD b (j - n) 0 < 256
+pub mended-next : {q n j v : ℕ} {c b d : List ℕ} → Mended j q n c b d → n ≤ j → j < length c → q < Octet.size → getD b (j - n) 0 < Octet.size
     → v ≡ Octet.sum (getD d j 0) (Octet.product q (getD b (j - n) 0)) → Mended (j + 1) q n c b (set d j v)
-mended-next q n j v c b d h l m q< b< e = record {
+mended-next {q} {n} {j} {v} {c} {b} {d} h l m q< b< e = record {
   long = length-set d j v ∙ h .long;
   octets = octets-set d j v (rw e (sum-octet _ _ (h .octets j) (product-octet _ _))) (h .octets);
-  done = λ k o. go k o (ℕ-discrete k j);
+  done = λ k o. places-at (set d j v) k
+      ∙ set-below (λ k y. element y ≡ places c k ⊕ element q ⊙ raised elements n (places b) k) d j v (omega (arith, h .long))
+      (λ k o. sym (places-at d k) ∙ h .done k o) new k o;
   left = λ k o. getD-set-other d j k v 0 (omega arith) ∙ h .left k (omega arith);
 }
   where
-    go : (k : ℕ) → k < j + 1 → Dec (k ≡ j) → places (set d j v) k ≡ places c k ⊕ element q ⊙ raised elements n (places b) k
-    go k o (yes p) =
-        rw p (places-at (set d j v) j ∙ ap element (getD-set-same d j v 0 (omega (arith, h .long)) ∙ e) ∙ element-sum _ _ (h .octets j) (product-octet _ _)
+    new : element v ≡ places c j ⊕ element q ⊙ raised elements n (places b) j
+    new =
+        ap element e ∙ element-sum _ _ (h .octets j) (product-octet _ _)
         ∙ ap₂ (λ (x y : F). x ⊕ y) (ap element (h .left j (omega arith)) ∙ sym (places-at c j))
-        (element-product q _ q< b< ∙ ap (λ (x : F). element q ⊙ x) (sym (raised-high n (places b) j l ∙ places-at b (j - n)))))
-    go k o (no p) = places-at (set d j v) k ∙ ap element (getD-set-other d j k v 0 p) ∙ sym (places-at d k) ∙ h .done k (omega arith)
+        (element-product q _ q< b< ∙ ap (λ (x : F). element q ⊙ x) (sym (raised-high elements n (places b) j l ∙ places-at b (j - n))))
 
 pub mended-whole : (top q n : ℕ) (c b d : List ℕ) → Mended top q n c b d → ((k : ℕ) → top ≤ k → raised elements n (places b) k ≡ 𝟘)
     → places d ≡ places c ⊞ element q ⊡ raised elements n (places b)

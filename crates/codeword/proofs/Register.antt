@@ -1,6 +1,6 @@
 -- The generator's coefficients and the turns of the shift register.
 --
---   GeneratorTo m j g                 g₀, .., g₍ⱼ₋₁₎ are right
+--   ratio m k                         αᵐ (αᵏ⁺¹ + 1) / (αᵏ + αᵐ), which is Gₖ / Gₖ₊₁
 --   generator-start, generator-next   from the highest coefficient down, each from the one above it
 --   turned-next                       one octet of the register after another
 --
@@ -10,23 +10,19 @@ use mathlib.Core.Logic.{_≢_}
 use mathlib.Core.List.{List}
 use Prim.Native.Nat.{ℕ, suc, _+_, _-_, _≤_, _<_}
 use native.Mathlib.Omega.{arith}
-use native.Mathlib.Decide.{ℕ-discrete}
 use lib.Dec.{lit<}
 use lib.ListN.{length, getD, set, length-set}
 use lib.Seq.{getD-set-same, getD-set-other}
 use Rattle.algebra.specs.Field.{Field}
 use Rattle.algebra.specs.Power.{pow, rising}
-use Rattle.algebra.specs.Polynomial.{rooted}
-use Rattle.algebra.proofs.Ring.{ring, ⊙-inv, ⊙-𝟙, ⊙-assoc, eq-of-sum}
-use Rattle.algebra.proofs.Roots.{rooted-top}
-use Rattle.algebra.proofs.Geometric.{geometric-ratio}
+use Rattle.algebra.proofs.Laws.{ring, ⊙-inv, ⊙-𝟙, ⊙-assoc, eq-of-sum, rooted-top, geometric-ratio}
 use Rattle.field.specs.Octet as Octet
 use Rattle.field.specs.Octet.Laws.{sum-octet, product-octet, inverse-octet, power-octet, powers-distinct}
 use Rattle.codeword.specs.Element.{elements, element, octet, α}
 use Rattle.codeword.specs.Element.Laws.{element-sum, element-product, element-inverse, element-power, element-one, octet-pow}
-use Rattle.codeword.specs.CodeWord.{Octets}
-use Rattle.codeword.specs.Register.{GeneratorIs, Turned}
-use Rattle.codeword.proofs.Zeros.{octets-set}
+use Rattle.codeword.specs.CodeWord.{longestWord}
+use Rattle.codeword.specs.Register.{G, GeneratorIs, Turned}
+use Rattle.codeword.proofs.Arrays.{zeros, array-zeros, array-set, set-below}
 
 infixl 60 _⊕_
 infixl 70 _⊙_
@@ -34,31 +30,21 @@ open Field elements using (Carrier as F, add as _⊕_, mul as _⊙_, inv, nil as
 
 -- ---- the generator
 
-abbrev pub G : ℕ → ℕ → F
-G m = rooted elements m (rising elements α)
-
-pub record GeneratorTo (m j : ℕ) (g : List ℕ) : Type 0 where
-  pub long : length g ≡ 255
-  pub octets : Octets g
-  pub coefficients : (i : ℕ) → i < j → element (getD g i 0) ≡ G m (m - i)
-
-pub generator-start : (m : ℕ) (g : List ℕ) → length g ≡ 255 → Octets g → GeneratorTo m 1 (set g 0 1)
-generator-start m g l o = record {
-  long = length-set g 0 1 ∙ l;
-  octets = octets-set g 0 1 (lit< tt) o;
+pub generator-start : (m : ℕ) → GeneratorIs m 1 (set zeros 0 1)
+generator-start m = record {
+  array = array-set zeros 0 1 (lit< tt) array-zeros;
   coefficients = λ i h.
       let e : i ≡ 0 = omega arith in
       let z : m - 0 ≡ m = omega arith in
-      rw (e, z, getD-set-same g 0 1 0 (omega arith)) (element-one ∙ sym (rooted-top elements m (rising elements α)));
+      rw (e, z, getD-set-same zeros 0 1 0 (lit< tt)) (element-one ∙ sym (rooted-top elements m (rising elements α)));
 }
 
--- αᵐ (αᵏ⁺¹ + 1) / (αᵏ + αᵐ)
 abbrev pub ratio : ℕ → ℕ → ℕ
 ratio m k =
     Octet.product (Octet.product (Octet.power Octet.α m) (Octet.sum (Octet.power Octet.α (k + 1)) 1))
     (Octet.inverse (Octet.sum (Octet.power Octet.α k) (Octet.power Octet.α m)))
 
-module _ (m k : ℕ) (small : m < 255) (below : k < m) where
+module _ (m k : ℕ) (small : m < Octet.order) (below : k < m) where
   divisor : F
   divisor = pow elements α k ⊕ pow elements α m
 
@@ -74,7 +60,8 @@ module _ (m k : ℕ) (small : m < 255) (below : k < m) where
       element-product _ _ (product-octet _ _) (inverse-octet _)
       ∙ ap₂ (λ (x y : F). x ⊙ y)
       (element-product _ _ (power-octet _ m) (sum-octet _ _ (power-octet _ (k + 1)) (lit< tt))
-      ∙ ap₂ (λ (x y : F). x ⊙ y) (element-power m) (element-sum _ _ (power-octet _ (k + 1)) (lit< tt) ∙ ap₂ (λ (x y : F). x ⊕ y) (element-power (k + 1)) element-one))
+      ∙ ap₂ (λ (x y : F). x ⊙ y) (element-power m)
+      (element-sum _ _ (power-octet _ (k + 1)) (lit< tt) ∙ ap₂ (λ (x y : F). x ⊕ y) (element-power (k + 1)) element-one))
       (element-inverse _ (sum-octet _ _ (power-octet _ k) (power-octet _ m))
       ∙ ap inv (element-sum _ _ (power-octet _ k) (power-octet _ m) ∙ ap₂ (λ (x y : F). x ⊕ y) (element-power k) (element-power m)))
 
@@ -86,38 +73,29 @@ module _ (m k : ℕ) (small : m < 255) (below : k < m) where
       (sym (rw (⊙-assoc elements (G m k) divisor (inv divisor), ⊙-inv elements divisor divisor-ne) (⊙-𝟙 elements (G m k)))
       ∙ ap (λ (x : F). x ⊙ inv divisor) (geometric-ratio elements α m k) ∙ (simp ring))
 
-pub generator-next : (m j v : ℕ) (g : List ℕ) → m < 255 → 1 ≤ j → j ≤ m → GeneratorTo m j g
-    → v ≡ Octet.product (getD g (j - 1) 0) (ratio m (m - j)) → GeneratorTo m (j + 1) (set g j v)
+pub generator-next : (m j v : ℕ) (g : List ℕ) → m < longestWord → 1 ≤ j → j ≤ m → GeneratorIs m j g
+    → v ≡ Octet.product (getD g (j - 1) 0) (ratio m (m - j)) → GeneratorIs m (j + 1) (set g j v)
 generator-next m j v g h lo hi t e = record {
-  long = length-set g j v ∙ t .long;
-  octets = octets-set g j v (rw e (product-octet _ _)) (t .octets);
-  coefficients = λ i l. go i l (ℕ-discrete i j);
+  array = array-set g j v (rw e (product-octet _ _)) (t .array);
+  coefficients = set-below (λ i y. element y ≡ G m (m - i)) g j v (omega (arith, t .array .long)) (t .coefficients) new;
 }
   where
-    go : (i : ℕ) → i < j + 1 → Dec (i ≡ j) → element (getD (set g j v) i 0) ≡ G m (m - i)
-    go i l (no n) = rw (getD-set-other g j i v 0 n) (t .coefficients i (omega arith))
-    go i l (yes p) =
+    new : element v ≡ G m (m - j)
+    new =
         let s : m - (j - 1) ≡ m - j + 1 = omega arith in
-        rw (p, getD-set-same g j v 0 (omega (arith, t .long)), e)
-        (element-product _ _ (t .octets _) (product-octet _ _) ∙ ap (λ (x : F). x ⊙ element (ratio m (m - j))) (t .coefficients (j - 1) (omega arith) ∙ ap (G m) s)
+        rw e (element-product _ _ (t .array .octets _) (product-octet _ _)
+        ∙ ap (λ (x : F). x ⊙ element (ratio m (m - j))) (t .coefficients (j - 1) (omega arith) ∙ ap (G m) s)
         ∙ sym (coefficient-next m (m - j) h (omega arith)))
-
-pub generator-done : (m j : ℕ) (g : List ℕ) → m < j → GeneratorTo m j g → GeneratorIs m g
-generator-done m j g h t = record { octets = t .octets; coefficients = λ i l. t .coefficients i (omega arith) }
 
 -- ---- a turn of the register
 
-pub turned-next : (g : List ℕ) (a f v : ℕ) (p q : List ℕ) (j : ℕ) → Turned g j a p q → j < length p
+pub turned-next : {g p q : List ℕ} {a f v j : ℕ} → Turned g j a p q → j < length p
     → f ≡ Octet.sum (getD p 0 0) a → v ≡ Octet.sum (getD q (j + 1) 0) (Octet.product f (getD g (j + 1) 0))
     → Turned g (j + 1) a p (set q j v)
-turned-next g a f v p q j t l ef ev = record {
+turned-next {g} {p} {q} {a} {f} {v} {j} t l ef ev = record {
   long = length-set q j v ∙ t .long;
-  used = λ i m. go i m (ℕ-discrete i j);
+  used = set-below (λ i y. y ≡ Octet.sum (getD p (i + 1) 0) (Octet.product (Octet.sum (getD p 0 0) a) (getD g (i + 1) 0))) q j v
+      (omega (arith, t .long)) (t .used)
+      (ev ∙ ap₂ (λ (x y : ℕ). Octet.sum x (Octet.product y (getD g (j + 1) 0))) (t .unused (j + 1) (omega arith)) ef);
   unused = λ i m. getD-set-other q j i v 0 (omega arith) ∙ t .unused i (omega arith);
 }
-  where
-    go : (i : ℕ) → i < j + 1 → Dec (i ≡ j) → getD (set q j v) i 0 ≡ Octet.sum (getD p (i + 1) 0) (Octet.product (Octet.sum (getD p 0 0) a) (getD g (i + 1) 0))
-    go i m (yes e) =
-        rw e (getD-set-same q j v 0 (omega (arith, t .long)) ∙ ev
-        ∙ ap₂ (λ (x y : ℕ). Octet.sum x (Octet.product y (getD g (j + 1) 0))) (t .unused (j + 1) (omega arith)) ef)
-    go i m (no n) = getD-set-other q j i v 0 n ∙ t .used i (omega arith)

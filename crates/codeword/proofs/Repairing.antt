@@ -1,10 +1,11 @@
 -- The repair: what the steps show, put together.
 --
---   clean-found        a word whose syndromes are zero is found, unchanged
---   long-lost          a locator longer than e: no code word within e
---   roots-lost         a locator with fewer roots among the places than its length: none either
---   refused-lost       a word that is none of the code, or has no room, is out of reach
---   corrected-found    as many roots as its length: with Forney's values added there, the code word within e, and the count is right
+--   clean-found             a word whose syndromes are zero is found, unchanged
+--   long-lost               a locator longer than e: no code word within e
+--   roots-lost              a locator with fewer roots among the places than its length: none either
+--   corrected-found         as many roots as its length: with Forney's values added there, the code word within e, and the count is right
+--   reads-true, reads-all   which words are of the code, and have room
+--   refused-lost            one that is not, or has none, is out of reach
 --
 -- Assumes nothing.
 use mathlib.Core.Path.{_≡_, refl, sym, ap, ap₂, _∙_}
@@ -23,17 +24,18 @@ use Rattle.octets.specs.Written.{written, written-length, written-inside, writt
 use Rattle.algebra.specs.Field.{Field}
 use Rattle.algebra.specs.Series.{Series, Operations, operations}
 use Rattle.algebra.specs.Power.{pow}
-use Rattle.algebra.proofs.Ring.{⊕-self, ⊕-cancel, ⊕-𝟘, ⊙-assoc, ⊙-comm, ⊙-inv, ⊙-𝟙}
-use Rattle.algebra.proofs.Product.{⊞-at}
-use Rattle.algebra.proofs.Value.{ev, ev-local}
-use Rattle.algebra.proofs.PowerSum.{psum}
-use Rattle.algebra.proofs.Support.{weight}
-use Rattle.algebra.proofs.Derivative.{deriv}
-use Rattle.algebra.proofs.Repair.{length-complete, search-complete, divisor-ne, search-sound}
+use Rattle.algebra.specs.Value.{ev}
+use Rattle.algebra.specs.Points.{Distinct, Inverses}
+use Rattle.algebra.specs.PowerSum.{psum}
+use Rattle.algebra.specs.Support.{weight}
+use Rattle.algebra.specs.Derivative.{deriv}
+use Rattle.algebra.proofs.Laws.{⊕-self, ⊕-cancel, ⊕-𝟘, ⊙-assoc, ⊙-comm, ⊙-inv, ⊙-𝟙, ⊞-at, ev-local, length-complete}
+use Rattle.algebra.proofs.Laws.{search-complete, divisor-ne, search-sound}
+use Rattle.field.specs.Octet.{size, order}
 use Rattle.field.specs.Octet.Laws.{product-octet, inverse-octet}
 use Rattle.codeword.specs.Element.{elements, element, octet, α}
 use Rattle.codeword.specs.Element.Laws.{octet-lt, element-octet, element-sum, element-product, element-inverse}
-use Rattle.codeword.specs.CodeWord.{Octets, distance, Within}
+use Rattle.codeword.specs.CodeWord.{longestWord, Octets, distance, Within}
 use Rattle.codeword.specs.Places.{places, locators, inverses, value}
 use Rattle.codeword.specs.Syndromes.{SyndromesAre, allZero}
 use Rattle.codeword.specs.Locator.{LocatorIs}
@@ -47,18 +49,17 @@ use Rattle.codeword.proofs.Absorbing.{zero-syndromes}
 use Rattle.codeword.proofs.Systematic.{octets-take}
 
 infixl 60 _⊕_
-infixl 70 _⊙_
-infixl 70 _⊛_
+infixl 70 _⊙_ _⊛_
 open Field elements using (Carrier as F, add as _⊕_, mul as _⊙_, inv, nil as 𝟘)
 open Operations (operations elements) using (_⊛_)
 
 -- ---- values are octets
 
-valueOf-octet : (p : List ℕ) (l x : ℕ) → valueOf p l x < 256
+valueOf-octet : (p : List ℕ) (l x : ℕ) → valueOf p l x < size
 unfolding valueOf
 valueOf-octet p l x = octet-lt _
 
-errorOf-octet : (o d : List ℕ) (l x : ℕ) → errorOf o d l x < 256
+errorOf-octet : (o d : List ℕ) (l x : ℕ) → errorOf o d l x < size
 unfolding errorOf
 errorOf-octet o d l x = product-octet _ _
 
@@ -67,7 +68,7 @@ same-drop n u v e = length-drop n u ∙ ap (λ (k : ℕ). k - n) e ∙ sym (leng
 
 -- ---- a clean word
 
-pub clean-found : (e : ℕ) (w before s after : List ℕ) → reads (length w) e (length before) ≡ true → 2 * e < 255 → Octets w
+pub clean-found : (e : ℕ) (w before s after : List ℕ) → reads (length w) e (length before) ≡ true → 2 * e < order → Octets w
     → SyndromesAre (2 * e) w s → allZero (2 * e) s ≡ true → after ≡ written before 0 w → FoundIs e w before 0 after
 clean-found e w before s after fits small o sy z is = record {
   fits = fits;
@@ -79,7 +80,13 @@ clean-found e w before s after fits small o sy z is = record {
 
 -- ---- what the steps show
 
-module _ (e : ℕ) (w s c : List ℕ) (l : ℕ) (n-small : length w ≤ 255) (o : Octets w) (sy : SyndromesAre (2 * e) w s) (lo : LocatorIs (2 * e) s c l) where
+module _ (e : ℕ) (w s c : List ℕ) (l : ℕ) (n-small : length w ≤ longestWord) (o : Octets w) (sy : SyndromesAre (2 * e) w s) (lo : LocatorIs (2 * e) s c l) where
+  distinct : Distinct elements (length w) (locators (length w))
+  distinct = locators-distinct (length w) n-small
+
+  inverse : Inverses elements (length w) (locators (length w)) (inverses (length w))
+  inverse = locators-inverse (length w) n-small
+
   -- the syndromes of the error that turns a code word into w
   syndrome : (i : ℕ) → i < 2 * e → places s i ≡ value w (pow elements α (suc i))
   syndrome i h = places-at s i ∙ sy .used i h
@@ -98,18 +105,18 @@ module _ (e : ℕ) (w s c : List ℕ) (l : ℕ) (n-small : length w ≤ 255) (o 
       omega (
         arith,
         error-weight v h,
-        length-complete elements (length w) (2 * e) l (locators (length w)) (inverses (length w)) (places s) (places c) (lo .B) (lo .q)
-            (locators-distinct (length w) n-small) (locators-inverse (length w) n-small) (lo .state) (difference w v) (twice v h) (error-syndromes v h),
+        length-complete elements distinct inverse (lo .state) (difference w v) (twice v h) (error-syndromes v h),
       )
 
   pub roots-lost : (at : List ℕ) (count : ℕ) → SearchIs (length w) (length w) l c at count → count ≢ l → (v : List ℕ) → Within e w v → ⊥
   roots-lost at count se ne v h =
-      ne (search-complete elements (length w) (2 * e) l (locators (length w)) (inverses (length w)) (places s) (places c) (lo .B) (lo .q)
-      (locators-distinct (length w) n-small) (locators-inverse (length w) n-small) (lo .state) (difference w v) (twice v h) (error-syndromes v h) count _ (se .search))
+      ne (search-complete elements distinct inverse (lo .state) (difference w v) (twice v h) (error-syndromes v h) count _
+      (se .search))
 
   -- ---- as many roots as the length
 
-  module _ (at ov de : List ℕ) (se : SearchIs (length w) (length w) l c at l) (short : l ≤ e) (evaluator : EvaluatorIs l c s ov) (derivative : DerivativeIs l c de) where
+  module _ (at ov de : List ℕ) (se : SearchIs (length w) (length w) l c at l) (short : l ≤ e) (evaluator : EvaluatorIs l c s ov)
+      (derivative : DerivativeIs l c de) where
     value-element : (p : List ℕ) (f : Series elements) (k : ℕ) → ((i : ℕ) → i < l → places p i ≡ f i)
         → element (valueOf p l (octet (inverses (length w) k))) ≡ ev elements l f (inverses (length w) k)
     unfolding valueOf
@@ -124,14 +131,15 @@ module _ (e : ℕ) (w s c : List ℕ) (l : ℕ) (n-small : length w ≤ 255) (o 
         ∙ ap₂ (λ (x y : F). x ⊙ y) (value-element ov (places c ⊛ places s) k (evaluator .used))
         (element-inverse _ (valueOf-octet de l _) ∙ ap inv (value-element de (deriv elements (places c)) k (derivative .used)))
 
-    divided : (j : ℕ) → j < l → element (errorOf ov de l (octet (inverses (length w) (getD at j 0)))) ⊙ ev elements l (deriv elements (places c)) (inverses (length w) (getD at j 0))
+    divided : (j : ℕ) → j < l
+        → element (errorOf ov de l (octet (inverses (length w) (getD at j 0)))) ⊙ ev elements l (deriv elements (places c)) (inverses (length w) (getD at j 0))
         ≡ ev elements l (places c ⊛ places s) (inverses (length w) (getD at j 0))
     divided j h =
         ap (λ (x : F). x ⊙ ev elements l (deriv elements (places c)) (inverses (length w) (getD at j 0))) (error-element (getD at j 0))
         ∙ ⊙-assoc elements _ _ _
         ∙ ap (λ (x : F). ev elements l (places c ⊛ places s) (inverses (length w) (getD at j 0)) ⊙ x)
-        (⊙-comm elements _ _ ∙ ⊙-inv elements _ (divisor-ne elements (length w) (2 * e) l (locators (length w)) (inverses (length w)) (places s) (places c) (lo .B) (lo .q)
-        (locators-distinct (length w) n-small) (locators-inverse (length w) n-small) (lo .state) (λ i. getD at i 0) (se .search) j h))
+        (⊙-comm elements _ _ ∙ ⊙-inv elements _
+        (divisor-ne elements distinct inverse (lo .state) (λ i. getD at i 0) (se .search) j h))
         ∙ ⊙-𝟙 elements _
 
     module _ (before u : List ℕ) (room : length w ≤ length before) (co : Corrected (length w) l l at ov de (written before 0 w) u) where
@@ -174,8 +182,7 @@ module _ (e : ℕ) (w s c : List ℕ) (l : ℕ) (n-small : length w ≤ 255) (o 
       sound : ((i : ℕ) → i < 2 * e → psum elements (length w) (difference w (take (length w) u)) (locators (length w)) (suc i) ≡ places s i)
           × (weight elements (length w) (difference w (take (length w) u)) ≡ l)
       sound =
-          search-sound elements (length w) (2 * e) l (locators (length w)) (inverses (length w)) (places s) (places c) (lo .B) (lo .q)
-          (locators-distinct (length w) n-small) (locators-inverse (length w) n-small) (lo .state) (λ i. getD at i 0) (se .search)
+          search-sound elements distinct inverse (lo .state) (λ i. getD at i 0) (se .search)
           (difference w (take (length w) u)) (omega arith) elsewhere
           (λ j h. ap (λ (x : F). x ⊙ ev elements l (deriv elements (places c)) (inverses (length w) (getD at j 0))) (listed j h) ∙ divided j h)
 
@@ -188,7 +195,7 @@ module _ (e : ℕ) (w s c : List ℕ) (l : ℕ) (n-small : length w ≤ 255) (o 
           ∙ ap (λ (x : F). value w (pow elements α (suc i)) ⊕ x) (sym (difference-value w (take (length w) u) (sym long) (suc i)) ∙ sound .0 i h ∙ syndrome i h)
           ∙ ⊕-self elements _
 
-      pub corrected-found : 2 * e < 255 → reads (length w) e (length before) ≡ true → FoundIs e w before l u
+      pub corrected-found : 2 * e < order → reads (length w) e (length before) ≡ true → FoundIs e w before l u
       corrected-found small fits = record {
         fits = fits;
         found = take (length w) u;
@@ -219,13 +226,14 @@ module _ (e : ℕ) (w s c : List ℕ) (l : ℕ) (n-small : length w ≤ 255) (o 
 
 -- ---- whether the word is one of the code
 
-pub reads-true : (n e room : ℕ) → n ≤ 255 → 2 * e < n → n ≤ room → reads n e room ≡ true
-reads-true n e room a b c = rw (le-leb n 255 a, lt-ltb (2 * e) n b, le-leb n room c)
+pub reads-true : (n e room : ℕ) → n ≤ longestWord → 2 * e < n → n ≤ room → reads n e room ≡ true
+reads-true n e room a b c = rw (le-leb n longestWord a, lt-ltb (2 * e) n b, le-leb n room c)
 
-pub reads-all : (n e room : ℕ) → reads n e room ≡ true → (n ≤ 255) × (2 * e < n) × (n ≤ room)
+pub reads-all : (n e room : ℕ) → reads n e room ≡ true → (n ≤ longestWord) × (2 * e < n) × (n ≤ room)
 reads-all n e room h =
-    let t = three-true (leb n 255) (ltb (2 * e) n) (leb n room) h in
-    (leb-true n 255 (t .0), ltb-true (2 * e) n (t .1), leb-true n room (t .2))
+    let t = three-true (leb n longestWord) (ltb (2 * e) n) (leb n room) h in
+    (leb-true n longestWord (t .0), ltb-true (2 * e) n (t .1), leb-true n room (t .2))
 
-pub refused-lost : (e : ℕ) (w before : List ℕ) → ((length w ≤ 255) × (2 * e < length w) × (length w ≤ length before) → ⊥) → OutOfReachIs e w before before
+pub refused-lost : (e : ℕ) (w before : List ℕ) → ((length w ≤ longestWord) × (2 * e < length w) × (length w ≤ length before) → ⊥)
+    → OutOfReachIs e w before before
 refused-lost e w before no-fit = record { none = λ h. absurd (no-fit (reads-all (length w) e (length before) h)); same = refl }

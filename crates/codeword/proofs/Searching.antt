@@ -1,7 +1,8 @@
 -- Horner's rule, and the search for the roots, place by place.
 --
---   horner-start, horner-next, horner-done   from the highest coefficient down
---   search-start, search-hit, search-miss    one place after another
+--   horner-from c n x i                               what Horner's rule has after the coefficients from i on
+--   horner-start, horner-next, horner-done            .. from the highest coefficient down
+--   search-start, search-hit, search-miss, search-done    one place after another
 --
 -- Assumes nothing.
 use mathlib.Core.Path.{_≡_, refl, sym, ap, ap₂, _∙_, subst}
@@ -13,15 +14,15 @@ use native.Mathlib.Decide.{ℕ-discrete, decLt}
 use lib.ListN.{length, getD, set, length-set}
 use lib.Seq.{getD-set-same, getD-set-other}
 use Rattle.algebra.specs.Field.{Field}
-use Rattle.algebra.proofs.Ring.{⊕-comm, ⊙-comm}
-use Rattle.algebra.proofs.Value.{ev, ev-zero}
-use Rattle.algebra.proofs.Loop.{from, from-zero, horner}
+use Rattle.algebra.specs.Value.{ev, from}
+use Rattle.algebra.proofs.Laws.{⊕-comm, ⊙-comm, ev-zero, from-zero, horner}
 use Rattle.field.specs.Octet as Octet
 use Rattle.codeword.specs.Element.{elements, element, octet}
 use Rattle.codeword.specs.Element.Laws.{octet-element, octet-same, octet-add, octet-mul, octet-nil}
+use Rattle.codeword.specs.CodeWord.{longestWord}
 use Rattle.codeword.specs.Places.{places, inverses}
 use Rattle.codeword.specs.Search.{valueOf, SearchIs}
-use Rattle.codeword.proofs.Zeros.{zeros}
+use Rattle.codeword.proofs.Arrays.{zeros}
 use Rattle.codeword.proofs.Word.{places-at}
 
 infixl 60 _⊕_
@@ -38,13 +39,15 @@ pub horner-start : (c : List ℕ) (n x : ℕ) → horner-from c n x n ≡ 0
 unfolding horner-from
 horner-start c n x = let e : n - n ≡ 0 = omega arith in rw (e, ev-zero) octet-nil
 
-pub horner-next : (c : List ℕ) (n x i : ℕ) → i < n → getD c i 0 < 256 → x < 256
+pub horner-next : (c : List ℕ) (n x i : ℕ) → i < n → getD c i 0 < Octet.size → x < Octet.size
     → horner-from c n x i ≡ Octet.sum (Octet.product (horner-from c n x (i + 1)) x) (getD c i 0)
 unfolding horner-from
 horner-next c n x i l h k =
     rw (add-one i)
     (ap octet (horner elements n i (places c) (element x) l ∙ ⊕-comm elements _ _ ∙ ap (λ (y : F). y ⊕ places c i) (⊙-comm elements _ _))
-    ∙ octet-add _ _ ∙ ap₂ Octet.sum (octet-mul _ _ ∙ ap (Octet.product (octet (ev elements (n - suc i) (from elements (suc i) (places c)) (element x)))) (octet-element x k)) (ap octet (places-at c i) ∙ octet-element _ h))
+    ∙ octet-add _ _ ∙ ap₂ Octet.sum
+    (octet-mul _ _ ∙ ap (Octet.product (octet (ev elements (n - suc i) (from elements (suc i) (places c)) (element x)))) (octet-element x k))
+    (ap octet (places-at c i) ∙ octet-element _ h))
 
 pub horner-done : (c : List ℕ) (n x : ℕ) → horner-from c n x 0 ≡ valueOf c n x
 unfolding horner-from valueOf
@@ -52,8 +55,8 @@ horner-done c n x = let e : n - 0 ≡ n = omega arith in rw (e, from-zero)
 
 -- ---- the search
 
-pub search-start : (n l : ℕ) (c : List ℕ) → SearchIs n 0 l c (zeros 255) 0
-search-start n l c = record {
+pub search-start : {n l : ℕ} {c : List ℕ} → SearchIs n 0 l c zeros 0
+search-start = record {
   long = refl;
   few = omega arith;
   search = record {
@@ -64,7 +67,7 @@ search-start n l c = record {
   };
 }
 
-module _ (n p l : ℕ) (c at : List ℕ) (count x : ℕ) (x-is : x ≡ octet (inverses n p)) (s : SearchIs n p l c at count) where
+module _ {n p l : ℕ} {c at : List ℕ} {count x : ℕ} (x-is : x ≡ octet (inverses n p)) (s : SearchIs n p l c at count) where
   value-element : element x ≡ inverses n p
   value-element = ap element x-is ∙ Rattle.codeword.specs.Element.Laws.element-octet _
 
@@ -92,7 +95,7 @@ module _ (n p l : ℕ) (c at : List ℕ) (count x : ℕ) (x-is : x ≡ octet (in
       go q h z (yes e) = absurd (no-root (value-root (rw e at z)))
       go q h z (no d) = s .search .all q (omega arith) z
 
-  pub search-hit : p < 255 → valueOf c (l + 1) x ≡ 0 → SearchIs n (p + 1) l c (set at count p) (count + 1)
+  pub search-hit : p < longestWord → valueOf c (l + 1) x ≡ 0 → SearchIs n (p + 1) l c (set at count p) (count + 1)
   search-hit small is-root = record {
     long = length-set at count p ∙ s .long;
     few = omega (arith, s .few);
@@ -132,5 +135,5 @@ module _ (n p l : ℕ) (c at : List ℕ) (count x : ℕ) (x-is : x ≡ octet (in
         | no m ↦ (count, omega arith, new ∙ omega arith)
       ]
 
-pub search-done : (n p l : ℕ) (c at : List ℕ) (count : ℕ) → p ≡ n → SearchIs n p l c at count → SearchIs n n l c at count
-search-done n p l c at count e = subst (λ (q : ℕ). SearchIs n q l c at count) e
+pub search-done : {n p l : ℕ} {c at : List ℕ} {count : ℕ} → p ≡ n → SearchIs n p l c at count → SearchIs n n l c at count
+search-done {n} {p} {l} {c} {at} {count} e = subst (λ (q : ℕ). SearchIs n q l c at count) e

@@ -1,15 +1,16 @@
 -- Encoding: the message with its parity is the one code word that begins with the message.
 --
---   parity-codeWord      message and parity are a code word
---   codeWord-parity      and in a code word that begins with the message the rest is its parity
---   parity-unique        which is the only one
---   codeWord-begins      a code word that begins with the message is the message and its parity
---   codeWord-only        .. so there is one
---   encoded-unique       any two answers that encoding's promise allows are equal, what is left in the lent octets included
---   encodes-true, encodes-all                     what fits
---   encodes-empty, encodes-long, encodes-short    what does not
---   encoded-not, encoded-done                     the two cases of the promise
---   encoded-is                                    .. and what it says where the message fits
+--   octets-append, octets-take    octets of lists put together and cut
+--   parity-codeWord               message and parity are a code word
+--   codeWord-parity               and in a code word that begins with the message the rest is its parity
+--   parity-unique                 which is the only one
+--   codeWord-begins               a code word that begins with the message is the message and its parity
+--   codeWord-only                 .. so there is one
+--   register-parity               what the register holds at the end is the parity
+--   encoded-unique                any two answers that encoding's promise allows are equal, what is left in the lent octets included
+--   encodes-true, encodes-all     what fits
+--   encoded-refused, encoded-done the two cases of the promise
+--   encoded-is                    .. and what it says where the message fits
 --
 -- Assumes nothing.
 use mathlib.Core.Path.{_≡_, refl, sym, ap, _∙_, subst}
@@ -17,18 +18,16 @@ use mathlib.Core.Bool.{Bool, true, false}
 use mathlib.Core.List.{List, [], _∷_, _++_}
 use Prim.Native.Nat.{ℕ, zero, suc, _+_, _*_, _≤_, _<_}
 use native.Mathlib.Omega.{arith}
-use borrow.Author.Tests.{le-ltb, lt-ltb, lt-leb, le-leb, ltb-true, leb-true}
+use borrow.Author.Tests.{lt-ltb, le-leb, ltb-true, leb-true}
 use lib.Dec.{leb, ltb}
 use lib.ListN.{length, take, drop, length-drop, take-append-drop}
 use lib.Seq.{length-take-le}
-use Rattle.octets.specs.Tests.{three-true, first-false, second-false, third-false}
+use Rattle.octets.specs.Tests.{three-true}
 use Rattle.octets.specs.Written.{written}
 use Rattle.algebra.specs.Polynomial.{polynomial, raised}
-use Rattle.algebra.proofs.Roots.{below-rooted, rooted-top}
-use Rattle.algebra.proofs.Remainder.{remainder-unique}
-use Rattle.algebra.proofs.Polynomial.{polynomial-append, polynomial-same}
+use Rattle.algebra.proofs.Laws.{below-rooted, rooted-top, remainder-unique, polynomial-append, polynomial-same}
 use Rattle.codeword.specs.Element.{elements}
-use Rattle.codeword.specs.CodeWord.{generator, word, Octets, CodeWord}
+use Rattle.codeword.specs.CodeWord.{longestWord, generator, word, Octets, CodeWord}
 use Rattle.codeword.specs.Encoding.{Parity, encodes, Done, Left, either, Encoded}
 use Rattle.codeword.specs.Register.{RegisterIs}
 use Rattle.codeword.proofs.Word.{word-length, word-append, word-same, below-word}
@@ -40,12 +39,7 @@ octets-append [] p hu hp i = hp i
 octets-append (a ∷ u) p hu hp zero = hu 0
 octets-append (a ∷ u) p hu hp (suc i) = octets-append u p (λ j. hu (suc j)) hp i
 
-pub octets-left : (u p : List ℕ) → Octets (u ++ p) → Octets u
-octets-left [] p h i = omega arith
-octets-left (a ∷ u) p h zero = h 0
-octets-left (a ∷ u) p h (suc i) = octets-left u p (λ j. h (suc j)) i
-
-pub octets-right : (u p : List ℕ) → Octets (u ++ p) → Octets p
+octets-right : (u p : List ℕ) → Octets (u ++ p) → Octets p
 octets-right [] p h = h
 octets-right (a ∷ u) p h = octets-right u p (λ j. h (suc j))
 
@@ -58,7 +52,8 @@ octets-take (suc m) (a ∷ p) h (suc i) = octets-take m p (λ j. h (suc j)) i
 -- ---- the code word
 
 whole : (e : ℕ) (u p : List ℕ) → length p ≡ 2 * e
-    → polynomial elements (word (u ++ p)) ≡ Rattle.algebra.specs.Series._⊞_ elements (raised elements (2 * e) (polynomial elements (word u))) (polynomial elements (word p))
+    → polynomial elements (word (u ++ p)) ≡ Rattle.algebra.specs.Series._⊞_ elements (raised elements (2 * e) (polynomial elements (word u)))
+    (polynomial elements (word p))
 whole e u p l =
     ap (polynomial elements) (word-append u p) ∙ polynomial-append elements (word u) (word p)
     ∙ (rw (word-length p, l))
@@ -97,42 +92,42 @@ codeWord-only e u c d lc ld cc dc bc bd =
 
 pub register-parity : (e : ℕ) (u p : List ℕ) → 2 * e ≤ length p → RegisterIs (2 * e) u p → Parity e u (take (2 * e) p)
 unfolding generator
-register-parity e u p l r = record { long = length-take-le (2 * e) p l; octets = octets-take (2 * e) p (r .octets); remainder = r .remainder }
-
-pub encodes-empty : (k e room : ℕ) → k ≡ 0 → encodes k e room ≡ false
-encodes-empty k e room h = first-false (ltb 0 k) _ _ (le-ltb 0 k (omega arith))
-
-pub encodes-long : (k e room : ℕ) → 255 < k + 2 * e → encodes k e room ≡ false
-encodes-long k e room h = second-false (ltb 0 k) _ _ (lt-leb (k + 2 * e) 255 h)
-
-pub encodes-short : (k e room : ℕ) → room < k + 2 * e → encodes k e room ≡ false
-encodes-short k e room h = third-false (ltb 0 k) (leb (k + 2 * e) 255) _ (lt-leb (k + 2 * e) room h)
+register-parity e u p l r = record { long = length-take-le (2 * e) p l; octets = octets-take (2 * e) p (r .array .octets); remainder = r .remainder }
 
 pub encoded-unique : (e : ℕ) (u before : List ℕ) (n m : ℕ) (after left : List ℕ)
     → Encoded e u before n after → Encoded e u before m left → (n ≡ m) × (after ≡ left)
 encoded-unique e u before n m after left = go (encodes (length u) e (length before))
   where
-    go : (b : Bool) → either b (Done e u before n after) (Left n before after) → either b (Done e u before m left) (Left m before left) → (n ≡ m) × (after ≡ left)
-    go true p q =
-        (p .count ∙ sym (q .count), p .written-is ∙ ap (λ (x : List ℕ). written before 0 (u ++ x)) (parity-unique e u _ _ (p .right) (q .right)) ∙ sym (q .written-is))
+    go : (b : Bool) → either b (Done e u before n after) (Left n before after) → either b (Done e u before m left) (Left m before left)
+        → (n ≡ m) × (after ≡ left)
+    go true p q = (
+      p .count ∙ sym (q .count),
+      p .written-is ∙ ap (λ (x : List ℕ). written before 0 (u ++ x)) (parity-unique e u _ _ (p .right) (q .right))
+          ∙ sym (q .written-is),
+    )
     go false p q = (p .count ∙ sym (q .count), p .same ∙ sym (q .same))
 
-pub encoded-not : (e : ℕ) (u before : List ℕ) → encodes (length u) e (length before) ≡ false → Encoded e u before 0 before
-encoded-not e u before h = subst (λ (b : Bool). either b (Done e u before 0 before) (Left 0 before before)) (sym h) (record { count = refl; same = refl })
-
-pub encodes-true : (k e room : ℕ) → 0 < k → k + 2 * e ≤ 255 → k + 2 * e ≤ room → encodes k e room ≡ true
-encodes-true k e room some all fits = rw (lt-ltb 0 k some, le-leb (k + 2 * e) 255 all, le-leb (k + 2 * e) room fits)
+pub encodes-true : (k e room : ℕ) → 0 < k → k + 2 * e ≤ longestWord → k + 2 * e ≤ room → encodes k e room ≡ true
+encodes-true k e room some all fits = rw (lt-ltb 0 k some, le-leb (k + 2 * e) longestWord all, le-leb (k + 2 * e) room fits)
 
 pub encoded-is : (e : ℕ) (u before after : List ℕ) (n : ℕ) → encodes (length u) e (length before) ≡ true → Encoded e u before n after → Done e u before n after
 encoded-is e u before after n h p = subst (λ (b : Bool). either b (Done e u before n after) (Left n before after)) h p
 
-pub encoded-done : (e n : ℕ) (u before p after : List ℕ) → 0 < length u → length u + 2 * e ≤ 255 → length u + 2 * e ≤ length before
+pub encoded-done : (e n : ℕ) (u before p after : List ℕ) → 0 < length u → length u + 2 * e ≤ longestWord → length u + 2 * e ≤ length before
     → Parity e u p → n ≡ length u + 2 * e → after ≡ written before 0 (u ++ p) → Encoded e u before n after
 encoded-done e n u before p after some all room r c w =
     subst (λ (b : Bool). either b (Done e u before n after) (Left n before after)) (sym (encodes-true (length u) e (length before) some all room))
     (record { parity = p; right = r; count = c; written-is = w })
 
-pub encodes-all : (k e room : ℕ) → encodes k e room ≡ true → (0 < k) × (k + 2 * e ≤ 255) × (k + 2 * e ≤ room)
+pub encodes-all : (k e room : ℕ) → encodes k e room ≡ true → (0 < k) × (k + 2 * e ≤ longestWord) × (k + 2 * e ≤ room)
 encodes-all k e room h =
-    let t = three-true (ltb 0 k) (leb (k + 2 * e) 255) (leb (k + 2 * e) room) h in
-    (ltb-true 0 k (t .0), leb-true (k + 2 * e) 255 (t .1), leb-true (k + 2 * e) room (t .2))
+    let t = three-true (ltb 0 k) (leb (k + 2 * e) longestWord) (leb (k + 2 * e) room) h in
+    (ltb-true 0 k (t .0), leb-true (k + 2 * e) longestWord (t .1), leb-true (k + 2 * e) room (t .2))
+
+pub encoded-refused : (e : ℕ) (u before : List ℕ)
+    → ((0 < length u) × (length u + 2 * e ≤ longestWord) × (length u + 2 * e ≤ length before) → ⊥) → Encoded e u before 0 before
+encoded-refused e u before no-fit = go (encodes (length u) e (length before)) refl
+  where
+    go : (b : Bool) → encodes (length u) e (length before) ≡ b → either b (Done e u before 0 before) (Left 0 before before)
+    go true h = absurd (no-fit (encodes-all (length u) e (length before) h))
+    go false h = record { count = refl; same = refl }

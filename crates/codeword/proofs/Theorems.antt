@@ -1,5 +1,9 @@
 -- The claims of specs/Claims.antt.
 --
+--   encodedIsCodeWord, encodedIsOnly, encodedUnique              of encoding
+--   codeWordsApart, zeroSyndromes, neverSecond                   of code words
+--   foundExactly, foundIsIt, lostUntouched, repairedUnique       of the repair
+--
 -- Assumes nothing.
 use mathlib.Core.Path.{_≡_, refl, sym, ap, ap₂, _∙_}
 use mathlib.Core.Bool.{true}
@@ -12,7 +16,8 @@ use Rattle.octets.specs.Tests.{never}
 use Rattle.octets.specs.Written.{written, written-part, written-behind}
 use Rattle.codeword.specs.CodeWord.{distance}
 use Rattle.codeword.specs.Encoding.{encodes, Done, Encoded}
-use Rattle.codeword.specs.Claims.{EncodedIsCodeWord, EncodedIsOnly, CodeWordsApart, ZeroSyndromes, FoundExactly, FoundIsIt, NeverSecond, LostUntouched, EncodedUnique, RepairedUnique}
+use Rattle.codeword.specs.Claims.{EncodedIsCodeWord, EncodedIsOnly, CodeWordsApart, ZeroSyndromes, FoundExactly, FoundIsIt}
+use Rattle.codeword.specs.Claims.{NeverSecond, LostUntouched, EncodedUnique, RepairedUnique}
 use Rattle.codeword.specs.declared.Reach.the-variants.{Found, OutOfReach}
 use Rattle.codeword.proofs.Criterion.{codeWord-zero, zero-codeWord}
 use Rattle.codeword.proofs.Distance.{codeWords-apart, within-unique}
@@ -49,7 +54,8 @@ encodedIsCodeWord e u before after n o fits p =
       r .count,
       rw w (parity-codeWord e u (r .parity) o (r .right)),
       sym (take-take (length u) n after (omega (arith, r .count))) ∙ ap (take (length u)) w ∙ lib.Seq.take-append-seam u (r .parity),
-      ap (drop n) (r .written-is) ∙ rest before (u ++ r .parity) n (n-is e u before after n fits p) (omega (arith, n-is e u before after n fits p, room e u before after n fits p)),
+      ap (drop n) (r .written-is) ∙ rest before (u ++ r .parity) n (n-is e u before after n fits p)
+          (omega (arith, n-is e u before after n fits p, room e u before after n fits p)),
     )
 
 pub encodedIsOnly : EncodedIsOnly

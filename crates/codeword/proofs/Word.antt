@@ -3,8 +3,9 @@
 --   word-length, word-at, word-append     the octets as elements
 --   word-same                             two words of octets with the same elements are equal
 --   places-at, places-tl, inverses-at     the series of specs/Places.antt
---   locators-distinct, locators-inverse   for n up to 255
---   value-none, value-cons, value-snoc    the value of a word's polynomial, an octet at a time
+--   locators-distinct, locators-inverse   for n up to the longest word
+--   below-word                            the degree of a word's polynomial
+--   value-none, value-cons, value-snoc    its value, an octet at a time
 --   value-places                          at αⁱ it is the power sum of the places' elements and locators
 --
 -- Assumes nothing.
@@ -17,24 +18,22 @@ use lib.Seq.{ext-getD}
 use Rattle.algebra.specs.Field.{Field}
 use Rattle.algebra.specs.Series as Ser
 use Rattle.algebra.specs.Series.{Series, Below, Operations, operations}
-use Rattle.algebra.specs.Polynomial.{monomial, polynomial}
+use Rattle.algebra.specs.Polynomial.{polynomial}
 use Rattle.algebra.specs.Power.{pow}
-use Rattle.algebra.proofs.Ring.{ring}
-use Rattle.algebra.proofs.Value.{ev, ev-zero, ev-⊞, ev-sh, ev-more, ev-⊡, ev-unit}
-use Rattle.algebra.proofs.Polynomial.{polynomial-cons, below-polynomial}
-use Rattle.algebra.proofs.Roots.{Distinct}
-use Rattle.algebra.proofs.Locator.{Inverses}
-use Rattle.algebra.proofs.PowerSum.{pow-zero, pow-suc, psum, psum-zero, psum-suc}
-use Rattle.algebra.proofs.Powers.{pow-add, pow-times}
+use Rattle.algebra.specs.Value.{ev}
+use Rattle.algebra.specs.Points.{Distinct, Inverses}
+use Rattle.algebra.specs.PowerSum.{psum}
+use Rattle.algebra.proofs.Laws.{ev-monomial, ring, ev-zero, ev-⊞, ev-more, polynomial-cons, below-polynomial, pow-zero}
+use Rattle.algebra.proofs.Laws.{pow-suc, psum-zero, psum-suc, pow-add, pow-times}
+use Rattle.field.specs.Octet.{order}
 use Rattle.field.specs.Octet.Laws.{powers-distinct, alpha-around}
 use Rattle.codeword.specs.Element.{elements, element, octet, α}
 use Rattle.codeword.specs.Element.Laws.{octet-element, octet-same, octet-pow, octet-one, element-zero}
-use Rattle.codeword.specs.CodeWord.{word, Octets}
+use Rattle.codeword.specs.CodeWord.{longestWord, word, Octets}
 use Rattle.codeword.specs.Places.{places, locators, inverses, value}
 
-infixl 60 _⊕_
+infixl 60 _⊕_ _⊞_
 infixl 70 _⊙_
-infixl 60 _⊞_
 open Field elements using (Carrier as F, add as _⊕_, mul as _⊙_, nil as 𝟘, one as 𝟙)
 open Operations (operations elements) using (_⊞_, sh, tl, unit)
 
@@ -66,21 +65,21 @@ pub places-at : (w : List ℕ) (p : ℕ) → places w p ≡ element (getD w p 0)
 unfolding places
 places-at w p = word-at w p
 
-pub inverses-at : (n p : ℕ) → inverses n p ≡ pow elements α (255 - (n - suc p))
+pub inverses-at : (n p : ℕ) → inverses n p ≡ pow elements α (order - (n - suc p))
 unfolding inverses
 inverses-at n p = refl
 
-α-around : pow elements α 255 ≡ 𝟙
-α-around = octet-same _ _ (octet-pow 255 ∙ alpha-around ∙ sym octet-one)
+α-around : pow elements α order ≡ 𝟙
+α-around = octet-same _ _ (octet-pow order ∙ alpha-around ∙ sym octet-one)
 
-pub locators-inverse : (n : ℕ) → n ≤ 255 → Inverses elements n (locators n) (inverses n)
+pub locators-inverse : (n : ℕ) → n ≤ longestWord → Inverses elements n (locators n) (inverses n)
 unfolding locators inverses
 locators-inverse n h p l =
     let k : ℕ = n - suc p in
-    let e : k + (255 - k) ≡ 255 = omega arith in
-    sym (pow-add elements α k (255 - k)) ∙ (rw e α-around)
+    let e : k + (order - k) ≡ order = omega arith in
+    sym (pow-add elements α k (order - k)) ∙ (rw e α-around)
 
-pub locators-distinct : (n : ℕ) → n ≤ 255 → Distinct elements n (locators n)
+pub locators-distinct : (n : ℕ) → n ≤ longestWord → Distinct elements n (locators n)
 unfolding locators
 locators-distinct n h i j l m e =
     let q : n - suc i ≡ n - suc j = powers-distinct (n - suc i) (n - suc j) (omega arith) (omega arith) (sym (octet-pow _) ∙ ap octet e ∙ octet-pow _) in
@@ -95,17 +94,13 @@ value-none x = ev-zero elements _ x
 pub below-word : (w : List ℕ) → Below elements (length w) (polynomial elements (word w))
 below-word w = rw word-length at (below-polynomial elements (word w))
 
-ev-monomial : (n : ℕ) (a x : F) → ev elements (suc n) (monomial elements n a) x ≡ a ⊙ pow elements x n
-unfolding monomial
-ev-monomial zero a x = rw (ev-⊡, ev-unit, pow-zero)
-ev-monomial (suc n) a x = ev-sh elements (suc n) (monomial elements n a) x ∙ (rw (ev-monomial n a x, pow-suc) (simp ring))
-
 pub value-cons : (a : ℕ) (w : List ℕ) (x : F) → value (a ∷ w) x ≡ element a ⊙ pow elements x (length w) ⊕ value w x
 unfolding value word
 value-cons a w x =
     ap (λ (f : Series elements). ev elements (suc (length w)) f x) (polynomial-cons elements (element a) (word w))
     ∙ ev-⊞ elements _ _ _ x
-    ∙ ap₂ (λ (p q : F). p ⊕ q) (rw word-length (ev-monomial (length w) (element a) x)) (ev-more elements (length w) (suc (length w)) _ x (below-word w) (omega arith))
+    ∙ ap₂ (λ (p q : F). p ⊕ q) (rw word-length (ev-monomial elements (length w) (element a) x))
+    (ev-more elements (length w) (suc (length w)) _ x (below-word w) (omega arith))
 
 pub value-snoc : (w : List ℕ) (a : ℕ) (x : F) → value (w ++ a ∷ []) x ≡ x ⊙ value w x ⊕ element a
 value-snoc [] a x = rw (value-cons, value-none, pow-zero) (simp ring)

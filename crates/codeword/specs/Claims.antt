@@ -1,6 +1,7 @@
 -- What is claimed of encoding and repair, over every word and every setting; proofs/Theorems.antt proves each claim. `encodes` and
--- `reads` hold exactly of words of 1 to 255 octets with 2e below their length, where there is room.
+-- `reads` hold exactly of words of at least one octet and at most `longestWord` with 2e below their length, where there is room.
 --
+--   isFound r            whether a repair's answer is that it found a code word
 --   EncodedIsCodeWord    encoding gives a code word that begins with the message
 --   EncodedIsOnly        .. and the only one of its length that does
 --   CodeWordsApart       two code words of one length that differ in at most 2e octets are equal
@@ -20,8 +21,9 @@ use mathlib.Core.List.{List}
 use Prim.Native.Nat.{ℕ, suc, _+_, _*_, _≤_, _<_}
 use lib.ListN.{length, take, drop}
 use Rattle.algebra.specs.Power.{pow}
+use Rattle.field.specs.Octet.{order}
 use Rattle.codeword.specs.Element.{elements, α}
-use Rattle.codeword.specs.CodeWord.{Octets, CodeWord, distance, Within}
+use Rattle.codeword.specs.CodeWord.{longestWord, Octets, CodeWord, distance, Within}
 use Rattle.codeword.specs.Places.{value}
 use Rattle.codeword.specs.Encoding.{encodes, Encoded}
 use Rattle.codeword.specs.Repair.{reads, Repaired}
@@ -43,10 +45,10 @@ EncodedIsOnly =
     → (c : List ℕ) → length c ≡ n → CodeWord e c → take (length u) c ≡ u → c ≡ take n after
 
 abbrev pub CodeWordsApart : Type 0
-CodeWordsApart = (e : ℕ) (v w : List ℕ) → length v ≡ length w → length v ≤ 255 → CodeWord e v → CodeWord e w → distance v w ≤ 2 * e → v ≡ w
+CodeWordsApart = (e : ℕ) (v w : List ℕ) → length v ≡ length w → length v ≤ longestWord → CodeWord e v → CodeWord e w → distance v w ≤ 2 * e → v ≡ w
 
 abbrev pub ZeroSyndromes : Type 0
-ZeroSyndromes = (e : ℕ) (w : List ℕ) → 2 * e < 255 → Octets w → CodeWord e w ↔ ((i : ℕ) → i < 2 * e → value w (pow elements α (suc i)) ≡ elements .nil)
+ZeroSyndromes = (e : ℕ) (w : List ℕ) → 2 * e < order → Octets w → CodeWord e w ↔ ((i : ℕ) → i < 2 * e → value w (pow elements α (suc i)) ≡ elements .nil)
 
 abbrev pub FoundExactly : Type 0
 FoundExactly =
@@ -59,7 +61,7 @@ FoundIsIt =
     → (c : List ℕ) → Within e w c → (take (length w) after ≡ c) × (changed ≡ distance w c) × (drop (length w) after ≡ drop (length w) before)
 
 abbrev pub NeverSecond : Type 0
-NeverSecond = (e : ℕ) (w c d : List ℕ) → length w ≤ 255 → Within e w c → Within e w d → c ≡ d
+NeverSecond = (e : ℕ) (w c d : List ℕ) → length w ≤ longestWord → Within e w c → Within e w d → c ≡ d
 
 abbrev pub LostUntouched : Type 0
 LostUntouched = (e : ℕ) (w before after : List ℕ) → Repaired e w before OutOfReach after → after ≡ before

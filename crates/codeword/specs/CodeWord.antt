@@ -1,5 +1,6 @@
 -- The code (003, D.4.1.7.3).
 --
+--   longestWord       how many octets the longest word has: as many as α has powers
 --   generator e       g = (x - α) (x - α²) .. (x - α^2e), and 1 for e = 0
 --   word w            the octets of w as elements
 --   Octets w          each number of w is an octet
@@ -17,7 +18,11 @@ use lib.ListN.{length, getD}
 use Rattle.algebra.specs.Series.{Series}
 use Rattle.algebra.specs.Polynomial.{polynomial, rooted, Divides}
 use Rattle.algebra.specs.Power.{rising}
+use Rattle.field.specs.Octet.{size}
 use Rattle.codeword.specs.Element.{elements, element, α}
+
+abbrev pub longestWord : ℕ
+longestWord = 255
 
 unfoldable pub generator : ℕ → Series elements
 generator e = rooted elements (2 * e) (rising elements α)
@@ -26,7 +31,7 @@ unfoldable pub word : List ℕ → List (elements .Carrier)
 word w = map element w
 
 abbrev pub Octets : List ℕ → Type 0
-Octets w = (i : ℕ) → getD w i 0 < 256
+Octets w = (i : ℕ) → getD w i 0 < size
 
 pub record CodeWord (e : ℕ) (w : List ℕ) : Type 0 where
   pub octets : Octets w

@@ -1,7 +1,9 @@
 -- The octets as a field, in the sense of crate `algebra`. It is made of the field's laws alone: what a sum or a product is worked out
 -- to stays shut here.
 --
---   elements     the field: its elements are the numbers below 256
+--   Element      an octet as an element
+--   same-octet   two with the same octet are one
+--   elements     the field: its elements are the octets
 --   element a    the octet a as an element; of a larger number, its low octet
 --   octet x      the element x as an octet
 --   α            the element 02
@@ -16,11 +18,12 @@ use native.Mathlib.Omega.{arith}
 use lib.Dec.{lit<}
 use Rattle.algebra.specs.Field.{Field}
 use Rattle.field.specs.Octet as Octet
-use Rattle.field.specs.Octet.Laws.{sum-octet, sum-assoc, sum-comm, sum-zero, sum-self, product-octet, product-assoc, product-comm, product-one, product-sum, inverse-octet, product-inverse}
+use Rattle.field.specs.Octet.Laws.{sum-octet, sum-assoc, sum-comm, sum-zero, sum-self, product-octet, product-assoc, product-comm}
+use Rattle.field.specs.Octet.Laws.{product-one, product-sum, inverse-octet, product-inverse}
 pub mod Laws
 
 abbrev pub Element : Type 0
-Element = (a : ℕ) × (a < 256)
+Element = (a : ℕ) × (a < Octet.size)
 
 pub same-octet : (x y : Element) → x .0 ≡ y .0 → x ≡ y
 same-octet x y e = Σ-prop-path (λ n. le-prop) e
@@ -56,7 +59,7 @@ elements = record {
 
 pub element : ℕ → elements .Carrier
 unfolding elements
-element a = (a % 256, omega arith)
+element a = (a % Octet.size, omega arith)
 
 pub octet : elements .Carrier → ℕ
 unfolding elements

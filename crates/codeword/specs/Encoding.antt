@@ -1,8 +1,11 @@
 -- Encoding (003, D.4.1.7.3, equations D-4 to D-6): the message u, then the 2e octets of the remainder of x^2e u by g, highest first.
 --
---   Parity e u p              p are those octets
---   Encoded e u before n after   what encoding u into the lent octets `before` answers and leaves: where the whole fits the code and
---                             the room, n octets, message and parity, are written at the front; else none, and nothing changes
+--   Parity e u p                 p are those octets
+--   encodes k e room             a message of k octets with its parity fits the code and the room
+--   Done e u before n after      n octets, message and parity, are written at the front of the lent octets `before`
+--   Left n before after          none are, and nothing changes
+--   either b A B                 A where the test passed, B where not
+--   Encoded e u before n after   what encoding u into the lent octets answers and leaves: the one where it fits, else the other
 --
 -- Assumes nothing.
 use mathlib.Core.Path.{_≡_}
@@ -14,16 +17,16 @@ use lib.ListN.{length}
 use Rattle.octets.specs.Written.{written}
 use Rattle.algebra.specs.Polynomial.{polynomial, raised, Remainder}
 use Rattle.codeword.specs.Element.{elements}
-use Rattle.codeword.specs.CodeWord.{generator, word, Octets}
+use Rattle.codeword.specs.CodeWord.{longestWord, generator, word, Octets}
 
 pub record Parity (e : ℕ) (u p : List ℕ) : Type 0 where
   pub long : length p ≡ 2 * e
   pub octets : Octets p
   pub remainder : Remainder elements (generator e) (2 * e) (raised elements (2 * e) (polynomial elements (word u))) (polynomial elements (word p))
 
--- at least one octet of message, at most 255 in all, and the room for them
+-- at least one octet of message, no more in all than the longest word has, and the room for them
 abbrev pub encodes : ℕ → ℕ → ℕ → Bool
-encodes k e room = ltb 0 k && leb (k + 2 * e) 255 && leb (k + 2 * e) room
+encodes k e room = ltb 0 k && leb (k + 2 * e) longestWord && leb (k + 2 * e) room
 
 pub record Done (e : ℕ) (u before : List ℕ) (n : ℕ) (after : List ℕ) : Type 0 where
   pub parity : List ℕ

@@ -1,5 +1,6 @@
 pub mod Element
 pub mod CodeWord
+pub mod Array
 pub mod Encoding
 pub mod Register
 pub mod Repair

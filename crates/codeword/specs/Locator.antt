@@ -1,7 +1,7 @@
 -- What the locator step answers.
 --
---   Held s c b r l shift q    the state of Berlekamp and Massey's algorithm after r syndromes, as the code keeps it: the recurrence c
---                             of length l; the recurrence b from before l last grew, shifted since by `shift`; q, what b failed by
+--   MasseyStateIs s c b r l shift q    the state of Berlekamp and Massey's algorithm after r syndromes s, as the code keeps it: the
+--                             recurrence c of length l; b, the one from before l last grew, shifted since by `shift`; q, what b failed by
 --   discrepancyOf c s r l     c₀ sᵣ + c₁ s₍ᵣ₋₁₎ + .. + cₗ s₍ᵣ₋ₗ₎
 --   Mended top q n c b d      d is c + q x^n b, for the coefficients below `top`; the rest is as in c
 --   LocatorIs m s c l         c is the shortest recurrence for the first m of the syndromes s, and l its length
@@ -13,20 +13,21 @@ use Prim.Native.Nat.{ℕ, suc, _≤_, _<_}
 use lib.ListN.{length, getD}
 use Rattle.algebra.specs.Series.{Series}
 use Rattle.algebra.specs.Polynomial.{raised}
-use Rattle.algebra.proofs.Berlekamp.{State}
-use Rattle.algebra.proofs.Loop.{dot}
+use Rattle.algebra.specs.Massey.{MasseyState}
+use Rattle.algebra.specs.Convolution.{dot}
+use Rattle.field.specs.Octet.{size}
 use Rattle.codeword.specs.Element.{elements, element, octet}
-use Rattle.codeword.specs.CodeWord.{Octets}
+use Rattle.codeword.specs.CodeWord.{longestWord, Octets}
+use Rattle.codeword.specs.Array.{Array}
 use Rattle.codeword.specs.Places.{places}
 
-pub record Held (s c b : List ℕ) (r l shift q : ℕ) : Type 0 where
-  pub c-long : length c ≡ 255
-  pub b-long : length b ≡ 255
-  pub c-octets : Octets c
-  pub b-octets : Octets b
-  pub q-octet : q < 256
+pub record MasseyStateIs (s c b : List ℕ) (r l shift q : ℕ) : Type 0 where
+  pub s-long : length s ≡ longestWord
+  pub c-array : Array c
+  pub b-array : Array b
+  pub q-octet : q < size
   pub shift-small : shift ≤ suc r
-  pub state : State elements (places s) (places c) (raised elements shift (places b)) r l (element q)
+  pub state : MasseyState elements (places s) (places c) (raised elements shift (places b)) r l (element q)
 
 unfoldable pub discrepancyOf : List ℕ → List ℕ → ℕ → ℕ → ℕ
 discrepancyOf c s r l = octet (dot elements (places c) (places s) r (suc l))
@@ -38,8 +39,7 @@ pub record Mended (top q n : ℕ) (c b d : List ℕ) : Type 0 where
   pub left : (k : ℕ) → top ≤ k → getD d k 0 ≡ getD c k 0
 
 pub record LocatorIs (m : ℕ) (s c : List ℕ) (l : ℕ) : Type 0 where
-  pub long : length c ≡ 255
-  pub octets : Octets c
+  pub array : Array c
   pub B : Series elements
   pub q : elements .Carrier
-  pub state : State elements (places s) (places c) B m l q
+  pub state : MasseyState elements (places s) (places c) B m l q

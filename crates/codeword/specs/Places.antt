@@ -12,7 +12,8 @@ use lib.ListN.{length, getD}
 use Rattle.algebra.specs.Series.{Series}
 use Rattle.algebra.specs.Power.{pow}
 use Rattle.algebra.specs.Polynomial.{polynomial}
-use Rattle.algebra.proofs.Value.{ev}
+use Rattle.algebra.specs.Value.{ev}
+use Rattle.field.specs.Octet.{order}
 use Rattle.codeword.specs.Element.{elements, α}
 use Rattle.codeword.specs.CodeWord.{word}
 
@@ -23,7 +24,7 @@ unfoldable pub locators : ℕ → Series elements
 locators n p = pow elements α (n - suc p)
 
 unfoldable pub inverses : ℕ → Series elements
-inverses n p = pow elements α (255 - (n - suc p))
+inverses n p = pow elements α (order - (n - suc p))
 
 unfoldable pub value : List ℕ → elements .Carrier → elements .Carrier
 value w x = ev elements (length w) (polynomial elements (word w)) x

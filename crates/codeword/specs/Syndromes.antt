@@ -1,26 +1,27 @@
 -- What the syndrome step answers.
 --
---   SyndromesAre m w s    s₀, .., s₍ₘ₋₁₎ are the values of w's polynomial at α, .., αᵐ, and the rest is zero
---   PointsAre m x          x₀, .., x₍ₘ₋₁₎ are α, .., αᵐ
---   Absorbed m a x s t    one octet a of the word taken in: each s becomes x s + a
---   allZero m s           s₀, .., s₍ₘ₋₁₎ are zero
+--   SyndromesAre m w s        s₀, .., s₍ₘ₋₁₎ are the values of w's polynomial at α, .., αᵐ, and the rest is zero
+--   PointsAre m x             x₀, .., x₍ₘ₋₁₎ are α, .., αᵐ
+--   Absorbed m a x s t        one octet a of the word taken in: each s becomes x s + a
+--   Decodable e w before s    what decoding is given: a word of the code's lengths, the room for it, and its syndromes
+--   allZero m s               s₀, .., s₍ₘ₋₁₎ are zero
 --
 -- Assumes nothing.
 use mathlib.Core.Path.{_≡_}
 use mathlib.Core.Bool.{Bool, true, false, cond}
 use mathlib.Core.List.{List}
-use Prim.Native.Nat.{ℕ, zero, suc, _≤_, _<_}
+use Prim.Native.Nat.{ℕ, zero, suc, _*_, _≤_, _<_}
 use lib.Dec.{eqb}
 use lib.ListN.{length, getD}
 use Rattle.algebra.specs.Power.{pow}
 use Rattle.field.specs.Octet as Octet
 use Rattle.codeword.specs.Element.{elements, element, α}
-use Rattle.codeword.specs.CodeWord.{Octets}
+use Rattle.codeword.specs.CodeWord.{longestWord}
+use Rattle.codeword.specs.Array.{Array}
 use Rattle.codeword.specs.Places.{value}
 
 pub record PointsAre (m : ℕ) (x : List ℕ) : Type 0 where
-  pub long : length x ≡ 255
-  pub octets : Octets x
+  pub array : Array x
   pub used : (i : ℕ) → i < m → element (getD x i 0) ≡ pow elements α (suc i)
 
 pub record Absorbed (m a : ℕ) (x s t : List ℕ) : Type 0 where
@@ -29,10 +30,15 @@ pub record Absorbed (m a : ℕ) (x s t : List ℕ) : Type 0 where
   pub unused : (i : ℕ) → m ≤ i → getD t i 0 ≡ getD s i 0
 
 pub record SyndromesAre (m : ℕ) (w s : List ℕ) : Type 0 where
-  pub long : length s ≡ 255
-  pub octets : Octets s
+  pub array : Array s
   pub used : (i : ℕ) → i < m → element (getD s i 0) ≡ value w (pow elements α (suc i))
   pub unused : (i : ℕ) → m ≤ i → getD s i 0 ≡ 0
+
+pub record Decodable (e : ℕ) (w before s : List ℕ) : Type 0 where
+  pub short : length w ≤ longestWord
+  pub parity : 2 * e < length w
+  pub room : length w ≤ length before
+  pub syndromes : SyndromesAre (2 * e) w s
 
 unfoldable pub allZero : ℕ → List ℕ → Bool
 allZero zero s = true

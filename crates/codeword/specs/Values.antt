@@ -11,21 +11,20 @@ use mathlib.Core.List.{List}
 use Prim.Native.Nat.{ℕ, _<_}
 use lib.ListN.{length, getD}
 use Rattle.algebra.specs.Series as Ser
-use Rattle.algebra.proofs.Derivative.{deriv}
+use Rattle.algebra.specs.Derivative.{deriv}
 use Rattle.field.specs.Octet as Octet
 use Rattle.codeword.specs.Element.{elements, octet}
 use Rattle.codeword.specs.CodeWord.{Octets}
+use Rattle.codeword.specs.Array.{Array}
 use Rattle.codeword.specs.Places.{places, inverses}
 use Rattle.codeword.specs.Search.{valueOf}
 
 pub record EvaluatorIs (l : ℕ) (c s o : List ℕ) : Type 0 where
-  pub long : length o ≡ 255
-  pub octets : Octets o
+  pub array : Array o
   pub used : (k : ℕ) → k < l → places o k ≡ Ser._⊛_ elements (places c) (places s) k
 
 pub record DerivativeIs (l : ℕ) (c d : List ℕ) : Type 0 where
-  pub long : length d ≡ 255
-  pub octets : Octets d
+  pub array : Array d
   pub used : (k : ℕ) → k < l → places d k ≡ deriv elements (places c) k
 
 unfoldable pub errorOf : List ℕ → List ℕ → ℕ → ℕ → ℕ

@@ -1,17 +1,20 @@
 // Encoding, by the shift register of figure D.3/H.223.
+use crate::LONGEST_WORD;
+use field::TABLES;
 ghost use mathlib.Core.Path.{_≡_};
 ghost use Prim.Native.Nat.{_+_, _<_, _≤_};
 ghost use lib.ListN.{length};
 ghost use Rattle.field.specs.Octet.Table.{Tables};
+ghost use Rattle.codeword.specs.CodeWord.{longestWord};
 ghost use Rattle.codeword.specs.Register.{GeneratorIs, RegisterIs, Turned};
 
 // The coefficients of (x - α) .. (x - α^m), highest first, each from the one above it; zero where unused.
-pub(crate) fn generator(m: usize, t: &[u8; 511]) -> [u8; 255]
-    requires { ⌜ m < 255 ⌝ }
+pub(crate) fn generator(m: usize, t: &[u8; TABLES]) -> [u8; LONGEST_WORD]
+    requires { ⌜ m < longestWord ⌝ }
     requires { ⌜ Tables (now t) ⌝ }
-    ensures { λ r. ⌜ GeneratorIs m r ⌝ }
+    ensures { λ r. ⌜ GeneratorIs m (m + 1) r ⌝ }
 {
-    let mut g = [0u8; 255];
+    let mut g = [0u8; LONGEST_WORD];
     g[0] = 1;
     let last = field::power_by(m, t);
     let mut j = 1;
@@ -27,7 +30,7 @@ pub(crate) fn generator(m: usize, t: &[u8; 511]) -> [u8; 255]
 }
 
 // One turn of the register: every octet moves up by one, and the feedback times the generator is added.
-fn turn(p: &mut [u8], g: &[u8], m: usize, a: u8, t: &[u8; 511])
+fn turn(p: &mut [u8], g: &[u8], m: usize, a: u8, t: &[u8; TABLES])
     requires { ⌜ (m < length (now p)) × (m < length (now g)) ⌝ }
     requires { ⌜ Tables (now t) ⌝ }
     ensures { λ _. ⌜ Turned (now (g .entry)) m a (now (p .entry)) (now (p .exit)) ⌝ }
@@ -41,13 +44,13 @@ fn turn(p: &mut [u8], g: &[u8], m: usize, a: u8, t: &[u8; 511])
 }
 
 // The remainder of x^m times the message by (x - α) .. (x - α^m), highest coefficient first; zero where unused.
-pub(crate) fn parity(message: &[u8], m: usize, t: &[u8; 511]) -> [u8; 255]
-    requires { ⌜ m < 255 ⌝ }
+pub(crate) fn parity(message: &[u8], m: usize, t: &[u8; TABLES]) -> [u8; LONGEST_WORD]
+    requires { ⌜ m < longestWord ⌝ }
     requires { ⌜ Tables (now t) ⌝ }
     ensures { λ r. ⌜ RegisterIs m (now (message .entry)) r ⌝ }
 {
     let g = generator(m, t);
-    let mut p = [0u8; 255];
+    let mut p = [0u8; LONGEST_WORD];
     let mut i = 0;
     while i < message.len() {
         turn(&mut p, &g, m, message[i], t);

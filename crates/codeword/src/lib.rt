@@ -5,14 +5,18 @@ mod search;
 mod syndromes;
 mod values;
 
+use field::TABLES;
 ghost use lib.ListN.{length};
 ghost use mathlib.Core.Path.{_≡_};
 ghost use mathlib.Core.Bool.{true};
 ghost use Prim.Native.Nat.{_*_, _<_, _≤_};
 ghost use Rattle.field.specs.Octet.Table.{Tables};
 ghost use Rattle.codeword.specs.Encoding.{Encoded};
-ghost use Rattle.codeword.specs.Syndromes.{SyndromesAre};
+ghost use Rattle.codeword.specs.Syndromes.{Decodable};
 ghost use Rattle.codeword.specs.Repair.{Repaired};
+
+// The octets of the longest word (003, D.4.1.7.3): as many as α has powers.
+pub const LONGEST_WORD: usize = 255;
 
 // What a repair answers: a code word was found, this many octets of the word were changed for it; or none lies within reach.
 pub enum Reach {
@@ -21,7 +25,7 @@ pub enum Reach {
 }
 
 // The message and the 2e octets of its parity into the front of `sent`: how many octets that are. Where the message is empty, the
-// whole is over 255 octets, or `sent` is too short, 0, and nothing is written.
+// whole is longer than the longest word, or `sent` is too short, 0, and nothing is written.
 pub fn encode(message: &[u8], e: usize, sent: &mut [u8]) -> usize
     ensures { λ n. ⌜ Encoded e (now (message .entry)) (now (sent .entry)) n (now (sent .exit)) ⌝ }
 {
@@ -29,10 +33,10 @@ pub fn encode(message: &[u8], e: usize, sent: &mut [u8]) -> usize
     if k == 0 {
         return 0;
     }
-    if 255 < k {
+    if LONGEST_WORD < k {
         return 0;
     }
-    if (255 - k) / 2 < e {
+    if (LONGEST_WORD - k) / 2 < e {
         return 0;
     }
     let m = 2 * e;
@@ -47,8 +51,8 @@ pub fn encode(message: &[u8], e: usize, sent: &mut [u8]) -> usize
 }
 
 // The code word within e octets of a word with the syndromes s, if there is one.
-fn decode(received: &[u8], s: &[u8], e: usize, repaired: &mut [u8], t: &[u8; 511]) -> Reach
-    requires { ⌜ (length (now received) ≤ 255) × (2 * e < length (now received)) × (length (now received) ≤ length (now repaired)) × SyndromesAre (2 * e) (now received) (now s) ⌝ }
+fn decode(received: &[u8], s: &[u8], e: usize, repaired: &mut [u8], t: &[u8; TABLES]) -> Reach
+    requires { ⌜ Decodable e (now received) (now repaired) (now s) ⌝ }
     requires { ⌜ Tables (now t) ⌝ }
     ensures { λ r. ⌜ Repaired e (now (received .entry)) (now (repaired .entry)) r (now (repaired .exit)) ⌝ }
 {
@@ -73,12 +77,12 @@ fn decode(received: &[u8], s: &[u8], e: usize, repaired: &mut [u8], t: &[u8; 511
 }
 
 // The code word within e octets of the received word into the front of `repaired`, and how many octets were changed for it; or out of
-// reach, and nothing is written. Where the word is over 255 octets or not over 2e, or `repaired` is shorter, it is out of reach too.
+// reach, and nothing is written. Where the word is longer than the longest or not over 2e, or `repaired` is shorter, it is out of reach too.
 pub fn repair(received: &[u8], e: usize, repaired: &mut [u8]) -> Reach
     ensures { λ r. ⌜ Repaired e (now (received .entry)) (now (repaired .entry)) r (now (repaired .exit)) ⌝ }
 {
     let n = received.len();
-    if 255 < n {
+    if LONGEST_WORD < n {
         return Reach::OutOfReach;
     }
     if n == 0 {

@@ -1,9 +1,12 @@
 // Find the error locator: the algorithm of Berlekamp and Massey, for the shortest recurrence that the syndromes obey.
+use crate::LONGEST_WORD;
+use field::TABLES;
 ghost use mathlib.Core.Path.{_≡_};
 ghost use Prim.Native.Nat.{suc, _+_, _<_, _≤_};
 ghost use lib.ListN.{length};
 ghost use Rattle.field.specs.Octet.Table.{Tables};
-ghost use Rattle.codeword.specs.Locator.{Held, Mended, LocatorIs, discrepancyOf};
+ghost use Rattle.codeword.specs.CodeWord.{longestWord};
+ghost use Rattle.codeword.specs.Locator.{MasseyStateIs, Mended, LocatorIs, discrepancyOf};
 
 // What the loop keeps beside the recurrence c and the one from before its length last grew, b: the length of c, how far b is to be
 // shifted, and what b failed by.
@@ -15,12 +18,12 @@ pub struct Progress {
 
 // The shortest recurrence for the syndromes, from its constant coefficient on, zero where unused; and its length.
 pub struct Recurrence {
-    pub coefficients: [u8; 255],
+    pub coefficients: [u8; LONGEST_WORD],
     pub degree: usize,
 }
 
 // c[0] s[r] + c[1] s[r - 1] + .. + c[l] s[r - l]: what the recurrence c of length l fails by at r.
-pub(crate) fn discrepancy(c: &[u8], s: &[u8], r: usize, l: usize, t: &[u8; 511]) -> u8
+pub(crate) fn discrepancy(c: &[u8], s: &[u8], r: usize, l: usize, t: &[u8; TABLES]) -> u8
     requires { ⌜ (l ≤ r) × (r < length (now s)) × (l < length (now c)) ⌝ }
     requires { ⌜ Tables (now t) ⌝ }
     ensures { λ d. ⌜ d ≡ discrepancyOf (now (c .entry)) (now (s .entry)) r l ⌝ }
@@ -35,7 +38,7 @@ pub(crate) fn discrepancy(c: &[u8], s: &[u8], r: usize, l: usize, t: &[u8; 511])
 }
 
 // Adds q x^shift b to c, as far as the coefficients below top go.
-fn mend(c: &mut [u8], b: &[u8], q: u8, shift: usize, top: usize, t: &[u8; 511])
+fn mend(c: &mut [u8], b: &[u8], q: u8, shift: usize, top: usize, t: &[u8; TABLES])
     requires { ⌜ (shift ≤ top) × (top ≤ length (now c)) × (top ≤ length (now b)) ⌝ }
     requires { ⌜ Tables (now t) ⌝ }
     ensures { λ _. ⌜ Mended top q shift (now (c .entry)) (now (b .entry)) (now (c .exit)) ⌝ }
@@ -55,11 +58,11 @@ fn step(
     r: usize,
     top: usize,
     g: Progress,
-    t: &[u8; 511],
+    t: &[u8; TABLES],
 ) -> Progress
-    requires { ⌜ (r + 1 < top) × (top ≤ 255) × (length (now s) ≡ 255) × Held (now s) (now c) (now b) r (g .long) (g .shift) (g .failed) ⌝ }
+    requires { ⌜ (r + 1 < top) × (top ≤ longestWord) × MasseyStateIs (now s) (now c) (now b) r (g .long) (g .shift) (g .failed) ⌝ }
     requires { ⌜ Tables (now t) ⌝ }
-    ensures { λ o. ⌜ Held (now (s .entry)) (now (c .exit)) (now (b .exit)) (r + 1) (o .long) (o .shift) (o .failed) ⌝ }
+    ensures { λ o. ⌜ MasseyStateIs (now (s .entry)) (now (c .exit)) (now (b .exit)) (r + 1) (o .long) (o .shift) (o .failed) ⌝ }
 {
     let l = g.long;
     let shift = g.shift;
@@ -74,7 +77,7 @@ fn step(
     }
     let q = field::product_by(d, field::inverse_by(failed, t), t);
     if l + l <= r {
-        let mut old = [0u8; 255];
+        let mut old = [0u8; LONGEST_WORD];
         octets::write(&mut old, 0, c);
         mend(c, b, q, shift, top, t);
         octets::write(b, 0, &old);
@@ -93,14 +96,14 @@ fn step(
 }
 
 // The shortest recurrence for the first m syndromes.
-pub(crate) fn locator(s: &[u8], m: usize, t: &[u8; 511]) -> Recurrence
-    requires { ⌜ (m < 255) × (length (now s) ≡ 255) ⌝ }
+pub(crate) fn locator(s: &[u8], m: usize, t: &[u8; TABLES]) -> Recurrence
+    requires { ⌜ (m < longestWord) × (length (now s) ≡ longestWord) ⌝ }
     requires { ⌜ Tables (now t) ⌝ }
     ensures { λ r. ⌜ LocatorIs m (now (s .entry)) (r .coefficients) (r .degree) ⌝ }
 {
-    let mut c = [0u8; 255];
+    let mut c = [0u8; LONGEST_WORD];
     c[0] = 1;
-    let mut b = [0u8; 255];
+    let mut b = [0u8; LONGEST_WORD];
     b[0] = 1;
     let mut g = Progress {
         long: 0,

@@ -1,20 +1,24 @@
 // Search for the roots of the error locator among the inverses of the places' locators.
+use crate::LONGEST_WORD;
+use field::ORDER;
+use field::TABLES;
 ghost use mathlib.Core.Path.{_≡_};
 ghost use Prim.Native.Nat.{_<_, _≤_};
 ghost use lib.ListN.{length};
 ghost use Rattle.field.specs.Octet.Table.{Tables};
+ghost use Rattle.codeword.specs.CodeWord.{longestWord};
 ghost use Rattle.codeword.specs.Element.{octet};
 ghost use Rattle.codeword.specs.Places.{inverses};
 ghost use Rattle.codeword.specs.Search.{valueOf, SearchIs};
 
 // The places found, rising from the front; zero where unused.
 pub struct Places {
-    pub at: [u8; 255],
+    pub at: [u8; LONGEST_WORD],
     pub count: usize,
 }
 
 // c[0] + c[1] x + .. + c[n - 1] x^(n - 1), by Horner's rule.
-pub(crate) fn horner(c: &[u8], n: usize, x: u8, t: &[u8; 511]) -> u8
+pub(crate) fn horner(c: &[u8], n: usize, x: u8, t: &[u8; TABLES]) -> u8
     requires { ⌜ n ≤ length (now c) ⌝ }
     requires { ⌜ Tables (now t) ⌝ }
     ensures { λ r. ⌜ r ≡ valueOf (now (c .entry)) n x ⌝ }
@@ -29,21 +33,21 @@ pub(crate) fn horner(c: &[u8], n: usize, x: u8, t: &[u8; 511]) -> u8
 }
 
 // The inverse of the locator of place p of n.
-pub(crate) fn inverse_locator(n: usize, p: usize, t: &[u8; 511]) -> u8
-    requires { ⌜ (p < n) × (n ≤ 255) ⌝ }
+pub(crate) fn inverse_locator(n: usize, p: usize, t: &[u8; TABLES]) -> u8
+    requires { ⌜ (p < n) × (n ≤ longestWord) ⌝ }
     requires { ⌜ Tables (now t) ⌝ }
     ensures { λ r. ⌜ r ≡ octet (inverses n p) ⌝ }
 {
-    field::power_by(255 - (n - 1 - p), t)
+    field::power_by(ORDER - (n - 1 - p), t)
 }
 
 // All places of n at the inverse of whose locator the polynomial c, of degree at most l, is zero.
-pub(crate) fn search(c: &[u8], l: usize, n: usize, t: &[u8; 511]) -> Places
-    requires { ⌜ (l < length (now c)) × (n ≤ 255) ⌝ }
+pub(crate) fn search(c: &[u8], l: usize, n: usize, t: &[u8; TABLES]) -> Places
+    requires { ⌜ (l < length (now c)) × (n ≤ longestWord) ⌝ }
     requires { ⌜ Tables (now t) ⌝ }
     ensures { λ r. ⌜ SearchIs n n l (now (c .entry)) (r .at) (r .count) ⌝ }
 {
-    let mut at = [0u8; 255];
+    let mut at = [0u8; LONGEST_WORD];
     let mut count = 0;
     let mut p = 0;
     while p < n {

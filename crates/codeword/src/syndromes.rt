@@ -1,17 +1,20 @@
 // Form the syndromes: the values of the word's polynomial at α, .., α^m, all in one pass over the word, by Horner's rule.
+use crate::LONGEST_WORD;
+use field::TABLES;
 ghost use mathlib.Core.Path.{_≡_};
 ghost use Prim.Native.Nat.{_<_, _≤_};
 ghost use lib.ListN.{length};
 ghost use Rattle.field.specs.Octet.Table.{Tables};
+ghost use Rattle.codeword.specs.CodeWord.{longestWord};
 ghost use Rattle.codeword.specs.Syndromes.{PointsAre, Absorbed, SyndromesAre, allZero};
 
 // α, .., α^m; zero where unused.
-fn points(m: usize, t: &[u8; 511]) -> [u8; 255]
-    requires { ⌜ m < 255 ⌝ }
+fn points(m: usize, t: &[u8; TABLES]) -> [u8; LONGEST_WORD]
+    requires { ⌜ m < longestWord ⌝ }
     requires { ⌜ Tables (now t) ⌝ }
     ensures { λ r. ⌜ PointsAre m r ⌝ }
 {
-    let mut x = [0u8; 255];
+    let mut x = [0u8; LONGEST_WORD];
     let mut i = 0;
     while i < m {
         x[i] = field::power_by(i + 1, t);
@@ -21,7 +24,7 @@ fn points(m: usize, t: &[u8; 511]) -> [u8; 255]
 }
 
 // The octet a of the word taken into every syndrome.
-fn absorb(s: &mut [u8], x: &[u8], m: usize, a: u8, t: &[u8; 511])
+fn absorb(s: &mut [u8], x: &[u8], m: usize, a: u8, t: &[u8; TABLES])
     requires { ⌜ (m ≤ length (now s)) × (m ≤ length (now x)) ⌝ }
     requires { ⌜ Tables (now t) ⌝ }
     ensures { λ _. ⌜ Absorbed m a (now (x .entry)) (now (s .entry)) (now (s .exit)) ⌝ }
@@ -34,13 +37,13 @@ fn absorb(s: &mut [u8], x: &[u8], m: usize, a: u8, t: &[u8; 511])
 }
 
 // The m syndromes of a word; zero where unused.
-pub(crate) fn syndromes(word: &[u8], m: usize, t: &[u8; 511]) -> [u8; 255]
-    requires { ⌜ m < 255 ⌝ }
+pub(crate) fn syndromes(word: &[u8], m: usize, t: &[u8; TABLES]) -> [u8; LONGEST_WORD]
+    requires { ⌜ m < longestWord ⌝ }
     requires { ⌜ Tables (now t) ⌝ }
     ensures { λ r. ⌜ SyndromesAre m (now (word .entry)) r ⌝ }
 {
     let x = points(m, t);
-    let mut s = [0u8; 255];
+    let mut s = [0u8; LONGEST_WORD];
     let mut i = 0;
     while i < word.len() {
         absorb(&mut s, &x, m, word[i], t);

@@ -1,19 +1,22 @@
 // Find the error values by Forney's formula, and take the errors out of the word.
+use crate::LONGEST_WORD;
 use crate::locator;
 use crate::search;
+use field::TABLES;
 ghost use mathlib.Core.Path.{_≡_};
-ghost use Prim.Native.Nat.{ℕ, _<_, _≤_};
+ghost use Prim.Native.Nat.{ℕ, _+_, _<_, _≤_};
 ghost use lib.ListN.{length, getD};
 ghost use Rattle.field.specs.Octet.Table.{Tables};
+ghost use Rattle.codeword.specs.CodeWord.{longestWord};
 ghost use Rattle.codeword.specs.Values.{EvaluatorIs, DerivativeIs, errorOf, Corrected};
 
 // The error evaluator: the first l coefficients of the product of the locator c and the syndromes s; zero where unused.
-pub(crate) fn evaluator(c: &[u8], s: &[u8], l: usize, t: &[u8; 511]) -> [u8; 255]
-    requires { ⌜ (l < 255) × (length (now c) ≡ 255) × (length (now s) ≡ 255) ⌝ }
+pub(crate) fn evaluator(c: &[u8], s: &[u8], l: usize, t: &[u8; TABLES]) -> [u8; LONGEST_WORD]
+    requires { ⌜ (l < longestWord) × (length (now c) ≡ longestWord) × (length (now s) ≡ longestWord) ⌝ }
     requires { ⌜ Tables (now t) ⌝ }
     ensures { λ r. ⌜ EvaluatorIs l (now (c .entry)) (now (s .entry)) r ⌝ }
 {
-    let mut o = [0u8; 255];
+    let mut o = [0u8; LONGEST_WORD];
     let mut k = 0;
     while k < l {
         o[k] = locator::discrepancy(c, s, k, k, t);
@@ -23,11 +26,11 @@ pub(crate) fn evaluator(c: &[u8], s: &[u8], l: usize, t: &[u8; 511]) -> [u8; 255
 }
 
 // The first l coefficients of the locator's derivative: c[1], 0, c[3], 0, ..; zero where unused.
-pub(crate) fn derivative(c: &[u8], l: usize) -> [u8; 255]
-    requires { ⌜ (l < 254) × (length (now c) ≡ 255) ⌝ }
+pub(crate) fn derivative(c: &[u8], l: usize) -> [u8; LONGEST_WORD]
+    requires { ⌜ (l + 1 < longestWord) × (length (now c) ≡ longestWord) ⌝ }
     ensures { λ r. ⌜ DerivativeIs l (now (c .entry)) r ⌝ }
 {
-    let mut d = [0u8; 255];
+    let mut d = [0u8; LONGEST_WORD];
     let mut h = 0;
     while 2 * h < l {
         d[2 * h] = c[2 * h + 1];
@@ -37,7 +40,7 @@ pub(crate) fn derivative(c: &[u8], l: usize) -> [u8; 255]
 }
 
 // The error value at the point x: the evaluator's value over the derivative's.
-fn error(o: &[u8], d: &[u8], l: usize, x: u8, t: &[u8; 511]) -> u8
+fn error(o: &[u8], d: &[u8], l: usize, x: u8, t: &[u8; TABLES]) -> u8
     requires { ⌜ (l ≤ length (now o)) × (l ≤ length (now d)) ⌝ }
     requires { ⌜ Tables (now t) ⌝ }
     ensures { λ r. ⌜ r ≡ errorOf (now (o .entry)) (now (d .entry)) l x ⌝ }
@@ -57,9 +60,9 @@ pub(crate) fn correct(
     l: usize,
     o: &[u8],
     d: &[u8],
-    t: &[u8; 511],
+    t: &[u8; TABLES],
 )
-    requires { ⌜ (n ≤ 255) × (n ≤ length (now w)) × (l ≤ length (now at)) × (l ≤ length (now o)) × (l ≤ length (now d)) ⌝ }
+    requires { ⌜ (n ≤ longestWord) × (n ≤ length (now w)) × (l ≤ length (now at)) × (l ≤ length (now o)) × (l ≤ length (now d)) ⌝ }
     requires { ⌜ ((j : ℕ) → j < l → getD (now at) j 0 < n) ⌝ }
     requires { ⌜ ((i j : ℕ) → i < j → j < l → getD (now at) i 0 < getD (now at) j 0) ⌝ }
     requires { ⌜ Tables (now t) ⌝ }

@@ -1,10 +1,12 @@
 // Tries the code word on 003's example, on one octet with e = 127, and on the vectors A2 to A7 as far as they concern words.
+use codeword::LONGEST_WORD;
 use codeword::Reach;
+use field::ORDER;
 
-// The exponent below 255 of which a is α to it; 255 for 0, which is no power.
+// The exponent below α's order of which a is α to it; the order for 0, which is no power.
 fn exponent(a: u8) -> usize {
     let mut k = 0;
-    while k < 255 {
+    while k < ORDER {
         if field::power(k) == a {
             return k;
         }
@@ -17,16 +19,6 @@ fn exponent(a: u8) -> usize {
 fn write_power(a: u8) {
     io::write_all(1, b" \xce\xb1^");
     io::print_decimal(1, exponent(a) as u64);
-}
-
-// Writes octets as powers of α.
-fn write_powers(octets: &[u8]) {
-    let mut i = 0;
-    while i < octets.len() {
-        write_power(octets[i]);
-        i += 1;
-    }
-    end_line();
 }
 
 // The digit of a number below 16.
@@ -46,33 +38,33 @@ fn write_octet(a: u8) {
     io::write_all(1, &pair);
 }
 
-// Writes octets in hex.
-fn write_octets(octets: &[u8]) {
+// Writes octets on the rest of a line, in hex or as powers of α.
+fn write_octets(octets: &[u8], powers: bool) {
     let mut i = 0;
     while i < octets.len() {
-        write_octet(octets[i]);
+        if powers {
+            write_power(octets[i]);
+        } else {
+            write_octet(octets[i]);
+        }
         i += 1;
     }
-    end_line();
-}
-
-fn end_line() {
     io::write_all(1, b"\n");
 }
 
 // Encodes, and writes the code word.
 fn try_encode(message: &[u8], e: usize) {
-    let mut sent = [0u8; 255];
+    let mut sent = [0u8; LONGEST_WORD];
     let n = codeword::encode(message, e, &mut sent);
     io::write_all(1, b"encode");
-    if n <= 255 {
-        write_octets(&sent[..n]);
+    if n <= LONGEST_WORD {
+        write_octets(&sent[..n], false);
     }
 }
 
 // Repairs, and writes what was found.
 fn try_repair(word: &[u8], e: usize) {
-    let mut repaired = [0u8; 255];
+    let mut repaired = [0u8; LONGEST_WORD];
     let reach = codeword::repair(word, e, &mut repaired);
     let Reach::Found(changed) = reach else {
         io::write_all(1, b"repair: out of reach\n");
@@ -80,8 +72,8 @@ fn try_repair(word: &[u8], e: usize) {
     };
     io::write_all(1, b"repair: changed ");
     io::print_decimal(1, changed as u64);
-    if word.len() <= 255 {
-        write_octets(&repaired[..word.len()]);
+    if word.len() <= LONGEST_WORD {
+        write_octets(&repaired[..word.len()], false);
     }
 }
 
@@ -94,13 +86,13 @@ fn try_example() {
     let mut c = [0u8; 7];
     let _seven = codeword::encode(&u, 2, &mut c);
     io::write_all(1, b"u =");
-    write_powers(&u);
+    write_octets(&u, true);
     io::write_all(1, b"g =");
-    write_powers(&g);
+    write_octets(&g, true);
     io::write_all(1, b"p =");
-    write_powers(&c[3..7]);
+    write_octets(&c[3..7], true);
     io::write_all(1, b"c =");
-    write_powers(&c);
+    write_octets(&c, true);
 }
 
 // Changes every second octet of a slice.
@@ -112,16 +104,19 @@ fn damage(word: &mut [u8]) {
     }
 }
 
-// One octet with e = 127: 255 octets, of which 127 are then damaged.
+// The most octets that may be repaired: the longest word is then one octet and its parity.
+const MOST_REPAIRS: usize = 127;
+
+// One octet with that e: the longest word, of which as many octets are then damaged.
 fn try_longest() {
     let one = [0x5A];
-    let mut sent = [0u8; 255];
-    let n = codeword::encode(&one, 127, &mut sent);
+    let mut sent = [0u8; LONGEST_WORD];
+    let n = codeword::encode(&one, MOST_REPAIRS, &mut sent);
     io::write_all(1, b"one octet, e = 127: octets ");
     io::print_decimal(1, n as u64);
-    write_octets(&sent);
+    write_octets(&sent, false);
     damage(&mut sent);
-    try_repair(&sent, 127);
+    try_repair(&sent, MOST_REPAIRS);
 }
 
 fn main() {

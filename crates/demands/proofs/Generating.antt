@@ -21,7 +21,7 @@ use Rattle.field.specs.Octet.Table.{powers, powers-at}
 use Rattle.codeword.specs.Element.{elements, element, octet, α}
 use Rattle.codeword.specs.Element.Laws.{octet-lt, octet-element, octet-add, octet-mul, octet-nil, octet-one, octet-pow}
 use Rattle.codeword.specs.CodeWord.{Octets, word}
-use Rattle.codeword.proofs.Word.{word-length}
+use Rattle.codeword.proofs.Laws.{word-length}
 use Rattle.demands.proofs.Working.{times, product-times}
 
 abbrev pub shifted : (ℕ → ℕ) → ℕ → ℕ

@@ -10,11 +10,11 @@ use borrow.Author.Tests.{leb-true}
 use lib.Dec.{leb, ltb}
 use lib.ListN.{length, take, drop}
 use Rattle.octets.specs.Tests.{both-true}
-use Rattle.codeword.specs.CodeWord.{distance, Within}
+use Rattle.codeword.specs.CodeWord.{distance, Within, longestWord}
 use Rattle.codeword.specs.Repair.{Repaired}
 use Rattle.codeword.specs.declared.Reach.{Reach}
 use Rattle.codeword.specs.declared.Reach.the-variants as reach
-use Rattle.codeword.proofs.Theorems.{foundIsIt, neverSecond}
+use Rattle.codeword.proofs.Laws.{foundIsIt, neverSecond}
 use Rattle.adaptation.specs.Check.{agrees}
 use Rattle.adaptation.specs.Width.{kindAt}
 use Rattle.calls.specs.Refusal.{told, refusal}
@@ -27,11 +27,11 @@ use Rattle.adaptation.proofs.Laws.{refused-none}
 use Rattle.adaptation.proofs.Laws.{sentIsHandedUp, faultlessIsCodeWord, outOfReachExactly}
 use Rattle.demands.specs.Repairs.{Repairs, Demand3}
 
-short : (n e : ℕ) (w before : List ℕ) → refusal (receiveTests (length w) n e (length before)) ≡ told tt → length w ≤ 255
+short : (n e : ℕ) (w before : List ℕ) → refusal (receiveTests (length w) n e (length before)) ≡ told tt → length w ≤ longestWord
 unfolding isWord
 short n e w before a =
     let b = refused-none (isSetting n e) (isWord (length w) n e) (ltb (length before) (length w)) a .1 in
-    leb-true (length w) 255 (both-true (leb (length w) 255) (leb (1 + kindAt n .octets + 2 * e) (length w)) b .0)
+    leb-true (length w) longestWord (both-true (leb (length w) longestWord) (leb (1 + kindAt n .octets + 2 * e) (length w)) b .0)
 
 module _ (n e : ℕ) (w before after : List ℕ) (j : Judgement) (a : Receives n e w before (al1m.Unit j) after) where
   found : (x : Reach) → Repaired e w before x after → j .badge ≡ badgeOf (isBare (kindAt n) e) x (agrees (kindAt n) (take (length w - 2 * e) after))

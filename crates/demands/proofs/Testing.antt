@@ -24,11 +24,9 @@ use Rattle.algebra.specs.Power.{pow}
 use Rattle.field.specs.Octet.Table.{powers, powers-at}
 use Rattle.codeword.specs.Element.{elements, octet, α}
 use Rattle.codeword.specs.Element.Laws.{octet-same, octet-pow, octet-nil}
-use Rattle.codeword.specs.CodeWord.{Octets, CodeWord, distance, Within}
+use Rattle.codeword.specs.CodeWord.{Octets, CodeWord, distance, Within, longestWord}
 use Rattle.codeword.specs.Places.{value}
-use Rattle.codeword.proofs.Word.{value-none}
-use Rattle.codeword.proofs.Criterion.{codeWord-zero, zero-codeWord}
-use Rattle.codeword.proofs.Distance.{distance-zero}
+use Rattle.codeword.proofs.Laws.{value-none, codeWord-zero, zero-codeWord, distance-zero}
 use Rattle.demands.proofs.Working.{horner, horner-value}
 
 unfoldable pub isZeroAt : List ℕ → ℕ → Bool
@@ -38,7 +36,7 @@ unfoldable pub isCode : ℕ → List ℕ → Bool
 isCode e w = every (isZeroAt w) (2 * e)
 
 -- the test works out the value
-module _ (w : List ℕ) (o : Octets w) (i : ℕ) (h : suc i < 255) where
+module _ (w : List ℕ) (o : Octets w) (i : ℕ) (h : suc i < longestWord) where
   worked : horner (getD powers (suc i) 0) 0 w ≡ octet (value w (pow elements α (suc i)))
   worked =
       ap₂ (λ (x v : ℕ). horner x v w) (powers-at (suc i) h ∙ sym (octet-pow (suc i))) (sym (ap octet (value-none (pow elements α (suc i))) ∙ octet-nil))
@@ -48,13 +46,13 @@ all-every : (f : ℕ → Bool) (n : ℕ) → ((k : ℕ) → k < n → f k ≡ tr
 all-every f zero h = refl
 all-every f (suc n) h = ap₂ _&&_ (h n (omega arith)) (all-every f n (λ k l. h k (omega arith)))
 
-pub isCode-true : (e : ℕ) (w : List ℕ) → 2 * e < 255 → Octets w → T (isCode e w) → CodeWord e w
+pub isCode-true : (e : ℕ) (w : List ℕ) → 2 * e < longestWord → Octets w → T (isCode e w) → CodeWord e w
 unfolding isCode isZeroAt
 isCode-true e w h o t =
     zero-codeWord e w h o
     λ i l. octet-same _ _ (sym (worked w o i (omega arith)) ∙ eqb→eq _ 0 (every-at (isZeroAt w) (2 * e) t i l) ∙ sym octet-nil)
 
-pub isCode-false : (e : ℕ) (w : List ℕ) → 2 * e < 255 → isCode e w ≡ false → CodeWord e w → ⊥
+pub isCode-false : (e : ℕ) (w : List ℕ) → 2 * e < longestWord → isCode e w ≡ false → CodeWord e w → ⊥
 unfolding isCode isZeroAt
 isCode-false e w h f c =
     let all : every (isZeroAt w) (2 * e) ≡ true

@@ -6,7 +6,7 @@
 -- The others are proved where their promises are, and stand here under one roof.
 -- Assumes nothing.
 use mathlib.Core.Path.{_≡_, sym, _∙_}
-pub use Rattle.codeword.proofs.Theorems.{encodedUnique as codeword-encoded, repairedUnique as codeword-repaired}
+pub use Rattle.codeword.proofs.Laws.{encodedUnique as codeword-encoded, repairedUnique as codeword-repaired}
 pub use Rattle.calls.proofs.Laws.{length-once, lengths-once, outcome-once}
 pub use Rattle.adaptation.proofs.Laws.{encodedUnique as al1m-encoded, receivedUnique as al1m-received, passed-once, read-once, received-once}
 pub use Rattle.kyteblossom.proofs.Laws.{encode-once, receive-once}

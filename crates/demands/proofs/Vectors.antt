@@ -22,7 +22,7 @@ use Rattle.field.specs.Octet.Table.{powers, logs}
 use Rattle.codeword.specs.Element.{elements}
 use Rattle.codeword.specs.Element.Laws.{octet-same}
 use Rattle.codeword.specs.CodeWord as code
-use Rattle.codeword.specs.CodeWord.{Octets, distance, Within}
+use Rattle.codeword.specs.CodeWord.{Octets, distance, Within, longestWord}
 use Rattle.codeword.specs.Repair.{reads}
 use Rattle.codeword.specs.declared.Reach.the-variants as reach
 use Rattle.calls.specs.Refusal.{told, refusal}
@@ -47,7 +47,7 @@ use Rattle.demands.proofs.Generating.{coefficient, ofList, rooted-worke
 
 -- ---- receiving
 
-module _ (n e : ℕ) (w : List ℕ) (setting : isSetting n e ≡ true) (isOne : isWord (length w) n e ≡ true) (short : leb (length w) 255 ≡ true) (long : ltb (2 * e) (length w) ≡ true) where
+module _ (n e : ℕ) (w : List ℕ) (setting : isSetting n e ≡ true) (isOne : isWord (length w) n e ≡ true) (short : leb (length w) longestWord ≡ true) (long : ltb (2 * e) (length w) ≡ true) where
   module _ (before : List ℕ) (room : length w ≤ length before) where
     allowed : refusal (receiveTests (length w) n e (length before)) ≡ told tt
     allowed = refused-not (isSetting n e) (isWord (length w) n e) (ltb (length before) (length w)) setting isOne (le-ltb (length before) (length w) room)
@@ -115,7 +115,7 @@ octets-by [] t i = lit< tt
 octets-by (a ∷ w) t zero = ltb→lt a 256 (both-left (ltb a 256) (areOctets w) t)
 octets-by (a ∷ w) t (suc i) = octets-by w (both-right (ltb a 256) (areOctets w) t) i
 
-module _ (e : ℕ) (w c : List ℕ) (long : length c ≡ length w) (fits : 2 * e < 255) (octets : T (areOctets c)) (code : T (isCode e c)) (near : leb (distance w c) e ≡ true) where
+module _ (e : ℕ) (w c : List ℕ) (long : length c ≡ length w) (fits : 2 * e < longestWord) (octets : T (areOctets c)) (code : T (isCode e c)) (near : leb (distance w c) e ≡ true) where
   within-by : Within e w c
   within-by = record { long = long; code = isCode-true e c fits (octets-by c octets) code; near = leb-true (distance w c) e near }
 

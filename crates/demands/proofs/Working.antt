@@ -20,7 +20,7 @@ use Rattle.codeword.specs.Element.{elements, octet}
 use Rattle.codeword.specs.Element.Laws.{octet-lt, octet-element, octet-add, octet-mul}
 use Rattle.codeword.specs.CodeWord.{Octets}
 use Rattle.codeword.specs.Places.{value}
-use Rattle.codeword.proofs.Word.{value-snoc}
+use Rattle.codeword.proofs.Laws.{value-snoc}
 
 abbrev pub added : ℕ → ℕ → ℕ
 added i j = getD powers ((i + j) % 255) 0

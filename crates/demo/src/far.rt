@@ -11,6 +11,7 @@ use adaptation::al2;
 use channels::ChannelNumber;
 use channels::Channels;
 use channels::layers;
+use codeword::LONGEST_WORD;
 
 // What became of a unit: its badge's column, or 0 where it was not handed up; how many octets were repaired; whether it is what was
 // sent; and the channels behind it.
@@ -79,7 +80,7 @@ fn by_al2(
 // Whether the unit that AL1M hands up is what was sent.
 fn is_sent<'a>(
     part: &'a [u8],
-    repair: &'a [u8; al1m::LONGEST_WORD],
+    repair: &'a [u8; LONGEST_WORD],
     badge: Badge,
     length: usize,
     sent: &[u8],
@@ -95,7 +96,7 @@ fn by_al1m(
     length: usize,
     sent: &[u8],
 ) -> Verdict {
-    let mut repair = [0u8; al1m::LONGEST_WORD];
+    let mut repair = [0u8; LONGEST_WORD];
     let width = plan::width(channel);
     let e = plan::repairs(channel);
     let received = layers::al1m_at(output, start, length, width, e, &mut repair);
@@ -155,7 +156,7 @@ pub fn count(t: Tally, channel: u16, v: Verdict) -> Tally {
     if 0 < v.column {
         next = tally::add(next, channel, v.column, 1);
     }
-    if v.repaired <= al1m::LONGEST_WORD {
+    if v.repaired <= LONGEST_WORD {
         next = tally::add(next, channel, tally::REPAIRED, v.repaired as u32);
     }
     if is_wrongly_green(v) {

@@ -6,6 +6,7 @@ use channels::ChannelNumber;
 use channels::Channels;
 use channels::layers;
 use channels::layers::Sent;
+use codeword::LONGEST_WORD;
 
 // The octet i of a channel's unit.
 fn octet(channel: u16, round: usize, i: usize) -> u8 {
@@ -28,7 +29,7 @@ pub fn first(unit: &[u8; 128], n: usize) -> &[u8] {
 }
 
 // The unit with what its layer adds, at the front of out; and the channels behind it.
-fn code(s: Channels, channel: u16, unit: &[u8], out: &mut [u8; al1m::LONGEST_WORD]) -> Sent {
+fn code(s: Channels, channel: u16, unit: &[u8], out: &mut [u8; LONGEST_WORD]) -> Sent {
     if channel == plan::DATA {
         return layers::send(s, ChannelNumber(channel), true, unit, out);
     }
@@ -44,7 +45,7 @@ fn post_coded(
     s: Channels,
     channel: u16,
     length: Length,
-    out: &[u8; al1m::LONGEST_WORD],
+    out: &[u8; LONGEST_WORD],
     waiting: &mut [u8; channels::ALL_OCTETS],
 ) -> Channels {
     match length {
@@ -64,7 +65,7 @@ fn post_one(
     waiting: &mut [u8; channels::ALL_OCTETS],
 ) -> Channels {
     let mut unit = [0u8; 128];
-    let mut out = [0u8; al1m::LONGEST_WORD];
+    let mut out = [0u8; LONGEST_WORD];
     make(channel, round, &mut unit);
     let n = plan::unit_length(channel);
     if channel == plan::CONTROL {

@@ -5,9 +5,16 @@ ghost use Prim.Native.Nat.{_<_};
 ghost use Rattle.field.specs.Octet;
 ghost use Rattle.field.specs.Octet.Table;
 
+// How many elements there are; α's order, the number of its powers, which are all of them but 0; and the octets of both tables.
+pub const SIZE: usize = 256;
+
+pub const ORDER: usize = 255;
+
+pub const TABLES: usize = ORDER + SIZE;
+
 // Table D.I.1 of 003 in its order: entry k is α to the k. Its row "0" is the zero element and no power.
 // Each entry is twice the one before: 80, entry 7, doubles to 100, less 11D that is 1D, entry 8; the last, 8E, doubles to 01.
-const POWERS: [u8; 255] = *b"\
+const POWERS: [u8; ORDER] = *b"\
     \x01\x02\x04\x08\x10\x20\x40\x80\x1d\x3a\x74\xe8\xcd\x87\x13\x26\
     \x4c\x98\x2d\x5a\xb4\x75\xea\xc9\x8f\x03\x06\x0c\x18\x30\x60\xc0\
     \x9d\x27\x4e\x9c\x25\x4a\x94\x35\x6a\xd4\xb5\x77\xee\xc1\x9f\x23\
@@ -25,8 +32,8 @@ const POWERS: [u8; 255] = *b"\
     \x12\x24\x48\x90\x3d\x7a\xf4\xf5\xf7\xf3\xfb\xeb\xcb\x8b\x0b\x16\
     \x2c\x58\xb0\x7d\xfa\xe9\xcf\x83\x1b\x36\x6c\xd8\xad\x47\x8e";
 
-// Entry a is the k below 255 of which a is α to the k: 1D, which is entry 8 above, has 8 here. Entry 0 is not used.
-const LOGARITHMS: [u8; 256] = *b"\
+// Entry a is the k below the order of which a is α to the k: 1D, which is entry 8 above, has 8 here. Entry 0 is not used.
+const LOGARITHMS: [u8; SIZE] = *b"\
     \x00\x00\x01\x19\x02\x32\x1a\xc6\x03\xdf\x33\xee\x1b\x68\xc7\x4b\
     \x04\x64\xe0\x0e\x34\x8d\xef\x81\x1c\xc1\x69\xf8\xc8\x08\x4c\x71\
     \x05\x8a\x65\x2f\xe1\x24\x0f\x21\x35\x93\x8e\xda\xf0\x12\x82\x45\
@@ -53,35 +60,35 @@ pub fn sum(a: u8, b: u8) -> u8
 
 // Both tables, the powers and behind them the logarithms. A constant is laid out anew wherever it is used; whoever multiplies much lays
 // the tables out once by this and lends them to `power_by`, `product_by` and `inverse_by`.
-pub fn tables() -> [u8; 511]
+pub fn tables() -> [u8; TABLES]
     ensures { λ r. ⌜ Table.Tables r ⌝ }
 {
-    let mut t = [0u8; 511];
+    let mut t = [0u8; TABLES];
     let powers = POWERS;
     octets::write(&mut t, 0, &powers);
     let logarithms = LOGARITHMS;
-    octets::write(&mut t, 255, &logarithms);
+    octets::write(&mut t, ORDER, &logarithms);
     t
 }
 
 // α to the k.
-pub fn power_by(k: usize, t: &[u8; 511]) -> u8
+pub fn power_by(k: usize, t: &[u8; TABLES]) -> u8
     requires { ⌜ Table.Tables (now t) ⌝ }
     ensures { λ r. ⌜ r ≡ Octet.power Octet.α k ⌝ }
 {
-    t[k % 255]
+    t[k % ORDER]
 }
 
-// The k below 255 of which a is α to the k; at 0, which is no power, some number below 255.
-fn logarithm(a: u8, t: &[u8; 511]) -> u8
+// The k below the order of which a is α to the k; at 0, which is no power, some number below it.
+fn logarithm(a: u8, t: &[u8; TABLES]) -> u8
     requires { ⌜ Table.Tables (now t) ⌝ }
-    ensures { λ r. ⌜ (r < 255) × (0 < a → Octet.power Octet.α r ≡ a) ⌝ }
+    ensures { λ r. ⌜ (r < Octet.order) × (0 < a → Octet.power Octet.α r ≡ a) ⌝ }
 {
-    t[255 + a as usize]
+    t[ORDER + a as usize]
 }
 
-// a times b: logarithms add, modulo 255.
-pub fn product_by(a: u8, b: u8, t: &[u8; 511]) -> u8
+// a times b: logarithms add, modulo the order.
+pub fn product_by(a: u8, b: u8, t: &[u8; TABLES]) -> u8
     requires { ⌜ Table.Tables (now t) ⌝ }
     ensures { λ r. ⌜ r ≡ Octet.product a b ⌝ }
 {
@@ -92,18 +99,18 @@ pub fn product_by(a: u8, b: u8, t: &[u8; 511]) -> u8
         return 0;
     }
     let k = logarithm(a, t) as usize + logarithm(b, t) as usize;
-    if k < 255 { t[k] } else { t[k - 255] }
+    if k < ORDER { t[k] } else { t[k - ORDER] }
 }
 
 // The octet whose product with a is 1, and 0 for 0, which has none.
-pub fn inverse_by(a: u8, t: &[u8; 511]) -> u8
+pub fn inverse_by(a: u8, t: &[u8; TABLES]) -> u8
     requires { ⌜ Table.Tables (now t) ⌝ }
     ensures { λ r. ⌜ r ≡ Octet.inverse a ⌝ }
 {
     if a == 0 {
         return 0;
     }
-    power_by(255 - logarithm(a, t) as usize, t)
+    power_by(ORDER - logarithm(a, t) as usize, t)
 }
 
 // α to the k.

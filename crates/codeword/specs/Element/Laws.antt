@@ -1,11 +1,14 @@
 -- From octets to elements and back.
 --
---   octet-lt                          an octet is below 256
+--   octet-lt                          an element's octet is one
 --   octet-element, element-octet      each undoes the other
 --   octet-same                        two elements with the same octet are one
 --   octet-add, octet-mul, octet-inv   the operations, on octets
 --   octet-nil, octet-one, octet-pow   0, 1 and the powers of α
---   element-sum, element-product, element-inverse, element-zero, element-one
+--   element-sum, element-product,     .. and the other way
+--   element-inverse, element-power,
+--   element-zero, element-one
+--   element-ne                        an octet that is not 0 is not the element 0
 --
 -- Assumes nothing.
 use mathlib.Core.Path.{_≡_, refl, sym, ap, ap₂, _∙_}
@@ -14,16 +17,16 @@ use Prim.Native.Nat.{ℕ, zero, suc, _<_}
 use native.Mathlib.Nat.{mod-eq-of-lt}
 use lib.Dec.{lit<}
 use Rattle.algebra.specs.Power.{pow}
-use Rattle.algebra.proofs.PowerSum.{pow-zero, pow-suc}
+use Rattle.algebra.proofs.Laws.{pow-zero, pow-suc}
 use Rattle.field.specs.Octet as Octet
 use Rattle.field.specs.Octet.Laws.{power-zero, power-suc}
 use Rattle.codeword.specs.Element.{elements, element, octet, α, same-octet}
 
-pub octet-lt : (x : elements .Carrier) → octet x < 256
+pub octet-lt : (x : elements .Carrier) → octet x < Octet.size
 unfolding elements octet
 octet-lt x = x .1
 
-pub octet-element : (a : ℕ) → a < 256 → octet (element a) ≡ a
+pub octet-element : (a : ℕ) → a < Octet.size → octet (element a) ≡ a
 unfolding elements octet element
 octet-element a h = mod-eq-of-lt h
 
@@ -66,13 +69,13 @@ octet-pow (suc k) =
 by-octet : (x : elements .Carrier) (a : ℕ) → octet x ≡ a → element a ≡ x
 by-octet x a e = ap element (sym e) ∙ element-octet x
 
-pub element-sum : (a b : ℕ) → a < 256 → b < 256 → element (Octet.sum a b) ≡ elements .add (element a) (element b)
+pub element-sum : (a b : ℕ) → a < Octet.size → b < Octet.size → element (Octet.sum a b) ≡ elements .add (element a) (element b)
 element-sum a b h k = by-octet _ _ (octet-add _ _ ∙ ap₂ Octet.sum (octet-element a h) (octet-element b k))
 
-pub element-product : (a b : ℕ) → a < 256 → b < 256 → element (Octet.product a b) ≡ elements .mul (element a) (element b)
+pub element-product : (a b : ℕ) → a < Octet.size → b < Octet.size → element (Octet.product a b) ≡ elements .mul (element a) (element b)
 element-product a b h k = by-octet _ _ (octet-mul _ _ ∙ ap₂ Octet.product (octet-element a h) (octet-element b k))
 
-pub element-inverse : (a : ℕ) → a < 256 → element (Octet.inverse a) ≡ elements .inv (element a)
+pub element-inverse : (a : ℕ) → a < Octet.size → element (Octet.inverse a) ≡ elements .inv (element a)
 element-inverse a h = by-octet _ _ (octet-inv _ ∙ ap Octet.inverse (octet-element a h))
 
 pub element-power : (k : ℕ) → element (Octet.power Octet.α k) ≡ pow elements α k
@@ -84,5 +87,5 @@ element-zero = by-octet _ _ octet-nil
 pub element-one : element 1 ≡ elements .one
 element-one = by-octet _ _ octet-one
 
-pub element-ne : (a : ℕ) → a < 256 → a ≢ 0 → element a ≢ elements .nil
+pub element-ne : (a : ℕ) → a < Octet.size → a ≢ 0 → element a ≢ elements .nil
 element-ne a h n e = n (sym (octet-element a h) ∙ ap octet e ∙ octet-nil)

@@ -1,4 +1,4 @@
--- The inverse of α to the k is α to the 255 - k. Assumes nothing.
+-- The inverse of α to the k is α to the order less k. Assumes nothing.
 use borrow.Author.Needs.{needs}
 use mathlib.Core.Path.{_∙_, sym, ap}
 use native.Mathlib.Omega.{arith}
@@ -10,18 +10,6 @@ use Rattle.field.proofs.inverse_by.Tie as tie
 returns : tie.Need-returns
 returns c = sym (ap inverse (c .if1 .taken) ∙ inverse-zero)
 
-logarithm-requires : tie.Need-logarithm-requires
-logarithm-requires c κs = search needs
-
-cast-power-by : tie.Need-cast-power-by
-cast-power-by c = search needs
-
-sub-power-by : tie.Need-sub-power-by
-sub-power-by c = search needs
-
-power-by-requires : tie.Need-power-by-requires
-power-by-requires c κs = search needs
-
 returns-2 : tie.Need-returns-2
 returns-2 c =
     let k = c .before .logarithm in
@@ -30,4 +18,4 @@ returns-2 c =
 pub inverse-by-spec : {M : Type 1} → statement M
 inverse-by-spec =
     tie.close
-    (tie.spec returns logarithm-requires cast-power-by sub-power-by power-by-requires returns-2)
+    (tie.spec returns (λ c κs. search needs) (λ c. search needs) (λ c. search needs) (λ c κs. search needs) returns-2)

@@ -5,14 +5,9 @@ use Rattle.field.specs.Octet.Table.{tables-log}
 use Rattle.field.proofs.logarithm.Statement.{statement}
 use Rattle.field.proofs.logarithm.Tie as tie
 
-add-result : tie.Need-add-result
-add-result c = search needs
-
-element-copy-out-result : tie.Need-element-copy-out-result
-element-copy-out-result c = search needs
-
 returns : tie.Need-returns
 returns c = tables-log (now (c .before .args .t)) (c .before .pre) (c .before .args .a) (c .before .fits .a .fits)
 
 pub logarithm-spec : {M : Type 1} → statement M
-logarithm-spec = tie.close (tie.spec add-result element-copy-out-result returns)
+logarithm-spec =
+    tie.close (tie.spec (λ c. search needs) (λ c. search needs) returns)

@@ -1,21 +1,20 @@
--- Entry k modulo 255 of the table is α to the k. Assumes nothing.
+-- Entry k modulo the order of the table is α to the k. Assumes nothing.
 use borrow.Author.Needs.{needs}
 use mathlib.Core.Path.{_∙_}
 use Prim.Native.Nat.{_%_}
 use native.Mathlib.Omega.{arith}
 use denote.Ref.{now}
+use Rattle.field.specs.Octet.{order}
 use Rattle.field.specs.Octet.Laws.{power-wrap}
 use Rattle.field.specs.Octet.Table.{tables-power}
 use Rattle.field.proofs.power_by.Statement.{statement}
 use Rattle.field.proofs.power_by.Tie as tie
 
-element-copy-out-result : tie.Need-element-copy-out-result
-element-copy-out-result c = search needs
-
 returns : tie.Need-returns
 returns c =
     let a = c .before .args in
-    tables-power (now (a .t)) (c .before .pre) (a .k % 255) (omega arith) ∙ power-wrap (a .k)
+    tables-power (now (a .t)) (c .before .pre) (a .k % order) (omega arith) ∙ power-wrap (a .k)
 
 pub power-by-spec : {M : Type 1} → statement M
-power-by-spec = tie.close (tie.spec element-copy-out-result returns)
+power-by-spec =
+    tie.close (tie.spec (λ c. search needs) returns)

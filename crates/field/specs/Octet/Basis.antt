@@ -1,9 +1,10 @@
 -- An additive function is known by its values at 1, 2, 4, .., 128, which are 1, x, x², .., x^7.
 --
---   Additive f   f (a + b) = f a + f b
---   agree        two additive functions with the same values there agree at every octet
---   agree-two    .. and two of two arguments, additive in each
---   agree-three  .. and of three
+--   Additive f      f (a + b) = f a + f b
+--   additive-zero   f 0 = 0
+--   agree           two additive functions with the same values there agree at every octet
+--   agree-two       .. and two of two arguments, additive in each
+--   agree-three     .. and of three
 --
 -- Assumes nothing.
 use mathlib.Core.Path.{_≡_, refl, sym, ap, ap₂, _∙_, subst}
@@ -13,7 +14,7 @@ use native.Mathlib.Omega.{arith}
 use lib.Arith.{lt-one}
 use lib.Pow.{pow-pos, split}
 use lib.Bits.{bitXor, xor-shifted}
-use Rattle.field.specs.Octet.{sum}
+use Rattle.field.specs.Octet.{sum, size}
 use Rattle.field.specs.Octet.Sum.{sum-self, sum-xor}
 
 abbrev pub Additive : (ℕ → ℕ) → Type 0
@@ -47,14 +48,14 @@ module _ (f g : ℕ → ℕ) (hf : Additive f) (hg : Additive g) (same : (i : �
       (div-lt-iff-lt-mul (pow-pos k) .1 (subst (λ (x : ℕ). a < x) (pow-suc 2 k ∙ mul-comm (2 ^ k) 2) l))
       refl
 
-  pub agree : (a : ℕ) → a < 256 → f a ≡ g a
+  pub agree : (a : ℕ) → a < size → f a ≡ g a
   agree a h = below 8 (le-refl 8) a h
 
 pub agree-two : (f g : ℕ → ℕ → ℕ)
     → ((b : ℕ) → Additive (λ a. f a b)) → ((a : ℕ) → Additive (f a))
     → ((b : ℕ) → Additive (λ a. g a b)) → ((a : ℕ) → Additive (g a))
     → ((i j : ℕ) → i < 8 → j < 8 → f (2 ^ i) (2 ^ j) ≡ g (2 ^ i) (2 ^ j))
-    → (a b : ℕ) → a < 256 → b < 256 → f a b ≡ g a b
+    → (a b : ℕ) → a < size → b < size → f a b ≡ g a b
 agree-two f g f₁ f₂ g₁ g₂ same a b ha hb =
     agree (λ x. f x b) (λ x. g x b) (f₁ b) (g₁ b) (λ i hi. agree (f (2 ^ i)) (g (2 ^ i)) (f₂ (2 ^ i)) (g₂ (2 ^ i)) (λ j hj. same i j hi hj) b hb) a ha
 
@@ -62,7 +63,7 @@ pub agree-three : (f g : ℕ → ℕ → ℕ → ℕ)
     → ((b c : ℕ) → Additive (λ a. f a b c)) → ((a c : ℕ) → Additive (λ b. f a b c)) → ((a b : ℕ) → Additive (f a b))
     → ((b c : ℕ) → Additive (λ a. g a b c)) → ((a c : ℕ) → Additive (λ b. g a b c)) → ((a b : ℕ) → Additive (g a b))
     → ((i j k : ℕ) → i < 8 → j < 8 → k < 8 → f (2 ^ i) (2 ^ j) (2 ^ k) ≡ g (2 ^ i) (2 ^ j) (2 ^ k))
-    → (a b c : ℕ) → a < 256 → b < 256 → c < 256 → f a b c ≡ g a b c
+    → (a b c : ℕ) → a < size → b < size → c < size → f a b c ≡ g a b c
 agree-three f g f₁ f₂ f₃ g₁ g₂ g₃ same a b c ha hb hc =
     agree (λ x. f x b c) (λ x. g x b c) (f₁ b c) (g₁ b c)
     (λ i hi. agree-two (f (2 ^ i)) (g (2 ^ i)) (f₂ (2 ^ i)) (f₃ (2 ^ i)) (g₂ (2 ^ i)) (g₃ (2 ^ i)) (λ j k hj hk. same i j k hi hj hk) b c hb hc)

@@ -12,7 +12,7 @@ use mathlib.Core.Path.{_≡_, refl, sym, ap, _∙_}
 use Prim.Native.Nat.{ℕ, zero, suc, _+_, _*_, _<_}
 use native.Mathlib.Nat.{zero-add, suc-add, mul-zero, mul-suc, add-comm}
 use lib.Dec.{lit<}
-use Rattle.field.specs.Octet.{product, power}
+use Rattle.field.specs.Octet.{product, power, size}
 use Rattle.field.specs.Octet.Product.{product-octet}
 use Rattle.field.specs.Octet.Ring.{product-assoc, one-product}
 
@@ -24,7 +24,7 @@ pub power-suc : (a k : ℕ) → power a (suc k) ≡ product a (power a k)
 unfolding power
 power-suc a k = refl
 
-pub power-octet : (a k : ℕ) → power a k < 256
+pub power-octet : (a k : ℕ) → power a k < size
 unfolding power
 power-octet a zero = lit< tt
 power-octet a (suc k) = product-octet a (power a k)

@@ -1,9 +1,8 @@
 -- The product is commutative and associative, with 1 and 0. Both sides of each law are additive in each factor, so a computed
 -- test at 1, 2, 4, .., 128 shows it: 64 pairs for the one, 512 triples for the other.
 --
---   product-comm        commutative, associative, and the rule that keeps a product sorted
+--   product-comm        commutative, associative
 --   product-assoc
---   product-left-comm
 --   product-zero        0 and 1
 --   zero-product
 --   product-one
@@ -17,7 +16,7 @@ use Prim.Native.Nat.{ℕ, _%_, _^_, _<_}
 use native.Mathlib.Nat.{mod-mod}
 use lib.Dec.{T, eqb, eqb→eq}
 use Rattle.octets.specs.Every.{every, every-at, every-pair}
-use Rattle.field.specs.Octet.{sum, modulus, double, times, product, α}
+use Rattle.field.specs.Octet.{sum, modulus, double, times, product, α, size}
 use Rattle.field.specs.Octet.Product.{sum-product, product-sum, product-low, low-octet}
 use Rattle.field.specs.Octet.Basis.{additive-zero, agree-two, agree-three}
 
@@ -38,7 +37,7 @@ pub product-comm : (a b : ℕ) → product a b ≡ product b a
 product-comm a b =
     sym (product-low a b)
     ∙ agree-two product (λ a b. product b a) (λ b x y. sum-product x y b) product-sum product-sum (λ a x y. sum-product x y a) comm-basis
-    (a % 256) (b % 256) (low-octet a) (low-octet b)
+    (a % size) (b % size) (low-octet a) (low-octet b)
     ∙ product-low b a
 
 -- ---- associative
@@ -55,7 +54,7 @@ unfolding assoc-at
 assoc-basis i j k hi hj hk =
     eqb→eq _ _ (every-at (assoc-at i j) 8 (every-pair (λ i j. every (assoc-at i j) 8) 8 8 assoc-test i j hi hj) k hk)
 
-assoc-octets : (a b c : ℕ) → a < 256 → b < 256 → c < 256 → product (product a b) c ≡ product a (product b c)
+assoc-octets : (a b c : ℕ) → a < size → b < size → c < size → product (product a b) c ≡ product a (product b c)
 assoc-octets =
     agree-three (λ a b c. product (product a b) c) (λ a b c. product a (product b c))
     (λ b c x y. ap (λ (z : ℕ). product z c) (sum-product x y b) ∙ sum-product (product x b) (product y b) c)
@@ -66,17 +65,14 @@ assoc-octets =
     (λ a b x y. ap (product a) (product-sum b x y) ∙ product-sum a (product b x) (product b y))
     assoc-basis
 
-low-product : (a b : ℕ) → product (a % 256) b ≡ product a b
-low-product a b = sym (product-low (a % 256) b) ∙ ap (λ (x : ℕ). product x (b % 256)) (mod-mod a 256) ∙ product-low a b
+low-product : (a b : ℕ) → product (a % size) b ≡ product a b
+low-product a b = sym (product-low (a % size) b) ∙ ap (λ (x : ℕ). product x (b % size)) (mod-mod a size) ∙ product-low a b
 
 pub product-assoc : (a b c : ℕ) → product (product a b) c ≡ product a (product b c)
 product-assoc a b c =
-    ap (λ (x : ℕ). product x c) (sym (product-low a b)) ∙ product-comm _ c ∙ sym (low-product c _) ∙ product-comm (c % 256) _
-    ∙ assoc-octets (a % 256) (b % 256) (c % 256) (low-octet a) (low-octet b) (low-octet c)
-    ∙ ap (product (a % 256)) (product-low b c) ∙ low-product a (product b c)
-
-pub product-left-comm : (a b c : ℕ) → product a (product b c) ≡ product b (product a c)
-product-left-comm a b c = sym (product-assoc a b c) ∙ ap (λ (x : ℕ). product x c) (product-comm a b) ∙ product-assoc b a c
+    ap (λ (x : ℕ). product x c) (sym (product-low a b)) ∙ product-comm _ c ∙ sym (low-product c _) ∙ product-comm (c % size) _
+    ∙ assoc-octets (a % size) (b % size) (c % size) (low-octet a) (low-octet b) (low-octet c)
+    ∙ ap (product (a % size)) (product-low b c) ∙ low-product a (product b c)
 
 -- ---- zero, one and α
 
@@ -89,24 +85,24 @@ zero-product a = product-comm 0 a ∙ product-zero a
 one-at : ℕ → Bool
 one-at a = eqb (product 1 a) a
 
-one-test : T (every one-at 256)
+one-test : T (every one-at size)
 unfolding sum modulus double times product one-at
 one-test = tt
 
-pub one-product : (a : ℕ) → a < 256 → product 1 a ≡ a
+pub one-product : (a : ℕ) → a < size → product 1 a ≡ a
 unfolding one-at
-one-product a h = eqb→eq (product 1 a) a (every-at one-at 256 one-test a h)
+one-product a h = eqb→eq (product 1 a) a (every-at one-at size one-test a h)
 
-pub product-one : (a : ℕ) → a < 256 → product a 1 ≡ a
+pub product-one : (a : ℕ) → a < size → product a 1 ≡ a
 product-one a h = product-comm a 1 ∙ one-product a h
 
 alpha-at : ℕ → Bool
 alpha-at a = eqb (product α a) (double a)
 
-alpha-test : T (every alpha-at 256)
+alpha-test : T (every alpha-at size)
 unfolding sum modulus double times product alpha-at
 alpha-test = tt
 
-pub alpha-product : (a : ℕ) → a < 256 → product α a ≡ double a
+pub alpha-product : (a : ℕ) → a < size → product α a ≡ double a
 unfolding alpha-at
-alpha-product a h = eqb→eq (product α a) (double a) (every-at alpha-at 256 alpha-test a h)
+alpha-product a h = eqb→eq (product α a) (double a) (every-at alpha-at size alpha-test a h)

@@ -1,14 +1,12 @@
 -- The laws of the sum, which hold of all numbers, and of doubling an octet.
 --
 --   sum-xor          the sum is the code's `^`
---   sum-assoc        associative, commutative, and as two rules that keep a sum sorted
+--   sum-assoc        associative, commutative, and as two rules for three and four terms
 --   sum-comm
 --   sum-left-comm
 --   sum-swap
 --   sum-zero         0 changes nothing
---   zero-sum
 --   sum-self         each number is its own negative
---   sum-left-self
 --   sum-octet        the sum of two octets is an octet
 --   sum-low          low octets, halves and lowest bits pass through the sum
 --   sum-half
@@ -26,7 +24,7 @@ use native.Mathlib.Omega.{arith}
 use lib.Dec.{T, ltb, ltb→lt, lit<}
 use lib.Bits.{bitXor, xor-comm, xor-self, xor-zero-r, xor-lt, xor-mod, xor-shr}
 use Rattle.octets.specs.Every.{every, every-at}
-use Rattle.field.specs.Octet.{sum, modulus, double}
+use Rattle.field.specs.Octet.{sum, modulus, double, size}
 use Rattle.field.specs.Octet.Xor.{bit-lt, xor-assoc, xor-half, xor-odd, xor-twice, differ-scale, xor-bits}
 
 pub sum-xor : (a b : ℕ) → sum a b ≡ bitXor a b
@@ -51,22 +49,15 @@ pub sum-zero : (a : ℕ) → sum a 0 ≡ a
 unfolding sum
 sum-zero = xor-zero-r
 
-pub zero-sum : (a : ℕ) → sum 0 a ≡ a
-unfolding sum
-zero-sum a = refl
-
 pub sum-self : (a : ℕ) → sum a a ≡ 0
 unfolding sum
 sum-self = xor-self
 
-pub sum-left-self : (a b : ℕ) → sum a (sum a b) ≡ b
-sum-left-self a b = sym (sum-assoc a a b) ∙ ap (λ (x : ℕ). sum x b) (sum-self a) ∙ zero-sum b
-
-pub sum-octet : (a b : ℕ) → a < 256 → b < 256 → sum a b < 256
+pub sum-octet : (a b : ℕ) → a < size → b < size → sum a b < size
 unfolding sum
 sum-octet = xor-lt 8
 
-pub sum-low : (a b : ℕ) → sum a b % 256 ≡ sum (a % 256) (b % 256)
+pub sum-low : (a b : ℕ) → sum a b % size ≡ sum (a % size) (b % size)
 unfolding sum
 sum-low a b = xor-mod a b 8
 
@@ -89,20 +80,20 @@ sum-bit a b c = ap (λ (x : ℕ). x * c) (xor-odd a b) ∙ differ-scale (a % 2) 
 -- ---- doubling
 
 double-fits : ℕ → Bool
-double-fits a = ltb (double a) 256
+double-fits a = ltb (double a) size
 
-double-test : T (every double-fits 256)
+double-test : T (every double-fits size)
 unfolding sum modulus double double-fits
 double-test = tt
 
-pub double-octet : (a : ℕ) → a < 256 → double a < 256
+pub double-octet : (a : ℕ) → a < size → double a < size
 unfolding double-fits
-double-octet a h = ltb→lt (double a) 256 (every-at double-fits 256 double-test a h)
+double-octet a h = ltb→lt (double a) size (every-at double-fits size double-test a h)
 
-top : {a : ℕ} → a < 256 → a / 128 < 2
+top : {a : ℕ} → a < size → a / 128 < 2
 top h = div-lt-iff-lt-mul (lit< tt) .1 h
 
-pub double-sum : (a b : ℕ) → a < 256 → b < 256 → double (sum a b) ≡ sum (double a) (double b)
+pub double-sum : (a b : ℕ) → a < size → b < size → double (sum a b) ≡ sum (double a) (double b)
 unfolding sum double
 double-sum a b ha hb =
     ap₂ bitXor (xor-twice a b)

@@ -1,15 +1,16 @@
 -- Table D.I.1 (003, appendix I), and the table of logarithms that undoes it.
 --
---   powers          the 255 entries of Table D.I.1 in their order, from α⁰ on; its row "0" is the zero element and no power.
+--   powers          the entries of Table D.I.1 in their order, from α⁰ on; its row "0" is the zero element and no power.
 --                   One worked: entry 7 is 80; twice 80 is 100, less the modulus 11D that is 1D, which is entry 8.
---   logs            entry a is the k below 255 of which a is αᵏ; entry 0 is not used, and is 0
+--   logs            entry a is the k below the order of which a is αᵏ; entry 0 is not used, and is 0
 --   Tables t        t is both tables, the powers and behind them the logarithms
 --   powers-double   each entry is twice the one before; the last, 8E, doubles to the first, 01
 --   powers-at       entry k is αᵏ
---   alpha-around    α²⁵⁵ = 1
---   logs-lt         a logarithm is below 255
+--   alpha-around    α to the order is 1
+--   logs-lt         a logarithm is below the order
 --   logs-power      the logarithm of αᵏ is k
 --   power-logs      α to the logarithm of a is a
+--   tables-both     both tables behind each other are t
 --   tables-power    what stands where in t
 --   tables-log
 --
@@ -17,13 +18,13 @@
 use mathlib.Core.Path.{_≡_, refl, sym, ap, _∙_}
 use mathlib.Core.Bool.{Bool}
 use mathlib.Core.List.{List, [], _∷_, _++_}
-use Prim.Native.Nat.{ℕ, zero, suc, _+_, _%_, _<_}
+use Prim.Native.Nat.{ℕ, zero, suc, _+_, _-_, _%_, _<_}
 use native.Mathlib.Nat.{le-trans, le-suc, le-of-suc-le-suc, not-suc-le-zero, mod-eq-of-lt}
 use lib.Dec.{T, eqb, eqb→eq, ltb, ltb→lt, lit<}
 use lib.ListN.{length, getD, List·getD-append}
 use lib.Seq.{getD-append-add}
 use Rattle.octets.specs.Every.{every, every-at}
-use Rattle.field.specs.Octet.{sum, modulus, double, α, power}
+use Rattle.field.specs.Octet.{sum, modulus, double, α, power, order, size}
 use Rattle.field.specs.Octet.Ring.{alpha-product}
 use Rattle.field.specs.Octet.Power.{power-zero, power-suc, power-octet}
 
@@ -71,68 +72,68 @@ Tables t = t ≡ powers ++ logs
 -- ---- the powers
 
 double-at : ℕ → Bool
-double-at k = eqb (getD powers (suc k % 255) 0) (double (getD powers k 0))
+double-at k = eqb (getD powers (suc k % order) 0) (double (getD powers k 0))
 
-double-test : T (every double-at 255)
+double-test : T (every double-at order)
 unfolding sum modulus double powers double-at
 double-test = tt
 
-pub powers-double : (k : ℕ) → k < 255 → getD powers (suc k % 255) 0 ≡ double (getD powers k 0)
+pub powers-double : (k : ℕ) → k < order → getD powers (suc k % order) 0 ≡ double (getD powers k 0)
 unfolding double-at
-powers-double k h = eqb→eq _ _ (every-at double-at 255 double-test k h)
+powers-double k h = eqb→eq _ _ (every-at double-at order double-test k h)
 
 powers-first : getD powers 0 0 ≡ 1
 unfolding powers
 powers-first = refl
 
-pub powers-at : (k : ℕ) → k < 255 → getD powers k 0 ≡ power α k
+pub powers-at : (k : ℕ) → k < order → getD powers k 0 ≡ power α k
 powers-at zero h = powers-first ∙ sym (power-zero α)
 powers-at (suc k) h =
-    let l : k < 255 = le-trans (le-suc (suc k)) h in
+    let l : k < order = le-trans (le-suc (suc k)) h in
     ap (λ (m : ℕ). getD powers m 0) (sym (mod-eq-of-lt h)) ∙ powers-double k l ∙ ap double (powers-at k l)
     ∙ sym (alpha-product (power α k) (power-octet α k)) ∙ sym (power-suc α k)
 
-pub alpha-around : power α 255 ≡ 1
+pub alpha-around : power α order ≡ 1
 alpha-around =
-    power-suc α 254 ∙ alpha-product (power α 254) (power-octet α 254) ∙ ap double (sym (powers-at 254 (lit< tt)))
-    ∙ sym (powers-double 254 (lit< tt)) ∙ powers-first
+    power-suc α (order - 1) ∙ alpha-product (power α (order - 1)) (power-octet α (order - 1)) ∙ ap double (sym (powers-at (order - 1) (lit< tt)))
+    ∙ sym (powers-double (order - 1) (lit< tt)) ∙ powers-first
 
 -- ---- the logarithms
 
 logs-fit : ℕ → Bool
-logs-fit a = ltb (getD logs a 0) 255
+logs-fit a = ltb (getD logs a 0) order
 
-logs-test : T (every logs-fit 256)
+logs-test : T (every logs-fit size)
 unfolding logs logs-fit
 logs-test = tt
 
-pub logs-lt : (a : ℕ) → a < 256 → getD logs a 0 < 255
+pub logs-lt : (a : ℕ) → a < size → getD logs a 0 < order
 unfolding logs-fit
-logs-lt a h = ltb→lt _ _ (every-at logs-fit 256 logs-test a h)
+logs-lt a h = ltb→lt _ _ (every-at logs-fit size logs-test a h)
 
 back-at : ℕ → Bool
 back-at k = eqb (getD logs (getD powers k 0) 0) k
 
-back-test : T (every back-at 255)
+back-test : T (every back-at order)
 unfolding powers logs back-at
 back-test = tt
 
-pub logs-power : (k : ℕ) → k < 255 → getD logs (power α k) 0 ≡ k
+pub logs-power : (k : ℕ) → k < order → getD logs (power α k) 0 ≡ k
 unfolding back-at
-logs-power k h = ap (λ (x : ℕ). getD logs x 0) (sym (powers-at k h)) ∙ eqb→eq _ _ (every-at back-at 255 back-test k h)
+logs-power k h = ap (λ (x : ℕ). getD logs x 0) (sym (powers-at k h)) ∙ eqb→eq _ _ (every-at back-at order back-test k h)
 
 forth-at : ℕ → Bool
 forth-at a = eqb (getD powers (getD logs (suc a) 0) 0) (suc a)
 
-forth-test : T (every forth-at 255)
+forth-test : T (every forth-at order)
 unfolding powers logs forth-at
 forth-test = tt
 
-pub power-logs : (a : ℕ) → 0 < a → a < 256 → power α (getD logs a 0) ≡ a
+pub power-logs : (a : ℕ) → 0 < a → a < size → power α (getD logs a 0) ≡ a
 unfolding forth-at
 power-logs zero p h = absurd (not-suc-le-zero p)
 power-logs (suc a) p h =
-    sym (powers-at (getD logs (suc a) 0) (logs-lt (suc a) h)) ∙ eqb→eq _ _ (every-at forth-at 255 forth-test a (le-of-suc-le-suc h))
+    sym (powers-at (getD logs (suc a) 0) (logs-lt (suc a) h)) ∙ eqb→eq _ _ (every-at forth-at order forth-test a (le-of-suc-le-suc h))
 
 -- ---- both tables
 
@@ -140,20 +141,21 @@ pub tables-both : (t : List ℕ) → t ≡ powers ++ logs → Tables t
 unfolding Tables
 tables-both t e = e
 
-powers-long : length powers ≡ 255
+powers-long : length powers ≡ order
 unfolding powers
 powers-long = refl
 
-tables-front : (t : List ℕ) → Tables t → (k : ℕ) → k < 255 → getD t k 0 ≡ getD powers k 0
+tables-front : (t : List ℕ) → Tables t → (k : ℕ) → k < order → getD t k 0 ≡ getD powers k 0
 unfolding Tables
 tables-front t e k h = ap (λ (l : List ℕ). getD l k 0) e ∙ List·getD-append powers logs 0 k (rw powers-long h)
 
-pub tables-power : (t : List ℕ) → Tables t → (k : ℕ) → k < 255 → getD t k 0 ≡ power α k
+pub tables-power : (t : List ℕ) → Tables t → (k : ℕ) → k < order → getD t k 0 ≡ power α k
 tables-power t h k l = tables-front t h k l ∙ powers-at k l
 
-tables-back : (t : List ℕ) → Tables t → (a : ℕ) → getD t (255 + a) 0 ≡ getD logs a 0
+tables-back : (t : List ℕ) → Tables t → (a : ℕ) → getD t (order + a) 0 ≡ getD logs a 0
 unfolding Tables
-tables-back t e a = ap (λ (l : List ℕ). getD l (255 + a) 0) e ∙ ap (λ (n : ℕ). getD (powers ++ logs) (n + a) 0) (sym powers-long) ∙ getD-append-add powers logs a 0
+tables-back t e a =
+    ap (λ (l : List ℕ). getD l (order + a) 0) e ∙ ap (λ (n : ℕ). getD (powers ++ logs) (n + a) 0) (sym powers-long) ∙ getD-append-add powers logs a 0
 
-pub tables-log : (t : List ℕ) → Tables t → (a : ℕ) → a < 256 → (getD t (255 + a) 0 < 255) × (0 < a → power α (getD t (255 + a) 0) ≡ a)
+pub tables-log : (t : List ℕ) → Tables t → (a : ℕ) → a < size → (getD t (order + a) 0 < order) × (0 < a → power α (getD t (order + a) 0) ≡ a)
 tables-log t h a l = rw (tables-back t h a) (logs-lt a l, λ p. power-logs a p l)

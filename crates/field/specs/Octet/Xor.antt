@@ -1,5 +1,6 @@
 -- What the library lacks of exclusive or.
 --
+--   bit-lt         a number's lowest bit is a bit
 --   xor-assoc      associative
 --   xor-half       half of it, and its lowest bit, come from the halves and the lowest bits
 --   xor-odd

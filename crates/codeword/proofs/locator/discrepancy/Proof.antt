@@ -16,27 +16,6 @@ abbrev μ-loop : tie.MeasureT-loop
 loop-holds : tie.Need-loop-holds Inv-loop μ-loop
 loop-holds c = (search needs, sym (discrepancy-start _ _ _))
 
-shared-slice-read-product-by : tie.Need-shared-slice-read-product-by Inv-loop μ-loop
-shared-slice-read-product-by c = search needs
-
-sub-product-by : tie.Need-sub-product-by Inv-loop μ-loop
-sub-product-by c = search needs
-
-shared-slice-read-product-by-2 : tie.Need-shared-slice-read-product-by-2 Inv-loop μ-loop
-shared-slice-read-product-by-2 c = search needs
-
-product-by-requires : tie.Need-product-by-requires Inv-loop μ-loop
-product-by-requires c κs = search needs
-
-sum-requires : tie.Need-sum-requires Inv-loop μ-loop
-sum-requires c κs = search needs
-
-add-j : tie.Need-add-j Inv-loop μ-loop
-add-j c = search needs
-
-loop-less : tie.Need-loop-less Inv-loop μ-loop
-loop-less c = search needs
-
 loop-again : tie.Need-loop-again Inv-loop μ-loop
 loop-again c =
     let l = c .before .before .before .before .before .loop in
@@ -52,16 +31,5 @@ returns c = c .before .loop .inv .1 ∙ discrepancy-is _ _ _ _ (c .before .loop 
 pub discrepancy-spec : {M : Type 1} → statement M
 discrepancy-spec =
     tie.close
-    (tie.spec
-    Inv-loop
-    μ-loop
-    loop-holds
-    shared-slice-read-product-by
-    sub-product-by
-    shared-slice-read-product-by-2
-    product-by-requires
-    sum-requires
-    add-j
-    loop-less
-    loop-again
-    returns)
+    (tie.spec Inv-loop μ-loop loop-holds (λ c. search needs) (λ c. search needs) (λ c. search needs) (λ c κs. search needs)
+    (λ c κs. search needs) (λ c. search needs) (λ c. search needs) loop-again returns)

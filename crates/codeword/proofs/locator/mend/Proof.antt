@@ -3,7 +3,6 @@ use borrow.Author.Needs.{needs}
 use mathlib.Core.Path.{_≡_}
 use Prim.Native.Nat.{_-_, _≤_}
 use native.Mathlib.Omega.{arith}
-use denote.Ref.{now}
 use Rattle.codeword.proofs.Mending.{mended-start, mended-next}
 use Rattle.codeword.specs.Locator.{Mended}
 use Rattle.codeword.proofs.locator.mend.Statement.{statement}
@@ -16,31 +15,7 @@ abbrev μ-loop : tie.MeasureT-loop
 μ-loop c₀ b q shift top t j₀ c j = top - j
 
 loop-holds : tie.Need-loop-holds Inv-loop μ-loop
-loop-holds c = (search needs, search needs, mended-start _ _ _ _ (λ i. c .before .slice-known .given i .fits))
-
-slice-read-sum : tie.Need-slice-read-sum Inv-loop μ-loop
-slice-read-sum c = search needs
-
-sub-product-by : tie.Need-sub-product-by Inv-loop μ-loop
-sub-product-by c = search needs
-
-shared-slice-read-product-by : tie.Need-shared-slice-read-product-by Inv-loop μ-loop
-shared-slice-read-product-by c = search needs
-
-product-by-requires : tie.Need-product-by-requires Inv-loop μ-loop
-product-by-requires c κs = search needs
-
-sum-requires : tie.Need-sum-requires Inv-loop μ-loop
-sum-requires c κs = search needs
-
-slice-write-c : tie.Need-slice-write-c Inv-loop μ-loop
-slice-write-c c = search needs
-
-add-j : tie.Need-add-j Inv-loop μ-loop
-add-j c = search needs
-
-loop-less : tie.Need-loop-less Inv-loop μ-loop
-loop-less c = search needs
+loop-holds c = (search needs, search needs, mended-start (λ i. c .before .slice-known .given i .fits))
 
 loop-again : tie.Need-loop-again Inv-loop μ-loop
 loop-again c =
@@ -48,12 +23,10 @@ loop-again c =
     let a = c .before .before .before .before .before .before .before .before .args in (
       search needs,
       search needs,
-      mended-next _ _ (l .j) _ _ (now (a .b)) (l .c) (l .inv .2) (l .inv .0) (omega arith) (c .before .before .before .before .before .before .before .before .fits .q .fits)
+      mended-next (l .inv .2) (l .inv .0) (omega arith)
+          (c .before .before .before .before .before .before .before .before .fits .q .fits)
           (c .before .before .shared-slice-known2 .given (l .j - a .shift) .fits) (cc),
     )
-
-same-length : tie.Need-same-length Inv-loop μ-loop
-same-length c = search needs
 
 returns : tie.Need-returns Inv-loop μ-loop
 returns c =
@@ -63,18 +36,5 @@ returns c =
 pub mend-spec : {M : Type 1} → statement M
 mend-spec =
     tie.close
-    (tie.spec
-    Inv-loop
-    μ-loop
-    loop-holds
-    slice-read-sum
-    sub-product-by
-    shared-slice-read-product-by
-    product-by-requires
-    sum-requires
-    slice-write-c
-    add-j
-    loop-less
-    loop-again
-    same-length
-    returns)
+    (tie.spec Inv-loop μ-loop loop-holds (λ c. search needs) (λ c. search needs) (λ c. search needs) (λ c κs. search needs)
+    (λ c κs. search needs) (λ c. search needs) (λ c. search needs) (λ c. search needs) loop-again (λ c. search needs) returns)

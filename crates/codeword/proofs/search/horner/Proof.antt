@@ -16,28 +16,15 @@ abbrev μ-loop : tie.MeasureT-loop
 loop-holds : tie.Need-loop-holds Inv-loop μ-loop
 loop-holds c = (search needs, sym (horner-start _ _ _))
 
-sub-i : tie.Need-sub-i Inv-loop μ-loop
-sub-i c = search needs
-
-product-by-requires : tie.Need-product-by-requires Inv-loop μ-loop
-product-by-requires c κs = search needs
-
-shared-slice-read-sum : tie.Need-shared-slice-read-sum Inv-loop μ-loop
-shared-slice-read-sum c = search needs
-
-sum-requires : tie.Need-sum-requires Inv-loop μ-loop
-sum-requires c κs = search needs
-
-loop-less : tie.Need-loop-less Inv-loop μ-loop
-loop-less c = search needs
-
 loop-again : tie.Need-loop-again Inv-loop μ-loop
 loop-again c =
     let l = c .before .before .before .before .loop in
     let a = c .before .before .before .before .before .before .args in
     let e : l .i - 1 + 1 ≡ l .i = omega arith in (
       search needs,
-      c .sum .ensures ∙ (rw (c .before .before .product-by .ensures, l .inv .1) (sym (horner-next _ _ _ (l .i - 1) (search needs) (c .before .shared-slice-known2 .given (l .i - 1) .fits)
+      c .sum .ensures
+          ∙ (rw (c .before .before .product-by .ensures, l .inv .1)
+          (sym (horner-next _ _ _ (l .i - 1) (search needs) (c .before .shared-slice-known2 .given (l .i - 1) .fits)
           (c .before .before .before .before .before .before .fits .x .fits) ∙ (rw e)))),
     )
 
@@ -49,14 +36,5 @@ returns c =
 pub horner-spec : {M : Type 1} → statement M
 horner-spec =
     tie.close
-    (tie.spec
-    Inv-loop
-    μ-loop
-    loop-holds
-    sub-i
-    product-by-requires
-    shared-slice-read-sum
-    sum-requires
-    loop-less
-    loop-again
-    returns)
+    (tie.spec Inv-loop μ-loop loop-holds (λ c. search needs) (λ c κs. search needs) (λ c. search needs) (λ c κs. search needs)
+    (λ c. search needs) loop-again returns)

@@ -10,24 +10,13 @@ use Rattle.field.specs.Octet as Octet
 use Rattle.codeword.proofs.search.inverse_locator.Statement.{statement}
 use Rattle.codeword.proofs.search.inverse_locator.Tie as tie
 
-sub-power-by : tie.Need-sub-power-by
-sub-power-by c = search needs
-
-sub-power-by-2 : tie.Need-sub-power-by-2
-sub-power-by-2 c = search needs
-
-sub-power-by-3 : tie.Need-sub-power-by-3
-sub-power-by-3 c = search needs
-
-power-by-requires : tie.Need-power-by-requires
-power-by-requires c κs = search needs
-
 returns : tie.Need-returns
 returns c =
     let a = c .before .args in
-    let e : 255 - (a .n - 1 - a .p) ≡ 255 - (a .n - suc (a .p)) = omega arith in
-    c .power-by .ensures ∙ ap (Octet.power Octet.α) e ∙ sym (ap octet (inverses-at (a .n) (a .p)) ∙ octet-pow (255 - (a .n - suc (a .p))))
+    let e : Octet.order - (a .n - 1 - a .p) ≡ Octet.order - (a .n - suc (a .p)) = omega arith in
+    c .power-by .ensures ∙ ap (Octet.power Octet.α) e ∙ sym (ap octet (inverses-at (a .n) (a .p)) ∙ octet-pow (Octet.order - (a .n - suc (a .p))))
 
 pub inverse-locator-spec : {M : Type 1} → statement M
 inverse-locator-spec =
-    tie.close (tie.spec sub-power-by sub-power-by-2 sub-power-by-3 power-by-requires returns)
+    tie.close
+    (tie.spec (λ c. search needs) (λ c. search needs) (λ c. search needs) (λ c κs. search needs) returns)

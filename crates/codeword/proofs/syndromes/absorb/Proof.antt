@@ -14,37 +14,10 @@ Inv-loop s₀ x m a t i₀ s i = (i ≤ m) × Absorbed i a x s₀ s
 abbrev μ-loop : tie.MeasureT-loop
 μ-loop s₀ x m a t i₀ s i = m - i
 
-loop-holds : tie.Need-loop-holds Inv-loop μ-loop
-loop-holds c = (search needs, absorbed-start _ _ _)
-
-shared-slice-read-product-by : tie.Need-shared-slice-read-product-by Inv-loop μ-loop
-shared-slice-read-product-by c = search needs
-
-slice-read-product-by : tie.Need-slice-read-product-by Inv-loop μ-loop
-slice-read-product-by c = search needs
-
-product-by-requires : tie.Need-product-by-requires Inv-loop μ-loop
-product-by-requires c κs = search needs
-
-sum-requires : tie.Need-sum-requires Inv-loop μ-loop
-sum-requires c κs = search needs
-
-slice-write-s : tie.Need-slice-write-s Inv-loop μ-loop
-slice-write-s c = search needs
-
-add-i : tie.Need-add-i Inv-loop μ-loop
-add-i c = search needs
-
-loop-less : tie.Need-loop-less Inv-loop μ-loop
-loop-less c = search needs
-
 loop-again : tie.Need-loop-again Inv-loop μ-loop
 loop-again c =
     let l = c .before .before .before .before .before .loop in
-    (search needs, absorbed-next _ (l .i) _ _ _ (l .s) (l .inv .1) (omega arith) (cc))
-
-same-length : tie.Need-same-length Inv-loop μ-loop
-same-length c = search needs
+    (search needs, absorbed-next (l .inv .1) (omega arith) (cc))
 
 returns : tie.Need-returns Inv-loop μ-loop
 returns c =
@@ -54,17 +27,6 @@ returns c =
 pub absorb-spec : {M : Type 1} → statement M
 absorb-spec =
     tie.close
-    (tie.spec
-    Inv-loop
-    μ-loop
-    loop-holds
-    shared-slice-read-product-by
-    slice-read-product-by
-    product-by-requires
-    sum-requires
-    slice-write-s
-    add-i
-    loop-less
-    loop-again
-    same-length
-    returns)
+    (tie.spec Inv-loop μ-loop (λ c. (search needs, absorbed-start)) (λ c. search needs) (λ c. search needs)
+    (λ c κs. search needs) (λ c κs. search needs) (λ c. search needs) (λ c. search needs) (λ c. search needs) loop-again
+    (λ c. search needs) returns)

@@ -17,25 +17,10 @@ abbrev μ-loop : tie.MeasureT-loop
 loop-holds : tie.Need-loop-holds Inv-loop μ-loop
 loop-holds c = (search needs, points-start)
 
-add-power-by : tie.Need-add-power-by Inv-loop μ-loop
-add-power-by c = search needs
-
-power-by-requires : tie.Need-power-by-requires Inv-loop μ-loop
-power-by-requires c κs = search needs
-
-array-write-x : tie.Need-array-write-x Inv-loop μ-loop
-array-write-x c = search needs
-
-add-i : tie.Need-add-i Inv-loop μ-loop
-add-i c = search needs
-
-loop-less : tie.Need-loop-less Inv-loop μ-loop
-loop-less c = search needs
-
 loop-again : tie.Need-loop-again Inv-loop μ-loop
 loop-again c =
     let l = c .before .before .loop in
-    (search needs, points-next (l .i) _ (l .x) (search needs) (l .inv .1) (c .power-by .ensures))
+    (search needs, points-next (search needs) (l .inv .1) (c .power-by .ensures))
 
 returns : tie.Need-returns Inv-loop μ-loop
 returns c =
@@ -45,14 +30,5 @@ returns c =
 pub points-spec : {M : Type 1} → statement M
 points-spec =
     tie.close
-    (tie.spec
-    Inv-loop
-    μ-loop
-    loop-holds
-    add-power-by
-    power-by-requires
-    array-write-x
-    add-i
-    loop-less
-    loop-again
-    returns)
+    (tie.spec Inv-loop μ-loop loop-holds (λ c. search needs) (λ c κs. search needs) (λ c. search needs) (λ c. search needs)
+    (λ c. search needs) loop-again returns)

@@ -17,35 +17,18 @@ Inv-loop word m t x s₀ i₀ s i = (i ≤ length word) × PointsAre m x × Synd
 abbrev μ-loop : tie.MeasureT-loop
 μ-loop word m t x s₀ i₀ s i = length word - i
 
-points-requires : tie.Need-points-requires Inv-loop μ-loop
-points-requires c κs = search needs
-
 loop-holds : tie.Need-loop-holds Inv-loop μ-loop
-loop-holds c = (search needs, search needs, syndromes-start _)
-
-slice-aggregate-absorb : tie.Need-slice-aggregate-absorb Inv-loop μ-loop
-slice-aggregate-absorb c = search needs
-
-slice-aggregate-absorb-2 : tie.Need-slice-aggregate-absorb-2 Inv-loop μ-loop
-slice-aggregate-absorb-2 c = search needs
-
-shared-slice-read-absorb : tie.Need-shared-slice-read-absorb Inv-loop μ-loop
-shared-slice-read-absorb c = search needs
-
-absorb-requires : tie.Need-absorb-requires Inv-loop μ-loop
-absorb-requires c κs = search needs
-
-add-i : tie.Need-add-i Inv-loop μ-loop
-add-i c = search needs
-
-loop-less : tie.Need-loop-less Inv-loop μ-loop
-loop-less c = search needs
+loop-holds c = (search needs, search needs, syndromes-start)
 
 loop-again : tie.Need-loop-again Inv-loop μ-loop
 loop-again c =
     let l = c .before .before .before .before .before .before .loop in
-    let a = c .before .before .before .before .before .before .before .before .before .args in
-    (search needs, search needs, syndromes-next _ (l .i) _ (now (a .word)) _ (l .s) _ (l .inv .1) (search needs) refl (c .before .before .shared-slice-known2 .given (l .i) .fits) (l .inv .2) (c .before .absorb .ensures))
+    let w = now (c .before .before .before .before .before .before .before .before .before .args .word) in (
+      search needs,
+      search needs,
+      syndromes-next _ (l .i) _ w _ (l .s) _ (l .inv .1) (search needs) refl (c .before .before .shared-slice-known2 .given (l .i) .fits) (l .inv .2)
+          (c .before .absorb .ensures),
+    )
 
 returns : tie.Need-returns Inv-loop μ-loop
 returns c =
@@ -57,16 +40,5 @@ returns c =
 pub syndromes-spec : {M : Type 1} → statement M
 syndromes-spec =
     tie.close
-    (tie.spec
-    Inv-loop
-    μ-loop
-    points-requires
-    loop-holds
-    slice-aggregate-absorb
-    slice-aggregate-absorb-2
-    shared-slice-read-absorb
-    absorb-requires
-    add-i
-    loop-less
-    loop-again
-    returns)
+    (tie.spec Inv-loop μ-loop (λ c κs. search needs) loop-holds (λ c. search needs) (λ c. search needs) (λ c. search needs)
+    (λ c κs. search needs) (λ c. search needs) (λ c. search needs) loop-again returns)

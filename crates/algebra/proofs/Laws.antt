@@ -1,0 +1,44 @@
+-- The face of this crate to others: the laws that they cite, passed on from the files that prove them. No other file of these
+-- proofs is imported from outside.
+--
+--   the field       ring, for `simp ring`; ⊕-comm, ⊕-𝟘, ⊕-self, ⊕-cancel, ⊙-comm, ⊙-assoc, ⊙-𝟘, ⊙-𝟙, ⊙-inv; eq-of-sum, sum-of-eq
+--   series          the clauses of their operations: tl-⊞, ⊞-at, ⊡-at, none-at, unit-zero, unit-suc, sh-zero, sh-suc;
+--                   below-⊞, below-more of degrees
+--   values          ev-zero, ev-⊞ of the operations; ev-monomial; ev-more, ev-local: which coefficients are read
+--   powers          pow-zero, pow-suc, pow-add, pow-times
+--   power sums      psum-zero, psum-suc, psum-⊞
+--   polynomials     polynomial-none, polynomial-cons, polynomial-at, polynomial-append, polynomial-snoc, polynomial-same of a list;
+--                   raised-zero, raised-suc, raised-⊞, raised-sh, raised-monomial, raised-none, raised-low, raised-high of
+--                   x^n f; below-polynomial, below-raised of degrees; monomial-below
+--   roots           rooted-top, below-rooted of (x - X₀) .. (x - Xₘ₋₁); divides-root, roots-divide: what it divides;
+--                   geometric-ratio: its coefficients, where the Xᵢ are α, α², ..
+--   remainders      divides-nothing, with ⊞-none; remainder-unique, remainder-step, turned-small
+--   long division   sum-length, remainder-raised; register-length, register-is, register-none, register-more, register-zeros
+--   loops           dot-zero, dot-suc, ⊛-dot, ⊛-dot-below of a product's coefficient; from-zero, horner of Horner's rule
+--   derivative      deriv-even, deriv-odd
+--   weight          weight-zero, weight-suc; left-ne: a factor of 1 is not zero; light-is-none: the distance of the code
+--   Massey's loop   state-start, state-zero, state-keep, state-grow
+--   the repair      length-complete, search-complete, divisor-ne, search-sound
+--
+-- Assumes nothing.
+pub use Rattle.algebra.proofs.Ring.{ring, ⊕-comm, ⊕-𝟘, ⊕-self, ⊕-cancel, ⊙-comm, ⊙-assoc, ⊙-𝟘, ⊙-𝟙, ⊙-inv, eq-of-sum, sum-of-eq}
+pub use Rattle.algebra.proofs.Product.{tl-⊞, ⊞-at, ⊡-at, none-at, unit-zero, unit-suc, sh-zero, sh-suc}
+pub use Rattle.algebra.proofs.Product.{below-⊞, below-more}
+pub use Rattle.algebra.proofs.Value.{ev-zero, ev-⊞, ev-monomial, ev-more, ev-local}
+pub use Rattle.algebra.proofs.Powers.{pow-zero, pow-suc, pow-add, pow-times}
+pub use Rattle.algebra.proofs.PowerSum.{psum-zero, psum-suc}
+pub use Rattle.algebra.proofs.Polynomial.{polynomial-none, polynomial-cons, polynomial-at, polynomial-append, polynomial-snoc}
+pub use Rattle.algebra.proofs.Polynomial.{polynomial-same, raised-zero, raised-suc, raised-⊞, raised-sh, raised-monomial, raised-none}
+pub use Rattle.algebra.proofs.Polynomial.{raised-low, raised-high, below-polynomial, below-raised}
+pub use Rattle.algebra.proofs.Remainder.{monomial-below, remainder-unique, remainder-step, turned-small}
+pub use Rattle.algebra.proofs.Roots.{rooted-top, below-rooted, divides-root, roots-divide}
+pub use Rattle.algebra.proofs.Geometric.{geometric-ratio}
+pub use Rattle.algebra.proofs.Division.{sum-length, ⊞-none, divides-nothing}
+pub use Rattle.algebra.proofs.Register.{remainder-raised, register-length, register-is, register-none, register-more, register-zeros}
+pub use Rattle.algebra.proofs.Loop.{dot-zero, dot-suc, ⊛-dot, ⊛-dot-below, from-zero, horner}
+pub use Rattle.algebra.proofs.Derivative.{deriv-even, deriv-odd}
+pub use Rattle.algebra.proofs.Support.{weight-zero, weight-suc}
+pub use Rattle.algebra.proofs.Locator.{left-ne}
+pub use Rattle.algebra.proofs.Distance.{psum-⊞, light-is-none}
+pub use Rattle.algebra.proofs.Berlekamp.{state-start, state-zero, state-keep, state-grow}
+pub use Rattle.algebra.proofs.Repair.{length-complete, search-complete, divisor-ne, search-sound}
