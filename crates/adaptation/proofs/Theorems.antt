@@ -25,7 +25,6 @@ use Rattle.calls.proofs.Laws.{told-refused}
 use Rattle.adaptation.specs.Check.{none, agrees}
 use Rattle.adaptation.specs.Width.{isWidth, kindAt}
 use Rattle.adaptation.specs.AL1M.{isSetting, isSendable, sentOctets}
-use Rattle.adaptation.specs.Sending as sending
 use Rattle.adaptation.specs.Sending.{message, Coded, Sends}
 use Rattle.adaptation.specs.Receiving.{isWord, receiveTests, isBare, badgeOf, changedOf, handedUnit, HandedIs, Receives}
 use Rattle.adaptation.specs.Claims.{isFaulty, SentIsHandedUp, FaultlessIsCodeWord, OutOfReachExactly, CheckFailedExactly, UncheckedExactly, NoCheckAgrees, EncodedUnique, ReceivedUnique, RefusalLeaves}

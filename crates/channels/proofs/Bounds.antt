@@ -16,8 +16,8 @@ use lib.Dec.{leb}
 use lib.ListN.{length, getD, set, replicate}
 use Rattle.octets.specs.Tests.{both-true}
 use Rattle.octets.specs.Written.{written, written-length}
-use Rattle.calls.specs.Refusal.{Ended, leaving}
-use Rattle.calls.proofs.Laws.{None, checked-keeps}
+use Rattle.calls.specs.Refusal.{leaving}
+use Rattle.calls.proofs.Laws.{checked-keeps}
 use Rattle.adaptation.specs.Handed.{isUnit}
 use Rattle.channels.specs.declared.Channel.{Channel}
 use Rattle.channels.specs.declared.Channels.{Channels}

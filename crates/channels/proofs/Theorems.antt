@@ -3,10 +3,7 @@
 --   afterUnique, postUnique, sendUnique, takeUnique   any two answers are equal
 --
 -- Assumes nothing.
-use mathlib.Core.Path.{_≡_, refl, sym, ap, ap₂, _∙_}
-use mathlib.Core.List.{List}
-use Prim.Native.Nat.{ℕ}
-use Rattle.octets.specs.Tests.{never}
+use mathlib.Core.Path.{sym, ap, ap₂, _∙_}
 use Rattle.calls.specs.Refusal.{Ended}
 use Rattle.calls.specs.declared.Outcome.{Outcome}
 use Rattle.calls.specs.declared.Length.{Length}

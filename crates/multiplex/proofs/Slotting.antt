@@ -15,7 +15,7 @@ use native.Mathlib.Numerals.{add-one}
 use native.Mathlib.Omega.{arith}
 use lib.ListN.{length, drop, getD}
 use Rattle.table.specs.Slots.{Slot}
-use Rattle.multiplex.specs.Pieces.{paired, Piece, laid, total}
+use Rattle.multiplex.specs.Pieces.{paired, Piece, total}
 use Rattle.multiplex.specs.Walks.{slotted}
 
 module _ {A : Type 0} (f : ℕ → ℕ → A) where

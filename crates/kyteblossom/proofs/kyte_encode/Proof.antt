@@ -9,31 +9,13 @@ use Rattle.calls.specs.declared.Length.the-variants.{Octets, Refused}
 use Rattle.kyteblossom.proofs.kyte_encode.Statement.{statement}
 use Rattle.kyteblossom.proofs.kyte_encode.Tie as tie
 
-encode-requires : tie.Need-encode-requires
-encode-requires c κs = search needs
-
-enum-known-n : tie.Need-enum-known-n
-enum-known-n c = search needs
-
 cast-result : tie.Need-cast-result
 cast-result c = record { sfits = omega (arith, sent-small _ _ _ _ _ _ (rw (c .before .n .given .1) at (c .before .before .before .before .before .encode .ensures))) }
-
-enum-known-k : tie.Need-enum-known-k
-enum-known-k c = search needs
-
-refusal-requires : tie.Need-refusal-requires
-refusal-requires c κs = search needs
-
-same-length : tie.Need-same-length
-same-length c = search needs
 
 returns : tie.Need-returns
 returns c =
     let e = rw (c .before .n .given .1) at (c .before .before .before .before .before .encode .ensures) in
     record { outcome = Octets (c .before .n .given .0 .0); encoded = e; number = toZ-pos w32 (omega (arith, sent-small _ _ _ _ _ _ e)) }
-
-same-length-2 : tie.Need-same-length-2
-same-length-2 c = search needs
 
 returns-2 : tie.Need-returns-2
 returns-2 c = record { outcome = Refused (c .before .before .k .given .0 .0); encoded = rw (c .before .before .k .given .1) at (c .before .before .before .before .before .before .encode .ensures); number = toZ-ofZ {w = w32} (record { sfits = c .refusal .ok }) ∙ c .refusal .ensures }
@@ -41,13 +23,5 @@ returns-2 c = record { outcome = Refused (c .before .before .k .given .0 .0); en
 pub kyte-encode-spec : {M : Type 1} → statement M
 kyte-encode-spec =
     tie.close
-    (tie.spec
-    encode-requires
-    enum-known-n
-    cast-result
-    enum-known-k
-    refusal-requires
-    same-length
-    returns
-    same-length-2
-    returns-2)
+    (tie.spec (λ c κs. search needs) (λ c. search needs) cast-result (λ c. search needs) (λ c κs. search needs) (λ c. search needs)
+    returns (λ c. search needs) returns-2)

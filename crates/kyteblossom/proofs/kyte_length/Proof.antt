@@ -9,20 +9,8 @@ use Rattle.adaptation.proofs.Laws.{coding-all}
 use Rattle.kyteblossom.proofs.kyte_length.Statement.{statement}
 use Rattle.kyteblossom.proofs.kyte_length.Tie as tie
 
-sent-length-requires : tie.Need-sent-length-requires
-sent-length-requires c κs = search needs
-
-enum-known-n : tie.Need-enum-known-n
-enum-known-n c = search needs
-
 cast-result : tie.Need-cast-result
 cast-result c = record { sfits = omega (arith, coding-all _ _ _ _ (rw (c .before .n .given .1) at (c .before .before .before .sent-length .ensures)) .2) }
-
-enum-known-k : tie.Need-enum-known-k
-enum-known-k c = search needs
-
-refusal-requires : tie.Need-refusal-requires
-refusal-requires c κs = search needs
 
 returns : tie.Need-returns
 returns c =
@@ -35,11 +23,4 @@ returns-2 c = toZ-ofZ {w = w32} (record { sfits = c .refusal .ok }) ∙ c .refus
 pub kyte-length-spec : {M : Type 1} → statement M
 kyte-length-spec =
     tie.close
-    (tie.spec
-    sent-length-requires
-    enum-known-n
-    cast-result
-    enum-known-k
-    refusal-requires
-    returns
-    returns-2)
+    (tie.spec (λ c κs. search needs) (λ c. search needs) cast-result (λ c. search needs) (λ c κs. search needs) returns returns-2)

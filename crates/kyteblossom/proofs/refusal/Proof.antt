@@ -9,9 +9,6 @@ use Rattle.kyteblossom.proofs.Numbers.{minus-is, minus-fits}
 use Rattle.kyteblossom.proofs.refusal.Statement.{statement}
 use Rattle.kyteblossom.proofs.refusal.Tie as tie
 
-cast-result : tie.Need-cast-result
-cast-result c = search needs
-
 sub-result : tie.Need-sub-result
 sub-result c = subst (λ (z : ℤ). SFits w32 z) (sym (minus-is (c .args .k) (c .fits .k .fits))) (minus-fits (c .args .k) (c .fits .k .fits))
 
@@ -21,4 +18,5 @@ returns c =
     toZ-ofZ (subst (λ (z : ℤ). SFits w32 z) (sym h) (minus-fits (c .args .k) (c .fits .k .fits))) ∙ h
 
 pub refusal-spec : {M : Type 1} → statement M
-refusal-spec = tie.close (tie.spec cast-result sub-result returns)
+refusal-spec =
+    tie.close (tie.spec (λ c. search needs) sub-result returns)

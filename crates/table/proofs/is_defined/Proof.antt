@@ -12,25 +12,11 @@ returns c = sym (defined-not (now (c .before .args .table)) (c .before .args .co
 returns-2 : tie.Need-returns-2
 returns-2 c = sym (defined-fixed (now (c .before .before .args .table)) (c .before .before .args .code .0) (c .if2 .taken))
 
-cast-at : tie.Need-cast-at
-cast-at c = search needs
-
-sub-at : tie.Need-sub-at
-sub-at c = search needs
-
-mul-at : tie.Need-mul-at
-mul-at c = search needs
-
-mul-result : tie.Need-mul-result
-mul-result c = search needs
-
-element-copy-out-result : tie.Need-element-copy-out-result
-element-copy-out-result c = search needs
-
 returns-3 : tie.Need-returns-3
 returns-3 c = sym (defined-put (now (c .before .before .before .args .table)) (c .before .before .before .args .code .0) (c .before .before .if1 .left) (c .before .if2 .left))
 
 pub is-defined-spec : {M : Type 1} → statement M
 is-defined-spec =
     tie.close
-    (tie.spec returns returns-2 cast-at sub-at mul-at mul-result element-copy-out-result returns-3)
+    (tie.spec returns returns-2 (λ c. search needs) (λ c. search needs) (λ c. search needs) (λ c. search needs) (λ c. search needs)
+    returns-3)

@@ -14,18 +14,6 @@ returns c = sym (replaced-none (now (c .before .before .args .table)) (c .before
 returns-2 : tie.Need-returns-2
 returns-2 c = sym (replaced-fixed (now (c .before .before .before .args .table)) (c .before .before .before .args .code .0) (now (c .before .before .before .args .entry)) (c .if2 .taken))
 
-is-entry-requires : tie.Need-is-entry-requires
-is-entry-requires c κs = search needs
-
-cast-at : tie.Need-cast-at
-cast-at c = search needs
-
-sub-at : tie.Need-sub-at
-sub-at c = search needs
-
-mul-at : tie.Need-mul-at
-mul-at c = search needs
-
 write-numbers-requires : tie.Need-write-numbers-requires
 write-numbers-requires c κs = omega (arith, entry-short (now (c .before .before .before .before .before .before .args .entry)) (sym (c .before .before .is-entry .ensures) ∙ c .before .if3 .taken))
 
@@ -38,13 +26,5 @@ returns-4 c = sym (replaced-malformed (now (c .before .before .before .before .b
 pub replace-spec : {M : Type 1} → statement M
 replace-spec =
     tie.close
-    (tie.spec
-    returns
-    returns-2
-    is-entry-requires
-    cast-at
-    sub-at
-    mul-at
-    write-numbers-requires
-    returns-3
-    returns-4)
+    (tie.spec returns returns-2 (λ c κs. search needs) (λ c. search needs) (λ c. search needs) (λ c. search needs)
+    write-numbers-requires returns-3 returns-4)

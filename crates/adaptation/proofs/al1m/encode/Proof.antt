@@ -21,28 +21,10 @@ known c = setting-known _ (c .before .before .before .before .before .args .e) _
 octets : (c : tie.After-w) → kindAt (c .before .before .before .before .before .args .width) .octets ≡ kindOf (c .w .given .0 .0) .octets
 octets c = ap (λ (κ : Kind). κ .octets) (kind-asked _ _ (known c))
 
-setting-of-requires : tie.Need-setting-of-requires
-setting-of-requires c κs = search needs
-
-enum-known-w : tie.Need-enum-known-w
-enum-known-w c = search needs
-
-enum-told : tie.Need-enum-told
-enum-told c = search needs
-
 returns : tie.Need-returns
 returns c =
     let a = c .before .before .before .before .before .args in
     record { first = refused-setting _ (isSendable (length (now (a .unit))) (a .width) (a .e)) (ltb (length (now (a .sent))) (sentOctets (length (now (a .unit))) (a .width) (a .e))) (setting-unknown _ _ (sym (c .before .before .setting-of .ensures) ∙ c .enum-told .given .1)); same = refl }
-
-sent-length-requires : tie.Need-sent-length-requires
-sent-length-requires c κs = search needs
-
-enum-known-k : tie.Need-enum-known-k
-enum-known-k c = search needs
-
-enum-known-n : tie.Need-enum-known-n
-enum-known-n c = search needs
 
 returns-2 : tie.Need-returns-2
 returns-2 c =
@@ -58,9 +40,6 @@ put-requires c κs =
 returns-3 : tie.Need-returns-3
 returns-3 c = record { first = coding-refused _ _ _ _ _ (rw (c .before .k .given .1) at (c .before .before .before .sent-length .ensures)); same = refl }
 
-same-length : tie.Need-same-length
-same-length c = search needs
-
 returns-4 : tie.Need-returns-4
 returns-4 c =
     let a = c .before .before .before .before .before .before .before .before .before .before .before .before .before .before .before .args in
@@ -70,16 +49,5 @@ returns-4 c =
 pub encode-spec : {M : Type 1} → statement M
 encode-spec =
     tie.close
-    (tie.spec
-    setting-of-requires
-    enum-known-w
-    enum-told
-    returns
-    sent-length-requires
-    enum-known-k
-    enum-known-n
-    returns-2
-    put-requires
-    returns-3
-    same-length
-    returns-4)
+    (tie.spec (λ c κs. search needs) (λ c. search needs) (λ c. search needs) returns (λ c κs. search needs) (λ c. search needs)
+    (λ c. search needs) returns-2 put-requires returns-3 (λ c. search needs) returns-4)

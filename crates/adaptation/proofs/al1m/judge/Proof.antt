@@ -11,30 +11,6 @@ use Rattle.codeword.specs.declared.Reach.the-variants.{Found, OutOfReach}
 use Rattle.adaptation.proofs.al1m.judge.Statement.{statement}
 use Rattle.adaptation.proofs.al1m.judge.Tie as tie
 
-octets-of-requires : tie.Need-octets-of-requires
-octets-of-requires c κs = search needs
-
-mul-k : tie.Need-mul-k
-mul-k c = search needs
-
-sub-k : tie.Need-sub-k
-sub-k c = search needs
-
-sub-length : tie.Need-sub-length
-sub-length c = search needs
-
-repair-requires : tie.Need-repair-requires
-repair-requires c κs = search needs
-
-enum-known-changed : tie.Need-enum-known-changed
-enum-known-changed c = search needs
-
-enum-told : tie.Need-enum-told
-enum-told c = search needs
-
-same-length : tie.Need-same-length
-same-length c = search needs
-
 returns : tie.Need-returns
 returns c =
     record {
@@ -45,23 +21,11 @@ returns c =
       length-is = rw (c .before .before .before .before .before .before .octets-of .ensures);
     }
 
-front-requires : tie.Need-front-requires
-front-requires c κs = search needs
-
 is-sealed-requires : tie.Need-is-sealed-requires
 is-sealed-requires c κs =
     let pre = c .before .before .before .before .before .before .before .before .before .before .before .before .pre in
     let k : kindOf (c .before .before .before .before .before .before .before .before .before .before .before .before .args .w) .octets ≤ length (now (c .before .before .before .before .before .before .before .before .before .before .before .before .args .received)) - 2 * c .before .before .before .before .before .before .before .before .before .before .before .before .args .e = omega (arith, pre) in
     rw (c .front .ensures) (fits-front _ _ (c .before .before .before .before .before .before .before .repair .last .1 .1 .0) (omega (arith, c .before .before .before .before .before .before .before .repair .kept .1 .1 .0, pre)) k)
-
-is-bare-requires : tie.Need-is-bare-requires
-is-bare-requires c κs = search needs
-
-badge-of-requires : tie.Need-badge-of-requires
-badge-of-requires c κs = search needs
-
-same-length-2 : tie.Need-same-length-2
-same-length-2 c = search needs
 
 returns-2 : tie.Need-returns-2
 returns-2 c =
@@ -78,19 +42,6 @@ returns-2 c =
 pub judge-spec : {M : Type 1} → statement M
 judge-spec =
     tie.close
-    (tie.spec
-    octets-of-requires
-    mul-k
-    sub-k
-    sub-length
-    repair-requires
-    enum-known-changed
-    enum-told
-    same-length
-    returns
-    front-requires
-    is-sealed-requires
-    is-bare-requires
-    badge-of-requires
-    same-length-2
-    returns-2)
+    (tie.spec (λ c κs. search needs) (λ c. search needs) (λ c. search needs) (λ c. search needs) (λ c κs. search needs)
+    (λ c. search needs) (λ c. search needs) (λ c. search needs) returns (λ c κs. search needs) is-sealed-requires
+    (λ c κs. search needs) (λ c κs. search needs) (λ c. search needs) returns-2)

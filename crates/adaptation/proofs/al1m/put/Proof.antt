@@ -11,35 +11,8 @@ use Rattle.adaptation.specs.Width.{kindOf}
 use Rattle.adaptation.proofs.al1m.put.Statement.{statement}
 use Rattle.adaptation.proofs.al1m.put.Tie as tie
 
-slice-aggregate-write : tie.Need-slice-aggregate-write
-slice-aggregate-write c = search needs
-
-write-requires : tie.Need-write-requires
-write-requires c κs = search needs
-
-slice-aggregate-seal : tie.Need-slice-aggregate-seal
-slice-aggregate-seal c = search needs
-
-seal-requires : tie.Need-seal-requires
-seal-requires c κs = search needs
-
-octets-of-requires : tie.Need-octets-of-requires
-octets-of-requires c κs = search needs
-
-add-k : tie.Need-add-k
-add-k c = search needs
-
-array-share-prefix-message : tie.Need-array-share-prefix-message
-array-share-prefix-message c = search needs
-
 slice-aggregate-encode : tie.Need-slice-aggregate-encode
 slice-aggregate-encode c = sym (length-take-le _ _ (omega (arith, c .before .before .before .seal .kept .0, c .before .octets-of .ensures, c .before .before .before .before .before .before .before .before .before .before .pre)))
-
-encode-requires : tie.Need-encode-requires
-encode-requires c κs = search needs
-
-same-length : tie.Need-same-length
-same-length c = search needs
 
 returns : tie.Need-returns
 returns c =
@@ -53,15 +26,5 @@ returns c =
 pub put-spec : {M : Type 1} → statement M
 put-spec =
     tie.close
-    (tie.spec
-    slice-aggregate-write
-    write-requires
-    slice-aggregate-seal
-    seal-requires
-    octets-of-requires
-    add-k
-    array-share-prefix-message
-    slice-aggregate-encode
-    encode-requires
-    same-length
-    returns)
+    (tie.spec (λ c. search needs) (λ c κs. search needs) (λ c. search needs) (λ c κs. search needs) (λ c κs. search needs)
+    (λ c. search needs) (λ c. search needs) slice-aggregate-encode (λ c κs. search needs) (λ c. search needs) returns)

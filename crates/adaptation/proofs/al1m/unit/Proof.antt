@@ -21,22 +21,15 @@ other OutOfReach h = refl
 other CheckFailed h = refl
 other Unchecked h = refl
 
-enum-told : tie.Need-enum-told
-enum-told c = search needs
-
-front-requires : tie.Need-front-requires
-front-requires c κs = search needs
-
 returns : tie.Need-returns
 returns c =
     let a = c .before .before .before .before .args in
     c .front .ensures ∙ ap (λ (b : Bool). take (a .t) (cond b (now (a .repair)) (now (a .received)))) (sym (other (a .badge) (c .before .match .keys2)))
 
-front-requires-2 : tie.Need-front-requires-2
-front-requires-2 c κs = search needs
-
 returns-2 : tie.Need-returns-2
 returns-2 c = c .front2 .ensures ∙ (rw (c .before .enum-told .given .1))
 
 pub unit-spec : {M : Type 1} → statement M
-unit-spec = tie.close (tie.spec enum-told front-requires returns front-requires-2 returns-2)
+unit-spec =
+    tie.close
+    (tie.spec (λ c. search needs) (λ c κs. search needs) returns (λ c κs. search needs) returns-2)

@@ -9,18 +9,6 @@ use Rattle.adaptation.specs.declared.al2.Number.{Number}
 use Rattle.adaptation.proofs.al2.put_number.Statement.{statement}
 use Rattle.adaptation.proofs.al2.put_number.Tie as tie
 
-enum-known-number : tie.Need-enum-known-number
-enum-known-number c = search needs
-
-slice-write-out : tie.Need-slice-write-out
-slice-write-out c = search needs
-
-enum-told : tie.Need-enum-told
-enum-told c = search needs
-
-same-length : tie.Need-same-length
-same-length c = search needs
-
 returns : tie.Need-returns
 returns c =
     let out = now (c .before .before .before .args .out) in
@@ -33,4 +21,5 @@ returns-2 c =
 
 pub put-number-spec : {M : Type 1} → statement M
 put-number-spec =
-    tie.close (tie.spec enum-known-number slice-write-out enum-told same-length returns returns-2)
+    tie.close
+    (tie.spec (λ c. search needs) (λ c. search needs) (λ c. search needs) (λ c. search needs) returns returns-2)

@@ -19,9 +19,6 @@ parts : (c : tie.After-is-sealed) (n : Number)
 parts c n e =
     sym (apart-read _ _ n _ (omega (arith, c .before .before .before .field-length .ensures)) (c .before .if2 .left) e (sym (c .is-sealed .ensures)))
 
-field-length-requires : tie.Need-field-length-requires
-field-length-requires c κs = search needs
-
 add-if1 : tie.Need-add-if1
 add-if1 c = omega (arith, c .field-length .ensures, fieldLength-most (c .before .before .args .numbered))
 
@@ -35,9 +32,6 @@ is-sealed-requires : tie.Need-is-sealed-requires
 unfolding eight
 is-sealed-requires c κs = omega arith
 
-shared-slice-read-t13 : tie.Need-shared-slice-read-t13
-shared-slice-read-t13 c = search needs
-
 returns-3 : tie.Need-returns-3
 returns-3 c = parts (c .before .before) _ (rw (c .before .if3 .taken))
 
@@ -47,12 +41,4 @@ returns-4 c = parts (c .before) _ (rw (c .if3 .left))
 pub read-spec : {M : Type 1} → statement M
 read-spec =
     tie.close
-    (tie.spec
-    field-length-requires
-    add-if1
-    returns
-    returns-2
-    is-sealed-requires
-    shared-slice-read-t13
-    returns-3
-    returns-4)
+    (tie.spec (λ c κs. search needs) add-if1 returns returns-2 is-sealed-requires (λ c. search needs) returns-3 returns-4)

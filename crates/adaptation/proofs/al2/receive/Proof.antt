@@ -9,18 +9,6 @@ use Rattle.adaptation.proofs.Wholes.{judged, received-apart}
 use Rattle.adaptation.proofs.al2.receive.Statement.{statement}
 use Rattle.adaptation.proofs.al2.receive.Tie as tie
 
-read-requires : tie.Need-read-requires
-read-requires c κs = search needs
-
-enum-known-number : tie.Need-enum-known-number
-enum-known-number c = search needs
-
-settle-requires : tie.Need-settle-requires
-settle-requires c κs = search needs
-
-enum-known-k : tie.Need-enum-known-k
-enum-known-k c = search needs
-
 returns : tie.Need-returns
 returns c =
     let r = c .before .before in
@@ -38,4 +26,4 @@ returns-2 c =
 pub receive-spec : {M : Type 1} → statement M
 receive-spec =
     tie.close
-    (tie.spec read-requires enum-known-number settle-requires enum-known-k returns returns-2)
+    (tie.spec (λ c κs. search needs) (λ c. search needs) (λ c κs. search needs) (λ c. search needs) returns returns-2)

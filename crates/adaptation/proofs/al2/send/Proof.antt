@@ -14,39 +14,18 @@ few c = rw (c .number-octets .ensures) (field-most (c .before .before .before .b
 returns : tie.Need-returns
 returns c = sym (sent-empty _ _ _ refl _ (c .if1 .taken))
 
-number-octets-requires : tie.Need-number-octets-requires
-number-octets-requires c κs = search needs
-
-sub-if2 : tie.Need-sub-if2
-sub-if2 c = search needs
-
 sub-if2-2 : tie.Need-sub-if2-2
 sub-if2-2 c = omega (arith, few c)
 
 returns-2 : tie.Need-returns-2
 returns-2 c = sym (sent-long _ _ _ (c .before .number-octets .ensures) _ (omega (arith, few (c .before))))
 
-add-n : tie.Need-add-n
-add-n c = search needs
-
 returns-3 : tie.Need-returns-3
 returns-3 c = sym (sent-room _ _ _ (c .before .before .number-octets .ensures) _ (omega arith) (omega (arith, few (c .before .before))) (omega arith))
-
-put-number-requires : tie.Need-put-number-requires
-put-number-requires c κs = search needs
-
-write-requires : tie.Need-write-requires
-write-requires c κs = search needs
 
 seal-requires : tie.Need-seal-requires
 unfolding eight
 seal-requires c κs = search needs
-
-add-t9 : tie.Need-add-t9
-add-t9 c = search needs
-
-same-length : tie.Need-same-length
-same-length c = search needs
 
 returns-4 : tie.Need-returns-4
 returns-4 c =
@@ -59,17 +38,5 @@ returns-4 c =
 pub send-spec : {M : Type 1} → statement M
 send-spec =
     tie.close
-    (tie.spec
-    returns
-    number-octets-requires
-    sub-if2
-    sub-if2-2
-    returns-2
-    add-n
-    returns-3
-    put-number-requires
-    write-requires
-    seal-requires
-    add-t9
-    same-length
-    returns-4)
+    (tie.spec returns (λ c κs. search needs) (λ c. search needs) sub-if2-2 returns-2 (λ c. search needs) returns-3
+    (λ c κs. search needs) (λ c κs. search needs) seal-requires (λ c. search needs) (λ c. search needs) returns-4)

@@ -19,21 +19,6 @@ numbered c u =
 returns : tie.Need-returns
 returns c = λ u. rw (not-true (c .before .args .agrees) (c .if1 .taken))
 
-enum-told : tie.Need-enum-told
-enum-told c = search needs
-
-enum-known-number : tie.Need-enum-known-number
-enum-known-number c = search needs
-
-arrive-requires : tie.Need-arrive-requires
-arrive-requires c κs = search needs
-
-enum-told-2 : tie.Need-enum-told-2
-enum-told-2 c = search needs
-
-enum-known-missing : tie.Need-enum-known-missing
-enum-known-missing c = search needs
-
 returns-2 : tie.Need-returns-2
 returns-2 c = λ u. rw (not-false (c .before .before .before .args .agrees) (c .before .before .if1 .left), c .enum-told .given .1)
 
@@ -46,13 +31,5 @@ returns-4 c = λ u. ap told (sym (numbered (c .before .before .before) u ∙ (rw
 pub settle-spec : {M : Type 1} → statement M
 settle-spec =
     tie.close
-    (tie.spec
-    returns
-    enum-told
-    enum-known-number
-    arrive-requires
-    enum-told-2
-    enum-known-missing
-    returns-2
-    returns-3
-    returns-4)
+    (tie.spec returns (λ c. search needs) (λ c. search needs) (λ c κs. search needs) (λ c. search needs) (λ c. search needs)
+    returns-2 returns-3 returns-4)

@@ -9,30 +9,12 @@ use Rattle.adaptation.specs.AL2.{fieldLength}
 use Rattle.adaptation.proofs.al2.unit.Statement.{statement}
 use Rattle.adaptation.proofs.al2.unit.Tie as tie
 
-field-length-requires : tie.Need-field-length-requires
-field-length-requires c κs = search needs
-
-slice-aggregate-result : tie.Need-slice-aggregate-result
-slice-aggregate-result c = search needs
-
 returns : tie.Need-returns
 returns c =
     let f = c .before .before .field-length in
     let a = c .before .before .before .before .args in
     let z : length (now (a .whole)) - 1 - fieldLength (a .numbered) ≡ 0 = omega (arith, f .ensures) in
     rw z
-
-sub-end : tie.Need-sub-end
-sub-end c = search needs
-
-sub-result : tie.Need-sub-result
-sub-result c = search needs
-
-part-result-start : tie.Need-part-result-start
-part-result-start c = search needs
-
-part-result-end : tie.Need-part-result-end
-part-result-end c = search needs
 
 returns-2 : tie.Need-returns-2
 returns-2 c =
@@ -42,12 +24,5 @@ returns-2 c =
 pub unit-spec : {M : Type 1} → statement M
 unit-spec =
     tie.close
-    (tie.spec
-    field-length-requires
-    slice-aggregate-result
-    returns
-    sub-end
-    sub-result
-    part-result-start
-    part-result-end
-    returns-2)
+    (tie.spec (λ c κs. search needs) (λ c. search needs) returns (λ c. search needs) (λ c. search needs) (λ c. search needs)
+    (λ c. search needs) returns-2)

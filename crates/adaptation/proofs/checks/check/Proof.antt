@@ -7,21 +7,6 @@ use Rattle.adaptation.specs.Check.{none, eight, sixteen, checkOf}
 use Rattle.adaptation.proofs.checks.check.Statement.{statement}
 use Rattle.adaptation.proofs.checks.check.Tie as tie
 
-enum-told : tie.Need-enum-told
-enum-told c = search needs
-
-enum-told-2 : tie.Need-enum-told-2
-enum-told-2 c = search needs
-
-check8-requires : tie.Need-check8-requires
-check8-requires c κs = search needs
-
-enum-told-3 : tie.Need-enum-told-3
-enum-told-3 c = search needs
-
-check16-requires : tie.Need-check16-requires
-check16-requires c κs = search needs
-
 returns : tie.Need-returns
 unfolding octetsOf checkOf none
 returns c = rw (c .enum-told .given .1)
@@ -37,12 +22,5 @@ returns-3 c = rw (c .before .enum-told3 .given .1, ← c .check16 .ensures) (sym
 pub check-spec : {M : Type 1} → statement M
 check-spec =
     tie.close
-    (tie.spec
-    enum-told
-    enum-told-2
-    check8-requires
-    enum-told-3
-    check16-requires
-    returns
-    returns-2
-    returns-3)
+    (tie.spec (λ c. search needs) (λ c. search needs) (λ c κs. search needs) (λ c. search needs) (λ c κs. search needs) returns
+    returns-2 returns-3)

@@ -9,8 +9,6 @@ divide16-requires : tie.Need-divide16-requires
 unfolding worked
 divide16-requires c κs = (column-of sixteen 0 _ tt, column-of sixteen 1 _ tt)
 
-returns : tie.Need-returns
-returns c = search needs
-
 pub check16-spec : {M : Type 1} → statement M
-check16-spec = tie.close (tie.spec divide16-requires returns)
+check16-spec =
+    tie.close (tie.spec divide16-requires (λ c. search needs))

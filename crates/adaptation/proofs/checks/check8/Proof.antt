@@ -9,8 +9,6 @@ divide8-requires : tie.Need-divide8-requires
 unfolding worked
 divide8-requires c κs = column-of eight 0 _ tt
 
-returns : tie.Need-returns
-returns c = search needs
-
 pub check8-spec : {M : Type 1} → statement M
-check8-spec = tie.close (tie.spec divide8-requires returns)
+check8-spec =
+    tie.close (tie.spec divide8-requires (λ c. search needs))

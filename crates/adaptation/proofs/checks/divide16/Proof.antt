@@ -24,21 +24,6 @@ loop-holds : tie.Need-loop-holds Inv-loop μ-loop
 unfolding number octetsOf sixteen start
 loop-holds c = (sym (residues-none sixteen), search needs)
 
-shared-slice-read-x : tie.Need-shared-slice-read-x Inv-loop μ-loop
-shared-slice-read-x c = search needs
-
-remainder-requires : tie.Need-remainder-requires Inv-loop μ-loop
-remainder-requires c κs = search needs
-
-remainder-requires-2 : tie.Need-remainder-requires-2 Inv-loop μ-loop
-remainder-requires-2 c κs = search needs
-
-add-i : tie.Need-add-i Inv-loop μ-loop
-add-i c = search needs
-
-loop-less : tie.Need-loop-less Inv-loop μ-loop
-loop-less c = search needs
-
 loop-again : tie.Need-loop-again Inv-loop μ-loop
 unfolding octetsOf remainderOf sixteen
 loop-again c =
@@ -59,14 +44,5 @@ returns c =
 pub divide16-spec : {M : Type 1} → statement M
 divide16-spec =
     tie.close
-    (tie.spec
-    Inv-loop
-    μ-loop
-    loop-holds
-    shared-slice-read-x
-    remainder-requires
-    remainder-requires-2
-    add-i
-    loop-less
-    loop-again
-    returns)
+    (tie.spec Inv-loop μ-loop loop-holds (λ c. search needs) (λ c κs. search needs) (λ c κs. search needs) (λ c. search needs)
+    (λ c. search needs) loop-again returns)

@@ -9,17 +9,8 @@ use Rattle.adaptation.proofs.Behind.{check-part, check-fits}
 use Rattle.adaptation.proofs.seals.seal.Statement.{statement}
 use Rattle.adaptation.proofs.seals.seal.Tie as tie
 
-slice-reshare-prefix-check : tie.Need-slice-reshare-prefix-check
-slice-reshare-prefix-check c = search needs
-
 slice-aggregate-check : tie.Need-slice-aggregate-check
 slice-aggregate-check c = sym (length-take-le _ _ (omega arith))
-
-check-requires : tie.Need-check-requires
-check-requires c κs = search needs
-
-octets-of-requires : tie.Need-octets-of-requires
-octets-of-requires c κs = search needs
 
 array-share-prefix-check : tie.Need-array-share-prefix-check
 array-share-prefix-check c = check-fits _ _ _ _ _ (c .before .octets-of .ensures) (c .before .before .check .ensures)
@@ -34,9 +25,6 @@ write-requires c κs =
     let e = length-take-le (l .result) (c .before .before .before .check .result) (check-fits _ _ _ _ _ (l .ensures) (c .before .before .before .check .ensures)) in
     rw e (omega (arith, l .ensures, c .before .before .before .before .before .before .pre))
 
-same-length : tie.Need-same-length
-same-length c = search needs
-
 returns : tie.Need-returns
 returns c =
     let b = c .before .before .before .before .before in
@@ -46,13 +34,5 @@ returns c =
 pub seal-spec : {M : Type 1} → statement M
 seal-spec =
     tie.close
-    (tie.spec
-    slice-reshare-prefix-check
-    slice-aggregate-check
-    check-requires
-    octets-of-requires
-    array-share-prefix-check
-    slice-aggregate-write
-    write-requires
-    same-length
-    returns)
+    (tie.spec (λ c. search needs) slice-aggregate-check (λ c κs. search needs) (λ c κs. search needs) array-share-prefix-check
+    slice-aggregate-write write-requires (λ c. search needs) returns)

@@ -6,8 +6,6 @@ use Rattle.channels.proofs.layers.number_of.Tie as tie
 returns : tie.Need-returns
 returns c = rw (c .if1 .taken)
 
-returns-2 : tie.Need-returns-2
-returns-2 c = search needs
-
 pub number-of-spec : {M : Type 1} → statement M
-number-of-spec = tie.close (tie.spec returns returns-2)
+number-of-spec =
+    tie.close (tie.spec returns (λ c. search needs))

@@ -36,41 +36,17 @@ placed c s known =
     let n = getD (l .numbers) (l .j) 0 in
     c .seek .ensures ∙ ap (first (λ m. eqb m n)) known ∙ sought-place s n (omega (arith, c .before .before .slice-known2 .given (l .j)))
 
-numbers-of-requires : tie.Need-numbers-of-requires Inv-loop μ-loop
-numbers-of-requires c κs = search needs
-
 loop-holds : tie.Need-loop-holds Inv-loop μ-loop
 loop-holds c = (λ s e. (refl, refl), search needs, refl)
 
-mul-n : tie.Need-mul-n Inv-loop μ-loop
-mul-n c = search needs
-
-slice-read-n : tie.Need-slice-read-n Inv-loop μ-loop
-slice-read-n c = search needs
-
-slice-aggregate-seek : tie.Need-slice-aggregate-seek Inv-loop μ-loop
-slice-aggregate-seek c = search needs
-
 cast-seek : tie.Need-cast-seek Inv-loop μ-loop
 cast-seek c = omega (arith, c .before .slice-known2 .given (c .before .before .before .loop .j))
-
-seek-requires : tie.Need-seek-requires Inv-loop μ-loop
-seek-requires c κs = search needs
 
 cast-numbers : tie.Need-cast-numbers Inv-loop μ-loop
 cast-numbers c =
     let l = c .before .before .before .before .before in
     let s = l .before .before .before .args .s in
     omega (arith, placed (c .before) s (l .before .numbers-of .ensures), place-most s (getD (l .loop .numbers) (l .loop .j) 0) (len (l .before .before .before)))
-
-mul-numbers : tie.Need-mul-numbers Inv-loop μ-loop
-mul-numbers c = search needs
-
-slice-write-numbers : tie.Need-slice-write-numbers Inv-loop μ-loop
-slice-write-numbers c = search needs
-
-add-j : tie.Need-add-j Inv-loop μ-loop
-add-j c = search needs
 
 loop-less : tie.Need-loop-less Inv-loop μ-loop
 loop-less c = simp length-set (search needs)
@@ -106,21 +82,6 @@ returns c =
 pub find-spec : {M : Type 1} → statement M
 find-spec =
     tie.close
-    (tie.spec
-    Inv-loop
-    μ-loop
-    numbers-of-requires
-    loop-holds
-    mul-n
-    slice-read-n
-    slice-aggregate-seek
-    cast-seek
-    seek-requires
-    cast-numbers
-    mul-numbers
-    slice-write-numbers
-    add-j
-    loop-less
-    loop-again
-    same-length
-    returns)
+    (tie.spec Inv-loop μ-loop (λ c κs. search needs) loop-holds (λ c. search needs) (λ c. search needs) (λ c. search needs)
+    cast-seek (λ c κs. search needs) cast-numbers (λ c. search needs) (λ c. search needs) (λ c. search needs) loop-less loop-again
+    same-length returns)

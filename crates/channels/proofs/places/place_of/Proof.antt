@@ -7,19 +7,11 @@ use Rattle.channels.proofs.Placing.{sought-place}
 use Rattle.channels.proofs.places.place_of.Statement.{statement}
 use Rattle.channels.proofs.places.place_of.Tie as tie
 
-numbers-of-requires : tie.Need-numbers-of-requires
-numbers-of-requires c κs = search needs
-
-slice-aggregate-seek : tie.Need-slice-aggregate-seek
-slice-aggregate-seek c = search needs
-
-seek-requires : tie.Need-seek-requires
-seek-requires c κs = search needs
-
 returns : tie.Need-returns
 returns c =
     let a = c .before .before .before .args in
     c .seek .ensures ∙ ap (first (λ m. eqb m (a .n))) (c .before .before .numbers-of .ensures) ∙ sought-place (a .s) (a .n) (search needs)
 
 pub place-of-spec : {M : Type 1} → statement M
-place-of-spec = tie.close (tie.spec numbers-of-requires slice-aggregate-seek seek-requires returns)
+place-of-spec =
+    tie.close (tie.spec (λ c κs. search needs) (λ c. search needs) (λ c κs. search needs) returns)

@@ -42,20 +42,8 @@ loop-holds c =
     let b = c .before .before .before .before .pre in
     (search needs, record { sendable = b .3; fits = omega (arith, b .4); kept = refl; gathers = refl })
 
-mul-p : tie.Need-mul-p Inv-loop μ-loop
-mul-p c = search needs
-
-shared-slice-read-p : tie.Need-shared-slice-read-p Inv-loop μ-loop
-shared-slice-read-p c = search needs
-
 cast-p : tie.Need-cast-p Inv-loop μ-loop
 cast-p c = omega (arith, c .shared-slice-known4 .given (c .before .before .loop .j))
-
-mul-k : tie.Need-mul-k Inv-loop μ-loop
-mul-k c = search needs
-
-shared-slice-read-k : tie.Need-shared-slice-read-k Inv-loop μ-loop
-shared-slice-read-k c = search needs
 
 cast-k : tie.Need-cast-k Inv-loop μ-loop
 cast-k c = omega (arith, c .shared-slice-known5 .given (c .before .before .before .loop .j))
@@ -69,12 +57,6 @@ element-copy-out-c c = omega (arith, moves (c .before .before) .0)
 mul-from : tie.Need-mul-from Inv-loop μ-loop
 mul-from c = omega (arith, moves (c .before .before .before) .0)
 
-waits-requires : tie.Need-waits-requires Inv-loop μ-loop
-waits-requires c κs = search needs
-
-sub-from : tie.Need-sub-from Inv-loop μ-loop
-sub-from c = search needs
-
 add-from : tie.Need-add-from Inv-loop μ-loop
 add-from c = omega (arith, moves (c .before .before .before .before) .0)
 
@@ -82,12 +64,6 @@ add-write : tie.Need-add-write Inv-loop μ-loop
 add-write c =
     let m = moves (c .before .before .before .before .before) in
     omega (arith, m .0, m .1)
-
-sub-write : tie.Need-sub-write Inv-loop μ-loop
-sub-write c = search needs
-
-part-write-start : tie.Need-part-write-start Inv-loop μ-loop
-part-write-start c = search needs
 
 part-write-end : tie.Need-part-write-end Inv-loop μ-loop
 part-write-end c =
@@ -112,21 +88,12 @@ add-at c =
     let i = c .before .before .before .before .before .before .before .before .before .before in
     omega (arith, moves i .2, i .before .loop .inv .1 .kept, i .before .before .before .before .before .before)
 
-add-j : tie.Need-add-j Inv-loop μ-loop
-add-j c = search needs
-
-loop-less : tie.Need-loop-less Inv-loop μ-loop
-loop-less c = search needs
-
 loop-again : tie.Need-loop-again Inv-loop μ-loop
 loop-again c =
     let w = c .before .before .before in
     let v = w .before .before .before in
     let i = v .before .before .before .before in
     (search needs, rw (c .leave .ensures) (gathers-next _ _ _ _ _ _ _ _ _ (here i) (i .before .before .before .before .before .before .pre .0) _ (rw (v .waits .ensures)) _ (w .write .ensures)))
-
-same-length : tie.Need-same-length Inv-loop μ-loop
-same-length c = search needs
 
 returns : tie.Need-returns Inv-loop μ-loop
 returns c =
@@ -137,33 +104,7 @@ returns c =
 pub gather-spec : {M : Type 1} → statement M
 gather-spec =
     tie.close
-    (tie.spec
-    Inv-loop
-    μ-loop
-    loop-holds
-    mul-p
-    shared-slice-read-p
-    cast-p
-    mul-k
-    shared-slice-read-k
-    cast-k
-    mul-c
-    element-copy-out-c
-    mul-from
-    waits-requires
-    sub-from
-    add-from
-    add-write
-    sub-write
-    part-write-start
-    part-write-end
-    write-requires
-    leave-requires
-    mul-t23
-    element-set-from-cur
-    add-at
-    add-j
-    loop-less
-    loop-again
-    same-length
-    returns)
+    (tie.spec Inv-loop μ-loop loop-holds (λ c. search needs) (λ c. search needs) cast-p (λ c. search needs) (λ c. search needs)
+    cast-k mul-c element-copy-out-c mul-from (λ c κs. search needs) (λ c. search needs) add-from add-write (λ c. search needs)
+    (λ c. search needs) part-write-end write-requires leave-requires mul-t23 element-set-from-cur add-at (λ c. search needs)
+    (λ c. search needs) loop-again (λ c. search needs) returns)

@@ -8,18 +8,9 @@ use Rattle.multiplex.specs.Multiplexer.{packed, multiplexed}
 use Rattle.multiplex.proofs.multiplexer.multiplex.Statement.{statement}
 use Rattle.multiplex.proofs.multiplexer.multiplex.Tie as tie
 
-refused-requires : tie.Need-refused-requires
-refused-requires c κs = search needs
-
 returns : tie.Need-returns
 unfolding multiplexed
 returns c = rw (c .refused .ensures, lt-ltb _ _ (c .before .if1 .taken))
-
-is-defined-requires : tie.Need-is-defined-requires
-is-defined-requires c κs = search needs
-
-refused-requires-2 : tie.Need-refused-requires-2
-refused-requires-2 c κs = search needs
 
 returns-2 : tie.Need-returns-2
 unfolding multiplexed
@@ -33,9 +24,6 @@ pack-requires c κs =
     let d = c .before .before .before in
     (d .before .if1 .left, leb-true _ _ (both-true _ _ (sym (d .is-defined .ensures) ∙ c .before .before .if2 .taken) .0), c .before .if3 .left)
 
-same-length : tie.Need-same-length
-same-length c = search needs
-
 returns-3 : tie.Need-returns-3
 unfolding multiplexed packed
 returns-3 c =
@@ -43,9 +31,6 @@ returns-3 c =
     let f = p .before .before in
     let d = f .before .before in
     rw (le-ltb _ _ (d .before .if1 .left), ← d .is-defined .ensures, f .before .if2 .taken, le-ltb _ _ (f .if3 .left)) (p .pack .ensures)
-
-refused-requires-3 : tie.Need-refused-requires-3
-refused-requires-3 c κs = search needs
 
 returns-4 : tie.Need-returns-4
 unfolding multiplexed
@@ -56,14 +41,5 @@ returns-4 c =
 pub multiplex-spec : {M : Type 1} → statement M
 multiplex-spec =
     tie.close
-    (tie.spec
-    refused-requires
-    returns
-    is-defined-requires
-    refused-requires-2
-    returns-2
-    pack-requires
-    same-length
-    returns-3
-    refused-requires-3
-    returns-4)
+    (tie.spec (λ c κs. search needs) returns (λ c κs. search needs) (λ c κs. search needs) returns-2 pack-requires
+    (λ c. search needs) returns-3 (λ c κs. search needs) returns-4)

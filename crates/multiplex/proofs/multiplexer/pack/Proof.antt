@@ -25,9 +25,6 @@ walks c =
     let s = c .before .before .before .before .before .before .before in
     walk-over _ _ (s .pre .0) _ _ _ _ _ (c .before .before .before .payload-slots .ensures) refl refl _ _ _ _ (c .walk .ensures)
 
-payload-slots-requires : tie.Need-payload-slots-requires
-payload-slots-requires c κs = search needs
-
 slice-aggregate-walk : tie.Need-slice-aggregate-walk
 slice-aggregate-walk c = sym (long (c .before) .0)
 
@@ -40,19 +37,10 @@ walk-requires c κs =
     let n = lays-within _ _ (p .before .before .before .before .pre .0) _ _ _ _ _ (p .payload-slots .ensures) refl refl in
     (n, rw (long p .0) n, rw (long p .1) n)
 
-refused-requires : tie.Need-refused-requires
-refused-requires c κs = search needs
-
 returns : tie.Need-returns
 returns c =
     let w = c .before .before .before .before .before in
     rw (c .refused .ensures) (packed-empty _ _ _ _ _ _ (walks w) (c .before .before .if1 .taken) (c .before .if2 .taken))
-
-slice-aggregate-gather : tie.Need-slice-aggregate-gather
-slice-aggregate-gather c = search needs
-
-slice-aggregate-gather-2 : tie.Need-slice-aggregate-gather-2
-slice-aggregate-gather-2 c = search needs
 
 gather-requires : tie.Need-gather-requires
 gather-requires c κs =
@@ -67,9 +55,6 @@ gather-requires c κs =
       omega (arith, walk-fits _ _ (s .pre .0) _ _ _ _ is, s .pre .2),
     )
 
-same-length : tie.Need-same-length
-same-length c = search needs
-
 returns-2 : tie.Need-returns-2
 returns-2 c =
     let g = c .before .before .before in
@@ -77,26 +62,11 @@ returns-2 c =
     let w = f .before .before .before .before in
     rw (g .gather .ensures) (packed-sent _ _ _ _ _ _ (walks w) (f .before .if1 .taken) (f .if2 .left))
 
-refused-requires-2 : tie.Need-refused-requires-2
-refused-requires-2 c κs = search needs
-
 returns-3 : tie.Need-returns-3
 returns-3 c = rw (c .refused2 .ensures) (packed-closed _ _ _ _ _ _ (walks (c .before .before .before .before)) (c .before .if1 .left))
 
 pub pack-spec : {M : Type 1} → statement M
 pack-spec =
     tie.close
-    (tie.spec
-    payload-slots-requires
-    slice-aggregate-walk
-    slice-aggregate-walk-2
-    walk-requires
-    refused-requires
-    returns
-    slice-aggregate-gather
-    slice-aggregate-gather-2
-    gather-requires
-    same-length
-    returns-2
-    refused-requires-2
-    returns-3)
+    (tie.spec (λ c κs. search needs) slice-aggregate-walk slice-aggregate-walk-2 walk-requires (λ c κs. search needs) returns
+    (λ c. search needs) (λ c. search needs) gather-requires (λ c. search needs) returns-2 (λ c κs. search needs) returns-3)

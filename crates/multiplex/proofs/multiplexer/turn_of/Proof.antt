@@ -5,9 +5,6 @@ use Rattle.multiplex.proofs.Walking.{turn-none, turn-more, turn-end, tu
 use Rattle.multiplex.proofs.multiplexer.turn_of.Statement.{statement}
 use Rattle.multiplex.proofs.multiplexer.turn_of.Tie as tie
 
-waits-requires : tie.Need-waits-requires
-waits-requires c κs = search needs
-
 returns : tie.Need-returns
 returns c = turn-none _ _ _ (c .before .waits .ensures) (c .if1 .taken)
 
@@ -40,4 +37,5 @@ returns-6 c =
 
 pub turn-of-spec : {M : Type 1} → statement M
 turn-of-spec =
-    tie.close (tie.spec waits-requires returns returns-2 returns-3 returns-4 returns-5 returns-6)
+    tie.close
+    (tie.spec (λ c κs. search needs) returns returns-2 returns-3 returns-4 returns-5 returns-6)

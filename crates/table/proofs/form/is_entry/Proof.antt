@@ -16,35 +16,11 @@ returns-2 c =
     let s = now (c .before .before .before .args .s) in
     sym (entry-empty s (c .before .if1 .left) (List·getD-eq-default s 0 (omega arith)))
 
-shared-slice-read-count : tie.Need-shared-slice-read-count
-shared-slice-read-count c = search needs
-
 returns-3 : tie.Need-returns-3
 returns-3 c = sym (entry-empty (now (c .before .before .before .before .before .args .s)) (c .before .before .before .if1 .left) (c .if3 .taken))
 
-sub-list : tie.Need-sub-list
-sub-list c = search needs
-
-list-requires : tie.Need-list-requires
-list-requires c κs = search needs
-
-enum-known-at : tie.Need-enum-known-at
-enum-known-at c = search needs
-
-enum-told : tie.Need-enum-told
-enum-told c = search needs
-
 returns-4 : tie.Need-returns-4
 returns-4 c = rw (entry-read (now (c .before .before .before .before .before .before .before .before .args .s)) (c .before .before .before .before .before .before .if1 .left) (c .before .before .before .if3 .left), ← c .before .before .list .ensures, c .enum-told .given .1)
-
-element-requires : tie.Need-element-requires
-element-requires c κs = search needs
-
-enum-known-end : tie.Need-enum-known-end
-enum-known-end c = search needs
-
-enum-told-2 : tie.Need-enum-told-2
-enum-told-2 c = search needs
 
 returns-5 : tie.Need-returns-5
 returns-5 c =
@@ -57,18 +33,5 @@ returns-6 c =
 pub is-entry-spec : {M : Type 1} → statement M
 is-entry-spec =
     tie.close
-    (tie.spec
-    returns
-    returns-2
-    shared-slice-read-count
-    returns-3
-    sub-list
-    list-requires
-    enum-known-at
-    enum-told
-    returns-4
-    element-requires
-    enum-known-end
-    enum-told-2
-    returns-5
-    returns-6)
+    (tie.spec returns returns-2 (λ c. search needs) returns-3 (λ c. search needs) (λ c κs. search needs) (λ c. search needs)
+    (λ c. search needs) returns-4 (λ c κs. search needs) (λ c. search needs) (λ c. search needs) returns-5 returns-6)

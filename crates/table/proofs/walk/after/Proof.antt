@@ -4,15 +4,6 @@ use Rattle.table.specs.Slots.{skip}
 use Rattle.table.proofs.walk.after.Statement.{statement}
 use Rattle.table.proofs.walk.after.Tie as tie
 
-element-requires : tie.Need-element-requires
-element-requires c κs = search needs
-
-enum-known-next : tie.Need-enum-known-next
-enum-known-next c = search needs
-
-enum-told : tie.Need-enum-told
-enum-told c = search needs
-
 returns : tie.Need-returns
 unfolding skip
 returns c = rw (← c .before .before .element .ensures, c .enum-told .given .1)
@@ -22,4 +13,6 @@ unfolding skip
 returns-2 c = rw (← c .before .before .before .element .ensures, c .before .next .given .1)
 
 pub after-spec : {M : Type 1} → statement M
-after-spec = tie.close (tie.spec element-requires enum-known-next enum-told returns returns-2)
+after-spec =
+    tie.close
+    (tie.spec (λ c κs. search needs) (λ c. search needs) (λ c. search needs) returns returns-2)
