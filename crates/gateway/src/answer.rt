@@ -1,6 +1,10 @@
-// What is printed: each answer is a line, put together in a buffer and written at once.
+// What is printed: each answer is a line, put together in a buffer. A full buffer is written out and filled anew, so that an answer may
+// have any length.
 use adaptation::Badge;
 use libc::STDOUT_FILENO;
+
+// The octets of the buffer; no answer's length depends on it.
+const BUFFER: usize = 512;
 
 // How to use the program.
 pub fn help() {
@@ -25,22 +29,26 @@ pub fn help() {
     text(b"Each is answered, refused with its number, or malformed where it cannot be read.\n");
 }
 
-// Writes text as it is.
+// Writes text as it is; says so where it cannot be written.
 fn text(t: &[u8]) {
-    io::write_all(STDOUT_FILENO, t);
+    if !io::write_all(STDOUT_FILENO, t) {
+        os::fail(b"standard output");
+    }
 }
 
-// Puts one octet at place n, where there is such a place, and gives the place behind it.
-fn store(out: &mut [u8; 4096], n: usize, octet: u8) -> usize {
-    if n < 4096 {
+// Puts one octet at place n, or at the front where the buffer is full, once what stood there is written; gives the place behind it.
+fn store(out: &mut [u8; BUFFER], n: usize, octet: u8) -> usize {
+    if n < BUFFER {
         out[n] = octet;
         return n + 1;
     }
-    n
+    text(octets::front(out, n));
+    out[0] = octet;
+    1
 }
 
 // Puts text from place `from` on.
-fn put(out: &mut [u8; 4096], from: usize, text: &[u8]) -> usize {
+fn put(out: &mut [u8; BUFFER], from: usize, text: &[u8]) -> usize {
     let mut n = from;
     let mut i = 0;
     while i < text.len() {
@@ -51,7 +59,7 @@ fn put(out: &mut [u8; 4096], from: usize, text: &[u8]) -> usize {
 }
 
 // Puts a space and a number in decimal.
-fn put_number(out: &mut [u8; 4096], from: usize, n: usize) -> usize {
+fn put_number(out: &mut [u8; BUFFER], from: usize, n: usize) -> usize {
     let mut digits = [0u8; 20];
     let k = io::decimal(n as u64, &mut digits);
     let at = store(out, from, b' ');
@@ -70,7 +78,7 @@ fn digit(n: u8) -> u8 {
 }
 
 // Puts octets in hex.
-fn put_hex(out: &mut [u8; 4096], from: usize, octets: &[u8]) -> usize {
+fn put_hex(out: &mut [u8; BUFFER], from: usize, octets: &[u8]) -> usize {
     let mut n = from;
     let mut i = 0;
     while i < octets.len() {
@@ -83,7 +91,7 @@ fn put_hex(out: &mut [u8; 4096], from: usize, octets: &[u8]) -> usize {
 }
 
 // Puts a space and octets in hex, or `-` for none.
-fn put_octets(out: &mut [u8; 4096], from: usize, octets: &[u8]) -> usize {
+fn put_octets(out: &mut [u8; BUFFER], from: usize, octets: &[u8]) -> usize {
     let at = store(out, from, b' ');
     if octets.len() == 0 {
         return store(out, at, b'-');
@@ -92,21 +100,21 @@ fn put_octets(out: &mut [u8; 4096], from: usize, octets: &[u8]) -> usize {
 }
 
 // Ends the line and writes it.
-fn end(out: &mut [u8; 4096], from: usize) {
+fn end(out: &mut [u8; BUFFER], from: usize) {
     let n = store(out, from, b'\n');
     text(octets::front(out, n));
 }
 
 // Answers a word alone.
 pub fn word(name: &[u8]) {
-    let mut out = [0u8; 4096];
+    let mut out = [0u8; BUFFER];
     let n = put(&mut out, 0, name);
     end(&mut out, n);
 }
 
 // Answers a word and a number.
 pub fn number(name: &[u8], value: usize) {
-    let mut out = [0u8; 4096];
+    let mut out = [0u8; BUFFER];
     let mut n = put(&mut out, 0, name);
     n = put_number(&mut out, n, value);
     end(&mut out, n);
@@ -114,7 +122,7 @@ pub fn number(name: &[u8], value: usize) {
 
 // Answers a word and octets.
 pub fn octets(name: &[u8], octets: &[u8]) {
-    let mut out = [0u8; 4096];
+    let mut out = [0u8; BUFFER];
     let mut n = put(&mut out, 0, name);
     n = put_octets(&mut out, n, octets);
     end(&mut out, n);
@@ -122,29 +130,18 @@ pub fn octets(name: &[u8], octets: &[u8]) {
 
 // Answers a word, a number and octets.
 pub fn number_and_octets(name: &[u8], value: usize, octets: &[u8]) {
-    let mut out = [0u8; 4096];
+    let mut out = [0u8; BUFFER];
     let mut n = put(&mut out, 0, name);
     n = put_number(&mut out, n, value);
     n = put_octets(&mut out, n, octets);
     end(&mut out, n);
 }
 
-// Document 01's number of a badge.
-fn badge_number(badge: Badge) -> usize {
-    match badge {
-        Badge::Clean => 0,
-        Badge::Corrected => 1,
-        Badge::OutOfReach => 2,
-        Badge::CheckFailed => 3,
-        Badge::Unchecked => 4,
-    }
-}
-
 // Answers a unit that is handed up: its badge, how many octets were changed or units are missing, and the unit.
 pub fn unit(badge: Badge, name: &[u8], value: usize, unit: &[u8]) {
-    let mut out = [0u8; 4096];
+    let mut out = [0u8; BUFFER];
     let mut n = put(&mut out, 0, b"badge");
-    n = put_number(&mut out, n, badge_number(badge));
+    n = put_number(&mut out, n, adaptation::badge_number(badge) as usize);
     n = put(&mut out, n, name);
     n = put_number(&mut out, n, value);
     n = put(&mut out, n, b" unit");

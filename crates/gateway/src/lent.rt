@@ -1,14 +1,16 @@
 // The library's calls that write to a lent buffer, with as much of it lent as the line names.
 use adaptation::al1m;
 use calls::Length;
+use channels::ALL_OCTETS;
 use channels::ChannelNumber;
 use channels::Channels;
 use channels::layers;
 use multiplex::demultiplexer;
 use multiplex::demultiplexer::Delivered;
 use multiplex::multiplexer;
-use multiplex::multiplexer::Sending;
+use multiplex::multiplexer::Multiplexed;
 use table::Code;
+use table::TABLE_NUMBERS;
 ghost use Rattle.io.specs.Counts.{Counts};
 
 // As many octets as the line names, or all where there are fewer.
@@ -53,21 +55,21 @@ pub fn send(
 
 pub fn multiplex(
     s: Channels,
-    waiting: &[u8; 16384],
-    table: &[u16; 1455],
+    waiting: &[u8; ALL_OCTETS],
+    table: &[u16; TABLE_NUMBERS],
     code: Code,
     room: u32,
     payload: &mut [u8],
     lent: u32,
-) -> Sending {
+) -> Multiplexed {
     let n = within(lent, payload);
     multiplexer::multiplex(s, waiting, table, code, room as usize, &mut payload[..n])
 }
 
 pub fn demultiplex(
     s: Channels,
-    held: &mut [u8; 16384],
-    table: &[u16; 1455],
+    held: &mut [u8; ALL_OCTETS],
+    table: &[u16; TABLE_NUMBERS],
     code: Code,
     mark: bool,
     payload: &[u8],

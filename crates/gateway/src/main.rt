@@ -1,16 +1,14 @@
 // The gateway on files: calls, one a line, from the file that its argument names or from standard input, and an answer for each.
-// docs/gateway.md has the language. Parsing and printing are here; everything that matters is in the library.
+// docs/gateway.md has the language. `script` reads each line into a call; here a call is carried out by the library, and answered.
 
 mod answer; // answer.rt: what is printed
-mod call; // call.rt: one line, answered
+mod carry; // carry.rt: a call, carried out
 mod coding; // coding.rt: the calls that have no state: length, encode, receive, al1
-mod descriptor; // descriptor.rt: a table entry in the Recommendation's notation
-mod input; // input.rt: lines, from a file of any length
+mod input; // input.rt: the calls of a file of any length
 mod lent; // lent.rt: the library's calls that write to a lent buffer
 mod link; // link.rt: the calls on channels and on the table: open, close, reset, entry, post
 mod payload; // payload.rt: the calls that make and read payloads: mux, demux
 mod units; // units.rt: the calls on AL2's units, by channel: send, take
-mod words; // words.rt: a line's words, and what they say
 
 fn main() {
     let mut path = io::buffer();
@@ -18,7 +16,7 @@ fn main() {
     let error = os::errno();
     let words = os::arg_count();
     if words <= 1 {
-        input::serve(libc::STDIN_FILENO);
+        input::serve(libc::STDIN_FILENO, b"standard input");
         return;
     }
     if 2 < words {
@@ -38,6 +36,6 @@ fn main() {
         os::fail(&path[..n]);
         return;
     }
-    input::serve(fd);
+    input::serve(fd, &path[..n]);
     libc::close(fd);
 }

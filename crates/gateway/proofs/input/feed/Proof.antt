@@ -6,10 +6,10 @@ use Rattle.gateway.proofs.input.feed.Statement.{statement}
 use Rattle.gateway.proofs.input.feed.Tie as tie
 
 abbrev Inv-loop : tie.InvT-loop
-Inv-loop chunk n line₀ held₀ waiting₀ table₀ read next₀ i₀ line held waiting table next i = i ≤ length read
+Inv-loop chunk n line₀ octets₀ entry₀ held₀ waiting₀ table₀ read next₀ i₀ line octets entry held waiting table next i = i ≤ length read
 
 abbrev μ-loop : tie.MeasureT-loop
-μ-loop chunk n line₀ held₀ waiting₀ table₀ read next₀ i₀ line held waiting table next i = length read - i
+μ-loop chunk n line₀ octets₀ entry₀ held₀ waiting₀ table₀ read next₀ i₀ line octets entry held waiting table next i = length read - i
 
 front-requires : tie.Need-front-requires Inv-loop μ-loop
 front-requires c κs = search needs
@@ -17,14 +17,14 @@ front-requires c κs = search needs
 loop-holds : tie.Need-loop-holds Inv-loop μ-loop
 loop-holds c = search needs
 
-shared-slice-read-octet : tie.Need-shared-slice-read-octet Inv-loop μ-loop
-shared-slice-read-octet c = search needs
-
-finish-requires : tie.Need-finish-requires Inv-loop μ-loop
-finish-requires c κs = search needs
+shared-slice-read-grow : tie.Need-shared-slice-read-grow Inv-loop μ-loop
+shared-slice-read-grow c = search needs
 
 grow-requires : tie.Need-grow-requires Inv-loop μ-loop
 grow-requires c κs = search needs
+
+finish-requires : tie.Need-finish-requires Inv-loop μ-loop
+finish-requires c κs = search needs
 
 add-i : tie.Need-add-i Inv-loop μ-loop
 add-i c = search needs
@@ -46,9 +46,9 @@ feed-spec =
     μ-loop
     front-requires
     loop-holds
-    shared-slice-read-octet
-    finish-requires
+    shared-slice-read-grow
     grow-requires
+    finish-requires
     add-i
     loop-less
     loop-again

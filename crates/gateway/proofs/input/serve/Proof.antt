@@ -4,19 +4,19 @@ use Rattle.gateway.proofs.input.serve.Statement.{statement}
 use Rattle.gateway.proofs.input.serve.Tie as tie
 
 abbrev Inv-loop : tie.InvT-loop
-Inv-loop fd held₀ waiting₀ table₀ line₀ chunk₀ r₀ turns₀ got₀ held waiting table line chunk r turns got = Unit {0}
+Inv-loop fd name held₀ waiting₀ table₀ line₀ octets₀ entry₀ chunk₀ session₀ turns₀ got₀ held waiting table line octets entry chunk session turns got = Unit {0}
 
 abbrev μ-loop : tie.MeasureT-loop
-μ-loop fd held₀ waiting₀ table₀ line₀ chunk₀ r₀ turns₀ got₀ held waiting table line chunk r turns got = turns
+μ-loop fd name held₀ waiting₀ table₀ line₀ octets₀ entry₀ chunk₀ session₀ turns₀ got₀ held waiting table line octets entry chunk session turns got = turns
 
-new-requires : tie.Need-new-requires Inv-loop μ-loop
-new-requires c κs = search needs
+open-requires : tie.Need-open-requires Inv-loop μ-loop
+open-requires c κs = search needs
 
 loop-holds : tie.Need-loop-holds Inv-loop μ-loop
 loop-holds c = search needs
 
-read-requires : tie.Need-read-requires Inv-loop μ-loop
-read-requires c κs = search needs
+read-some-requires : tie.Need-read-some-requires Inv-loop μ-loop
+read-some-requires c κs = search needs
 
 feed-requires : tie.Need-feed-requires Inv-loop μ-loop
 feed-requires c κs = search needs
@@ -45,9 +45,9 @@ serve-spec =
     (tie.spec
     Inv-loop
     μ-loop
-    new-requires
+    open-requires
     loop-holds
-    read-requires
+    read-some-requires
     feed-requires
     sub-turns
     loop-less

@@ -1,0 +1,7 @@
+pub mod Ranges
+pub mod Leading
+pub mod Finding
+pub mod Digits
+pub mod Pairs
+pub mod Decoding
+pub mod Taking

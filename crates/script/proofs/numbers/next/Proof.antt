@@ -1,0 +1,90 @@
+-- The word is a number where its digits are all of it, and their value is not capped. Assumes nothing.
+use borrow.Author.Needs.{needs}
+use mathlib.Core.Path.{sym, ap, _∙_}
+use mathlib.Core.List.{List}
+use Prim.Native.Nat.{ℕ}
+use denote.Ref.{now}
+use lib.ListN.{length}
+use Rattle.script.specs.Words.{wordAt, wordEnd}
+use Rattle.script.proofs.Finding.{word-there}
+use Rattle.script.specs.Numbers.{decimalAt}
+use Rattle.script.proofs.Digits.{number-none, number-short, number-past, number-good}
+use Rattle.script.proofs.numbers.next.Statement.{statement}
+use Rattle.script.proofs.numbers.next.Tie as tie
+
+next-requires : tie.Need-next-requires
+next-requires c κs = search needs
+
+text-requires : tie.Need-text-requires
+text-requires c κs = search needs
+
+digits-requires : tie.Need-digits-requires
+digits-requires c κs = search needs
+
+enum-known-value : tie.Need-enum-known-value
+enum-known-value c = search needs
+
+enum-told : tie.Need-enum-told
+enum-told c = search needs
+
+returns : tie.Need-returns
+returns c =
+    let d = c .before .before in
+    let a = d .before .before .before .before .args in
+    let line = now (a .line) in
+    let w = d .before .before .next in
+    let t = d .before .text in
+    let e = word-there line (a .at) (w .result .from) (w .result .to) (now (t .result)) (w .ensures) (t .ensures) in
+    let told = ap (λ (s : List ℕ). decimalAt s 0) (sym e) ∙ sym (d .digits .ensures) ∙ c .enum-told .given .1 in
+    sym (number-none (wordAt line (a .at)) (wordEnd line (a .at)) told)
+
+returns-2 : tie.Need-returns-2
+returns-2 c =
+    let d = c .before .before .before .before in
+    let a = d .before .before .before .before .args in
+    let line = now (a .line) in
+    let w = d .before .before .next in
+    let t = d .before .text in
+    let e = word-there line (a .at) (w .result .from) (w .result .to) (now (t .result)) (w .ensures) (t .ensures) in
+    let told = ap (λ (s : List ℕ). decimalAt s 0) (sym e) ∙ sym (d .digits .ensures) ∙ c .before .before .value .given .1 in
+    sym (number-short (wordAt line (a .at)) (wordEnd line (a .at)) _ _ told (rw (← ap length e) (c .if1 .taken)))
+
+returns-3 : tie.Need-returns-3
+returns-3 c =
+    let d = c .before .before .before .before .before in
+    let a = d .before .before .before .before .args in
+    let line = now (a .line) in
+    let w = d .before .before .next in
+    let t = d .before .text in
+    let e = word-there line (a .at) (w .result .from) (w .result .to) (now (t .result)) (w .ensures) (t .ensures) in
+    let told = ap (λ (s : List ℕ). decimalAt s 0) (sym e) ∙ sym (d .digits .ensures) ∙ c .before .before .before .value .given .1 in
+    sym (number-past (wordAt line (a .at)) (wordEnd line (a .at)) _ _ told (rw (← ap length e) (c .before .if1 .left)) (c .if2 .taken))
+
+cast-t10 : tie.Need-cast-t10
+cast-t10 c = search needs
+
+returns-4 : tie.Need-returns-4
+returns-4 c =
+    let d = c .before .before .before .before .before in
+    let a = d .before .before .before .before .args in
+    let line = now (a .line) in
+    let w = d .before .before .next in
+    let t = d .before .text in
+    let e = word-there line (a .at) (w .result .from) (w .result .to) (now (t .result)) (w .ensures) (t .ensures) in
+    let told = ap (λ (s : List ℕ). decimalAt s 0) (sym e) ∙ sym (d .digits .ensures) ∙ c .before .before .before .value .given .1 in
+    rw (w .ensures .1) (sym (number-good (wordAt line (a .at)) (wordEnd line (a .at)) _ _ told (rw (← ap length e) (c .before .if1 .left)) (c .if2 .left)))
+
+pub next-spec : {M : Type 1} → statement M
+next-spec =
+    tie.close
+    (tie.spec
+    next-requires
+    text-requires
+    digits-requires
+    enum-known-value
+    enum-told
+    returns
+    returns-2
+    returns-3
+    cast-t10
+    returns-4)

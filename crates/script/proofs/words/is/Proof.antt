@@ -1,0 +1,21 @@
+-- The word's octets are compared. Assumes nothing.
+use borrow.Author.Needs.{needs}
+use mathlib.Core.Path.{ap, _∙_}
+use mathlib.Core.List.{List}
+use Prim.Native.Nat.{ℕ}
+use denote.Ref.{now}
+use Rattle.octets.specs.Same.{same}
+use Rattle.script.proofs.words.is.Statement.{statement}
+use Rattle.script.proofs.words.is.Tie as tie
+
+text-requires : tie.Need-text-requires
+text-requires c κs = search needs
+
+same-requires : tie.Need-same-requires
+same-requires c κs = search needs
+
+returns : tie.Need-returns
+returns c = c .same .ensures ∙ ap (λ (w : List ℕ). same w (now (c .before .before .before .before .args .name))) (c .before .text .ensures)
+
+pub is-spec : {M : Type 1} → statement M
+is-spec = tie.close (tie.spec text-requires same-requires returns)

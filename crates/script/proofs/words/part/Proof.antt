@@ -1,0 +1,62 @@
+-- Past the line there is nothing, and between places in the wrong order too. Assumes nothing.
+use borrow.Author.Needs.{needs}
+use mathlib.Core.Path.{_≡_, sym, ap, _∙_}
+use Prim.Native.Nat.{ℕ, _-_}
+use native.Mathlib.Nat.{le-of-lt}
+use native.Mathlib.Omega.{arith}
+use denote.Ref.{now}
+use lib.ListN.{length, take, drop, length-drop, drop-of-length-le}
+use lib.Seq.{take-nil, take-all}
+use mathlib.Core.List.{List}
+use Rattle.script.proofs.words.part.Statement.{statement}
+use Rattle.script.proofs.words.part.Tie as tie
+
+slice-aggregate-result : tie.Need-slice-aggregate-result
+slice-aggregate-result c = search needs
+
+returns : tie.Need-returns
+returns c =
+    let a = c .before .before .before .args in
+    sym (ap (take (a .to - a .from)) (drop-of-length-le (now (a .line)) (le-of-lt (c .before .if1 .taken))) ∙ take-nil (a .to - a .from))
+
+slice-aggregate-result-2 : tie.Need-slice-aggregate-result-2
+slice-aggregate-result-2 c = search needs
+
+returns-2 : tie.Need-returns-2
+returns-2 c =
+    let a = c .before .before .before .before .args in
+    let e : a .to - a .from ≡ 0 = omega arith in
+    rw e
+
+sub-front : tie.Need-sub-front
+sub-front c = search needs
+
+part-front-start : tie.Need-part-front-start
+part-front-start c = search needs
+
+part-front-end : tie.Need-part-front-end
+part-front-end c = search needs
+
+front-requires : tie.Need-front-requires
+front-requires c κs = search needs
+
+returns-3 : tie.Need-returns-3
+returns-3 c =
+    let a = c .before .before .before .before .before .args in
+    let line : List ℕ = now (a .line) in
+    c .front .ensures
+    ∙ ap (take (a .to - a .from)) (take-all (length line - a .from) (drop (a .from) line) (omega (arith, length-drop (a .from) line)))
+
+pub part-spec : {M : Type 1} → statement M
+part-spec =
+    tie.close
+    (tie.spec
+    slice-aggregate-result
+    returns
+    slice-aggregate-result-2
+    returns-2
+    sub-front
+    part-front-start
+    part-front-end
+    front-requires
+    returns-3)

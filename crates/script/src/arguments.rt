@@ -1,0 +1,108 @@
+// What the words behind a call's name may say: a channel, one of two words, and how much is lent.
+use crate::numbers;
+use crate::numbers::Number;
+use crate::words;
+
+// A channel's number and the place behind it, or none.
+pub enum Channel {
+    Number { channel: u16, at: usize },
+    Bad,
+}
+
+// Which of two words stood there, and the place behind it, or neither.
+pub enum Choice {
+    Chosen { first: bool, at: usize },
+    Bad,
+}
+
+// How much is lent, where the line says so or says nothing.
+pub enum Room {
+    Lent(u32),
+    Bad,
+}
+
+// How much is lent for a payload's octets and units.
+pub enum Rooms {
+    Lent { octets: u32, units: u32 },
+    Bad,
+}
+
+// The channel's number that the next word is, to 65,535.
+pub fn channel_at(line: &[u8], from: usize) -> Channel {
+    let Number::Value { value, at } = numbers::next(line, from) else {
+        return Channel::Bad;
+    };
+    if 65535 < value {
+        return Channel::Bad;
+    }
+    Channel::Number {
+        channel: value as u16,
+        at,
+    }
+}
+
+// Whether the next word is the first of two or the second.
+pub fn choice_at(line: &[u8], from: usize, first: &[u8], second: &[u8]) -> Choice {
+    let w = words::next(line, from);
+    if words::is(line, w, first) {
+        return Choice::Chosen {
+            first: true,
+            at: w.to,
+        };
+    }
+    if words::is(line, w, second) {
+        return Choice::Chosen {
+            first: false,
+            at: w.to,
+        };
+    }
+    Choice::Bad
+}
+
+// What is lent, behind `name`, as the line's last two words; enough where the line has ended.
+pub fn room_at(line: &[u8], at: usize, name: &[u8]) -> Room {
+    if words::ended(line, at) {
+        return Room::Lent(u32::MAX);
+    }
+    let w = words::next(line, at);
+    if words::is(line, w, name) {
+        let Number::Value { value, at: end } = numbers::next(line, w.to) else {
+            return Room::Bad;
+        };
+        if words::ended(line, end) {
+            return Room::Lent(value);
+        }
+    }
+    Room::Bad
+}
+
+// What is lent for octets and units, behind `room`, as the line's last three words; enough where the line has ended.
+pub fn rooms_at(line: &[u8], at: usize) -> Rooms {
+    if words::ended(line, at) {
+        return Rooms::Lent {
+            octets: u32::MAX,
+            units: u32::MAX,
+        };
+    }
+    let w = words::next(line, at);
+    if words::is(line, w, b"room") {
+        let Number::Value {
+            value: octets,
+            at: next,
+        } = numbers::next(line, w.to)
+        else {
+            return Rooms::Bad;
+        };
+        let Number::Value {
+            value: units,
+            at: end,
+        } = numbers::next(line, next)
+        else {
+            return Rooms::Bad;
+        };
+        if words::ended(line, end) {
+            return Rooms::Lent { octets, units };
+        }
+    }
+    Rooms::Bad
+}

@@ -1,0 +1,57 @@
+// A call, as a value: what a line asks for. Octets and the numbers of a table entry stand in what was lent to the reading of the line,
+// and the value says how many there are.
+
+// Settings of AL1M, the octets that they are for, and how many are lent for the answer.
+pub struct CodingCall {
+    pub width: u32,
+    pub e: u32,
+    pub octets: usize,
+    pub room: u32,
+}
+
+// The room of a payload, and how many octets are lent for it.
+pub struct MuxCall {
+    pub code: u32,
+    pub room: u32,
+    pub lent: u32,
+}
+
+// A payload, and how many octets and units are lent for what it finishes.
+pub struct DemuxCall {
+    pub code: u32,
+    pub mark: bool,
+    pub octets: usize,
+    pub room: u32,
+    pub units: u32,
+}
+
+// A unit of AL2: its channel, whether it has a number, and its octets.
+pub struct UnitCall {
+    pub channel: u16,
+    pub numbered: bool,
+    pub octets: usize,
+}
+
+// Calls that have no state.
+pub enum Coding {
+    Length { width: u32, e: u32, t: u32 },
+    Encode(CodingCall),
+    Receive(CodingCall),
+    Al1 { octets: usize },
+}
+
+// A line that asks for nothing, one that cannot be read, or a call.
+pub enum Call {
+    Nothing,
+    Malformed,
+    Coding(Coding),
+    Open { channel: u16, segmentable: bool },
+    Close { channel: u16 },
+    Reset { channel: u16 },
+    Entry { code: u32, numbers: usize },
+    Post { channel: u16, octets: usize },
+    Mux(MuxCall),
+    Demux(DemuxCall),
+    Send { unit: UnitCall, room: u32 },
+    Take(UnitCall),
+}
