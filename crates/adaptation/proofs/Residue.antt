@@ -4,7 +4,6 @@
 --                    with zeros if not, once it has taken the content c
 --   start κ          what it starts with, as octets
 --   residues κ u     what it holds, as octets, once it has taken the octets u
---   check-is         the check is what it holds, added to what it started with
 --   residues-none    no content
 --   residues-step    one octet more: its sum with the first octet held chooses a remainder, and the other octets move up
 --   residues-turn    .. as a loop over the content has it

@@ -1,5 +1,7 @@
 -- The claims of specs/Claims.antt; and how large the numbers are that AL1M answers.
 --
+--   sentIsHandedUp, faultlessIsCodeWord, outOfReachExactly, checkFailedExactly, uncheckedExactly, noCheckAgrees, encodedUnique,
+--   receivedUnique, refusalLeaves   the claims
 --   sent-small     a sent unit has at most 255 octets
 --   handed-small   a unit that is handed up has fewer, and at most 127 of the word's octets were changed
 --

@@ -3,12 +3,12 @@
 --   field n         a number as it is sent: one octet, or none where units have no number (7.3.3.2.1)
 --   fieldLength s   how many octets that is, by whether units have numbers
 --   whole n u       a unit u with its number, and the check of 8 bits over both (7.3.3.2.3)
---   isSendable n u  u has an octet, and the whole at most 1,024
+--   isSendable n u  u has an octet, and the whole no more than the longest unit (1,024)
 --   sendTests n u out   what refuses to put it into a lent output, in this order
 --   sent n u out    how that ends: with the octets written, or a refusal
---   isWhole s w     w is no shorter than a number if there is one, a unit and a check, and no longer than 1,024 octets
---   numberOf s w    the number and the unit that w is made of
---   unitOf s w
+--   isWhole s w     w is no shorter than a number if there is one, a unit and a check, and no longer than the longest unit
+--   numberOf s w    the number that w is made of
+--   unitOf s w      .. and the unit
 --   Parts           a unit that was read: its number, whether its check agrees, and the unit
 --   readTests s w   what refuses to read w
 --   partsOf s w     the parts of w
@@ -16,7 +16,7 @@
 --   distance n e    n - e modulo 256
 --   mostMissing     the largest that counts as missing units, and not as a misdelivered one
 --   arrival n e     what becomes of number n where e is expected (house): up to 127 past it, that many are missing and the one
---                   behind n is expected next; else the unit is misdelivered
+--                   after n is expected next; else the unit is misdelivered
 --   Receipt         what becomes of a unit: it is handed up, with how many are missing before it, or it is discarded; and the
 --                   number that is expected next
 --   delivered       .. by what becomes of its number, where its check agrees

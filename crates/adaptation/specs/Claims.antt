@@ -3,6 +3,7 @@
 --   isFaulty b            badge 2 or 3
 --   SentIsHandedUp        a sent unit of which at most e octets changed, length and settings unchanged, is handed up as sent, with the
 --                         true number of changed octets, and never with badge 2 or 3
+--   Faultless             what a badge that is not at fault is given to
 --   FaultlessIsCodeWord   another badge is given to nothing but the one code word within e octets whose check agrees: its unit is handed
 --                         up, and its distance told
 --   OutOfReachExactly     badge 2 is given exactly where no code word lies within e octets; nothing is changed then

@@ -2,7 +2,6 @@
 --
 --   told-refused       a call is not answered and refused
 --   by-test            what holds of both ends of a test holds of what it decides
---   None l             no test of the refusals l holds
 --   by-tests           what holds of every refusal, and of the end that is reached where no test holds, holds of the call
 --   checked-through    what is made of a call's end is made of each refusal and of the other end
 --   checked-leaves     a refusal leaves what was lent as it came
@@ -23,7 +22,7 @@ use mathlib.Core.Bool.{Bool, true, false, cond}
 use mathlib.Core.List.{List, [], _∷_}
 use Prim.Native.Nat.{ℕ}
 use Rattle.octets.specs.Tests.{never}
-use Rattle.calls.specs.Refusal.{Told, refused, told, Ended, ended, leaving, refusing, Test, _when_, checked, refusal, Refuses, outcomeSays, lengthSays}
+use Rattle.calls.specs.Refusal.{Told, refused, told, Ended, ended, leaving, refusing, Test, _when_, checked, refusal, None, Refuses, outcomeSays, lengthSays}
 use Rattle.calls.specs.declared.Outcome.{Outcome}
 use Rattle.calls.specs.declared.Outcome.the-variants as outcome
 use Rattle.calls.specs.declared.Length.{Length}
@@ -40,10 +39,6 @@ refused-same i k e = cc
 pub by-test : {A : Type 0} (P : A → Type 0) (b : Bool) {x y : A} → (b ≡ true → P x) → (b ≡ false → P y) → P (cond b x y)
 by-test P true f g = f refl
 by-test P false f g = g refl
-
-abbrev pub None : List Test → Type 0
-None [] = Unit {0}
-None ((k when b) ∷ l) = (b ≡ false) × None l
 
 pub by-tests : {A : Type 0} (P : A → Type 0) (f : ℕ → A) (l : List Test) (e : A) → ((k : ℕ) → P (f k)) → (None l → P e) → P (checked f l e)
 by-tests P f [] e r a = a tt

@@ -8,6 +8,7 @@
 --   k when b        a `Test`: refusal k is given where b holds
 --   checked f l e   f of the first of the refusals l whose test holds, or else e
 --   refusal l       the first of the refusals l whose test holds, if one does
+--   None l          no test of the refusals l holds
 --   RefusedIs l k before after   k is that one, and what was lent is as it came
 --   Refuses d l x   a call that ends as d is refused with the first of the refusals l whose test holds, exactly where one does, and
 --                   then leaves x, as it came
@@ -17,7 +18,7 @@
 -- Assumes nothing.
 use mathlib.Core.Path.{_≡_}
 use mathlib.Core.Logic.{_↔_}
-use mathlib.Core.Bool.{Bool, cond}
+use mathlib.Core.Bool.{Bool, false, cond}
 use mathlib.Core.List.{List, [], _∷_}
 use Prim.Native.Nat.{ℕ}
 use Rattle.calls.specs.declared.Outcome.{Outcome}
@@ -54,6 +55,10 @@ checked f ((k when b) ∷ l) e = cond b (f k) (checked f l e)
 
 abbrev pub refusal : List Test → Told (Unit {0})
 refusal l = checked refused l (told tt)
+
+abbrev pub None : List Test → Type 0
+None [] = Unit {0}
+None ((k when b) ∷ l) = (b ≡ false) × None l
 
 pub record RefusedIs {X : Type 0} (l : List Test) (k : ℕ) (before after : X) : Type 0 where
   pub first : refusal l ≡ refused k

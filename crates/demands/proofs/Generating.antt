@@ -1,5 +1,7 @@
 -- The coefficients of the generator and of a list's polynomial, in a form that a machine works out.
 --
+--   only a m k          a where k is m, and 0 elsewhere
+--   shifted f k         the coefficient at x^k of x times f
 --   coefficient n k     the coefficient at x^k of (x - α) .. (x - αⁿ)
 --   rooted-worked       it is
 --   ofList w k          the coefficient at x^k of the polynomial of the octets w, the first the highest

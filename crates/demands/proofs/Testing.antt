@@ -1,8 +1,10 @@
 -- Whether a word is a code word, and whether one lies within one octet of it, by a test that antt computes.
 --
+--   isZeroAt w i    the value at α^(i+1) is zero
 --   isCode e w      the test: the values at α, .., α^2e are zero
 --   isCode-true     it passes at code words only
 --   isCode-false    .. and at all of them
+--   noneAt w i      no octet at place i makes a code word of w, for e = 1
 --   noneNear w      no word that differs from w in one octet at most passes it, for e = 1
 --   Beside w c      c is w with the octet of c at one place
 --   near-one        a word within one octet is

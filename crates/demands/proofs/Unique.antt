@@ -1,9 +1,16 @@
 -- Any two answers that a promise allows are equal: answer, state and every buffer. docs/PROMISES.md says which of these is for which
 -- operation.
 --
---   equation-once       of a promise that is an equation, `r ≡ definition arguments`
+--   equation-once                          of a promise that is an equation, `r ≡ definition arguments`
+--   codeword-encoded, codeword-repaired    the code word's
+--   outcome-once, length-once, lengths-once   of answers that say 'done' or 'so many octets', alone and with what is left
+--   al1m-encoded, al1m-received, passed-once, read-once, received-once   the adaptation layers'
+--   encode-once, receive-once              the C entries'
+--   replacedUnique                         the table's
+--   afterUnique, postUnique, sendUnique, takeUnique   the channels'
+--   demultiplexed-once, multiplexed-once   the multiplexer's
 --
--- The others are proved where their promises are, and stand here under one roof.
+-- All but the first are proved where their promises are, and stand here under one roof.
 -- Assumes nothing.
 use mathlib.Core.Path.{_≡_, sym, _∙_}
 pub use Rattle.codeword.proofs.Laws.{encodedUnique as codeword-encoded, repairedUnique as codeword-repaired}

@@ -1,5 +1,6 @@
 -- The field's product and the values of a word, in a form that a machine works out: by Table D.I.1 and its logarithms.
 --
+--   added i j       the power of α that two powers make
 --   times a b       the product through the table
 --   product-times   it is the product
 --   horner x v w    the value at x of a word that goes on with w, where v is its value so far

@@ -2,6 +2,7 @@
 -- of that length differs from it in at most e octets; never a second one; a unit of which at most e octets changed is handed up as
 -- sent with the true count; a word out of reach is badged so and never corrected.
 --
+--   Repairs    what demand 3 says of one word
 --   Demand3    that, of every answer that AL1M's receiving may give. (Which words and settings are permitted is demand 1: all but those
 --              of refusals 1 and 2, and 3 where the buffer for the repair is too small.) proofs/Reached.antt proves it
 --

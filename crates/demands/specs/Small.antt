@@ -1,6 +1,7 @@
 -- The small set of document 01, as one table. All octets are in hex.
 --
 --   Vector       one line of it
+--   ReceivedAs   what receiving a word comes to, whatever is lent for the repair, if it is enough
 --   Holds v      what it says, of the definitions
 --   Small        the table: A1 to A10, in this order; proofs/Vectors.antt proves it
 --

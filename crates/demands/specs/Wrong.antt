@@ -4,6 +4,7 @@
 --
 --   Receiver        anything that answers a received word, and leaves octets where it was lent some for the repair
 --   Keeps R         every answer of R is one that receiving's promise allows
+--   Always R P      P holds of every unit that R hands up
 --   RefusesAll      it refuses everything
 --   FindsNothing    it finds nothing ever
 --   SameUnit        it hands up the same unit always

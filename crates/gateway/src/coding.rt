@@ -6,8 +6,8 @@ use adaptation::LONGEST_UNIT;
 use adaptation::al1;
 use adaptation::al1::Passed;
 use adaptation::al1m;
-use adaptation::al1m::LONGEST_WORD;
 use calls::Length;
+use codeword::LONGEST_WORD;
 use script::call::Coding;
 use script::call::CodingCall;
 

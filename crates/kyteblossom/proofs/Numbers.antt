@@ -2,7 +2,6 @@
 --
 --   minus-is      0 less a small number
 --   minus-fits    .. is one of 32 bits
---   plus-fits     and so is a small number
 --
 -- Assumes nothing.
 use mathlib.Core.Path.{_≡_, ap, _∙_}

@@ -2,13 +2,10 @@
 --
 --   Agrees r l x      the walk x over the slots l: cut to the octets that it sends, the slots are its pieces by the channels r, each open
 --                     and with an octet; and there is a last one where it has the closing mark
---   agrees-stopped    .. of the walk that sends nothing
---   agrees-ending     .. that sends one piece
---   agrees-sending    .. that sends a whole slot, and goes on
 --   neither           neither test holds
 --   waits-some        a slot that is not blocked: an octet waits
 --   goes-whole        the walk goes on behind it: it is filled
---   walk-agrees       .. of every walk
+--   walk-agrees       every walk agrees
 --
 -- Assumes nothing.
 use mathlib.Core.Path.{_≡_, refl, sym, _∙_}

@@ -1,7 +1,5 @@
 -- Two demultiplexers that do not meet demand 2. Two units of one octet are posted and sent on channel 0, each in a payload of its own.
 --
---   blank n          n zeros
---   once, twice      a unit posted and sent, and again
 --   idle-fails       the idle one delivers the first unit and not the second: the first, because the demultiplexer does
 --   refuser-fails    the one that refuses everything refuses the first payload
 --

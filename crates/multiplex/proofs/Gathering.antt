@@ -1,6 +1,7 @@
 -- What the loop that gathers a payload's octets keeps, and what its steps make of it.
 --
 --   Gathering     the pieces l are still to be gathered, into d from `at` on
+--   pieceAt       the piece at place j of two lists
 --   gathers-at    of pieces that stand in two lists, the one at place j comes first
 --   first-moves   the first of them can be sent, and fits
 --   part-of       what is read for it: so many of the octets that wait at its place

@@ -1,7 +1,6 @@
 -- A channel opened at both ends leaves them matched.
 --
---   map-set          what a map makes of a list with one element set
---   opened-matched   .. so the seats stay alike; the new channel has nothing under way, and no other's place changes
+--   opened-matched   the seats stay alike; the new channel has nothing under way, and no other's place changes
 --   start-matched    both ends fresh match
 --
 -- Assumes nothing.

@@ -1,11 +1,11 @@
 -- What the loop of the multiplexer's walk keeps, and what its steps make of it.
 --
 --   before ps r   the walk r behind the pieces ps
+--   given         the slots that stand at the front of two lists
 --   Walking       at slot j: the pieces before it stand in the lists, and the walk from it on is still to come
 --   begun         at the first slot
---   stops         where the walk stops before slot j
---   ended         .. as it does behind the last
---   closed        .. where its channel is not open
+--   ended         where the walk stops behind the last slot
+--   closed        .. before one whose channel is not open
 --   blocked       .. where nothing can be sent
 --   goes          one piece more
 --   last          .. and where that is the last

@@ -1,7 +1,5 @@
 -- The claims of specs/Claims.antt, proved.
 --
---   not-refused      a call that answered was not refused
---   payload-holds    what an accepted payload leaves has all its octets
 --   demand-met, idle-fails, refuser-fails, octets-once, order-kept   the claims
 --
 -- Assumes nothing.

@@ -1,7 +1,7 @@
 -- The multiplexer's walk, a slot at a time.
 --
---   turn-none .. turn-short   what becomes of a slot, in each case
---   turn-moves       no slot takes more than waits, nor than it has
+--   turn-none, turn-more, turn-end, turn-long, turn-full, turn-short   what becomes of a slot, in each case
+--   turn-on, turn-last   no slot takes more than waits, nor than it has
 --   byTurn           the walk from a slot on, by what becomes of it
 --   walked-closed    a walk stops where a channel is not open
 --   walked-open      .. and else goes by what becomes of the slot

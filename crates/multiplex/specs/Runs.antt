@@ -10,7 +10,8 @@
 --                      pay c room ..      a payload of at most `room` octets is made under code c; where one is made, the receiver gets it
 --   added t f          what an answer adds to a list; a refusal adds nothing
 --   refusedOnce t      1 for a refusal, 0 for an answer
---   atBoth, afterPost, afterPayload, afterMaking   both ends after a call at both, a post, a payload, and a call for one
+--   unitsTold a        the units that an answer to a payload tells of
+--   atBoth, afterPost, afterPayload, afterNone, afterMaking   both ends after a call at both, a post, a payload, none made, and either
 --   step, run          one event, and one behind another; the demultiplexer may go by how many payloads came before
 --   isWaiting s n      octets of channel n wait
 --   whollySent x n     the units posted on channel n, without the last if octets of it still wait
@@ -87,7 +88,6 @@ abbrev pub refusedOnce : {A : Type 0} → Told A → ℕ
 refusedOnce (refused k) = 1
 refusedOnce (told a) = 0
 
--- the units of an answer to a payload
 abbrev pub unitsTold : Answer → List UnitOn
 unitsTold done = []
 unitsTold (finished k output units) = unitsIn output units k

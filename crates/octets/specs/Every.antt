@@ -1,5 +1,6 @@
 -- A fact of every number below n, by one test that antt computes.
 --
+--   both-left, both-right   of two tests that passed, each did
 --   every f n     the test f passes at each number below n
 --   every-at      .. so it passes at k, for k below n
 --   every-pair    .. and so does a test of two numbers, at i below m and j below n

@@ -21,7 +21,6 @@ use Rattle.octets.specs.Same.{same, same-equal}
 use Rattle.octets.specs.Tests.{never, first-false, second-false, third-false}
 use Rattle.octets.specs.Written.{written, written-nothing}
 use Rattle.script.specs.declared.hex.Decoded.the-variants.{Octets, Bad}
-use Rattle.script.specs.declared.hex.Octets as words
 use Rattle.script.specs.declared.hex.Octets.the-variants as of-words
 use Rattle.script.specs.Hex.{isHex, octetsOf, isOctets, IsDecoded, IsGiven}
 

@@ -1,6 +1,7 @@
 -- Laying slots down, one list behind another.
 --
 --   lays-empty, lays-none, lays-one   no slots; any, where no octet is left; and one slot
+--   kept-channels, kept-lengths   both lists keep their lengths
 --   room-after                there is still room once slots were laid
 --   lays-both                 two lists of slots laid one behind the other are both laid
 --   lays-first                .. and so they are where the first laid nothing and has no slot only if the second has none

@@ -1,9 +1,8 @@
 -- Numbers behind an entry change nothing of it: what is read well in s is read alike in u, which begins with s.
 --
---   HeadIs             what an element's own numbers can be, and why
+--   GoodNumbers        what holds of an element's own numbers where they are good
 --   Alike              the longer list u: it has s's numbers where s has any
 --   element-alike      an element read in s is read in u, with any budget that suffices and any least repeat count that is not higher
---   many-alike         .. and so is a list
 --   slots-alike        .. and it has the same slots in both
 --   entry-alike        so u has the slots of the entry s
 --
@@ -30,15 +29,15 @@ use Rattle.table.proofs.Passing.{number-inside}
 -- ---- an element's own numbers
 
 -- what holds where they are good
-pub record Sound (s : List ℕ) (at left least : ℕ) : Type 0 where
+pub record GoodNumbers (s : List ℕ) (at left least : ℕ) : Type 0 where
   pub inside : at + 3 ≤ length s
   pub budget : 1 ≤ left
   pub often : least ≤ getD s at 0
 
 data HeadIs (s : List ℕ) (at left least : ℕ) : Head → Type 0 where
   is-malformed : HeadIs s at left least Malformed
-  is-channel : Sound s at left least → getD s (at + 1) 0 ≡ 0 → HeadIs s at left least (Channel (at + 3) (left - 1))
-  is-inner : Sound s at left least → 2 ≤ getD s (at + 1) 0 → HeadIs s at left least (Inner (getD s (at + 1) 0) (at + 2) (left - 1))
+  is-channel : GoodNumbers s at left least → getD s (at + 1) 0 ≡ 0 → HeadIs s at left least (Channel (at + 3) (left - 1))
+  is-inner : GoodNumbers s at left least → 2 ≤ getD s (at + 1) 0 → HeadIs s at left least (Inner (getD s (at + 1) 0) (at + 2) (left - 1))
 
 by-test : {A : Type 0} (P : A → Type 0) (b : Bool) (x y : A) → (b ≡ true → P x) → (b ≡ false → P y) → P (cond b x y)
 by-test P true x y p q = p refl
@@ -53,12 +52,12 @@ head-is s at left least =
     by-test P (ltb (length s - 3) at) _ _ (λ e. is-malformed) (λ b.
     by-test P (eqb left 0) _ _ (λ e. is-malformed) (λ c.
     by-test P (ltb (getD s at 0) least) _ _ (λ e. is-malformed) (λ d.
-    let sound : Sound s at left least = record { inside = omega (arith, ltb-false (length s) 3 a, ltb-false (length s - 3) at b); budget = omega (arith, eqb-false left 0 c); often = ltb-false (getD s at 0) least d } in
+    let sound : GoodNumbers s at left least = record { inside = omega (arith, ltb-false (length s) 3 a, ltb-false (length s - 3) at b); budget = omega (arith, eqb-false left 0 c); often = ltb-false (getD s at 0) least d } in
     by-test P (eqb k 0) _ _ (λ e. is-channel sound (eqb-true _ _ e)) (λ e.
     by-test P (eqb k 1) _ _ (λ e. is-malformed) (λ f.
     is-inner sound (omega (arith, eqb-false k 0 e, eqb-false k 1 f))))))))
 
-head-channel : (s : List ℕ) (at left least : ℕ) → Sound s at left least → getD s (at + 1) 0 ≡ 0 → headAt s at left least ≡ Channel (at + 3) (left - 1)
+head-channel : (s : List ℕ) (at left least : ℕ) → GoodNumbers s at left least → getD s (at + 1) 0 ≡ 0 → headAt s at left least ≡ Channel (at + 3) (left - 1)
 unfolding headAt
 head-channel s at left least p e =
     let short : 3 ≤ length s = omega (arith, p .inside) in
@@ -66,7 +65,7 @@ head-channel s at left least p e =
     let some : left ≡ 0 → ⊥ = λ z. omega (arith, p .budget) in
     rw (le-ltb _ _ short, le-ltb _ _ in₀, ne-eqb _ _ some, le-ltb _ _ (p .often), eq-eqb _ _ e)
 
-head-inner : (s : List ℕ) (at left least : ℕ) → Sound s at left least → 2 ≤ getD s (at + 1) 0 → headAt s at left least ≡ Inner (getD s (at + 1) 0) (at + 2) (left - 1)
+head-inner : (s : List ℕ) (at left least : ℕ) → GoodNumbers s at left least → 2 ≤ getD s (at + 1) 0 → headAt s at left least ≡ Inner (getD s (at + 1) 0) (at + 2) (left - 1)
 unfolding headAt
 head-inner s at left least p h =
     let short : 3 ≤ length s = omega (arith, p .inside) in
@@ -88,14 +87,14 @@ Again read left least a l =
     (l ≤ left) × ((budget low : ℕ) → left - l ≤ budget → low ≤ least → read budget low ≡ Next a (budget - (left - l)))
 
 module _ (s u : List ℕ) (alike : Alike s u) where
-  sound-alike : (at left least budget low : ℕ) → Sound s at left least → 1 ≤ budget → low ≤ least → Sound u at budget low
+  sound-alike : (at left least budget low : ℕ) → GoodNumbers s at left least → 1 ≤ budget → low ≤ least → GoodNumbers u at budget low
   sound-alike at left least budget low p h k = record {
     inside = omega (arith, p .inside, alike .longer);
     budget = h;
     often = omega (arith, p .often, p .inside, alike .same at (omega (arith, p .inside)));
   }
 
-  second-alike : (at left least : ℕ) → Sound s at left least → getD u (at + 1) 0 ≡ getD s (at + 1) 0
+  second-alike : (at left least : ℕ) → GoodNumbers s at left least → getD u (at + 1) 0 ≡ getD s (at + 1) 0
   second-alike at left least p = alike .same (at + 1) (omega (arith, p .inside))
 
   -- a list, where its elements are read alike
@@ -120,7 +119,7 @@ module _ (s u : List ℕ) (alike : Alike s u) where
                   rw (f .1 b 1 (omega (arith, f .0, r .0)) (omega arith)) (r .1 (b - (left - y)) 1 (omega (arith, f .0, r .0)) (omega arith) ∙ ap (Next a) z),
             )
 
-  channel-alike : (inner : ℕ → ℕ → ℕ → Read) (at left least a l : ℕ) → Sound s at left least → getD s (at + 1) 0 ≡ 0 → Next (at + 3) (left - 1) ≡ Next a l
+  channel-alike : (inner : ℕ → ℕ → ℕ → Read) (at left least a l : ℕ) → GoodNumbers s at left least → getD s (at + 1) 0 ≡ 0 → Next (at + 3) (left - 1) ≡ Next a l
       → Again (λ b low. onHead inner (headAt u at b low)) left least a l
   channel-alike inner at left least a l p e q =
       let x : at + 3 ≡ a = cc in

@@ -1,15 +1,18 @@
 -- The expansion of an entry (000, 6.4.1.1; document 01, "Multiplex table"): its slots, and the channel of each octet of a payload.
 --
 --   Slot            octets in a row of one channel, that one pass of a channel element gives
---   endless         the passes of what repeats until closing: the octets of the longest payload, since each pass has one or more
+--   endless         the passes of what repeats until closing: no payload has more octets, and each pass has one at least
 --   passes r        how often an element with repeat count r is passed
 --   copies n l      l, n times over
+--   placeAfter r at the place after what was read, or `at` where it is malformed
 --   skip            the place after an element
 --   inTurn one next n at   n elements from `at` on, one behind another
+--   slotsWith       the slots of the element at `at`, where `inner` are those of its list
 --   elementSlots    the slots of the element at `at`: a channel's one slot, or its list's slots, as often as it is passed
+--   listSlots       the slots of n elements from `at` on
 --   slots s         the slots of entry s
 --   cut n l         the first n octets of the slots l: the last slot may be cut short
---   payloadSlots s n      the slots of a payload of n octets under entry s, of fewer where the entry is shorter
+--   payloadSlots s n   the slots of a payload of n octets under entry s, of fewer where the entry is shorter
 --   octetsOf l      how many octets the slots l have
 --   numbersOf l     the channel of each slot
 --   lengthsOf l     .. and how many octets each has

@@ -6,8 +6,8 @@
 --   longestPayload  the octets of the longest payload
 --   entryOf t c     the numbers of entry c of table t; it has more behind them where the entry is shorter
 --   isDefined t c   there is an entry c: one that was never put has no elements
---   withEntry t c s    the table with s as its entry c
---   replaceTests c s    what refuses that, in this order
+--   withEntry t c s  the table with s as its entry c
+--   replaceTests c s what refuses that, in this order
 --   replaced t c s  how replacing entry c by s ends
 --
 -- Assumes nothing.

@@ -9,9 +9,6 @@ use lib.Seq.{length-take-le}
 use Rattle.gateway.proofs.lent.within_units.Statement.{statement}
 use Rattle.gateway.proofs.lent.within_units.Tie as tie
 
-mul-n : tie.Need-mul-n
-mul-n c = search needs
-
 returns : tie.Need-returns
 returns c = let l : List ℕ = c .before .args .list .now in (search needs, sym (length-take-le (length l) l (le-refl _)))
 
@@ -19,4 +16,5 @@ returns-2 : tie.Need-returns-2
 returns-2 c = (search needs, sym (length-take-le (3 * (c .before .args .units)) (c .before .args .list .now) (c .if1 .left)))
 
 pub within-units-spec : {M : Type 1} → statement M
-within-units-spec = tie.close (tie.spec mul-n returns returns-2)
+within-units-spec =
+    tie.close (tie.spec (λ c. search needs) returns returns-2)

@@ -28,12 +28,6 @@ Inv-loop text out₀ n₀ out n =
 abbrev μ-loop : tie.MeasureT-loop
 μ-loop text out₀ n₀ out n = length text / 2 - n
 
-slice-aggregate-same : tie.Need-slice-aggregate-same Inv-loop μ-loop
-slice-aggregate-same c = search needs
-
-same-requires : tie.Need-same-requires Inv-loop μ-loop
-same-requires c κs = search needs
-
 returns : tie.Need-returns Inv-loop μ-loop
 returns c =
     let a = c .before .before .before .before .before .args in
@@ -44,9 +38,6 @@ loop-holds c =
     let a = c .before .before .before .before .before .args in
     (refl, paste-zero (now (a .out)) 0 (octetsOf (now (a .text))), search needs, refl, search needs)
 
-same-length : tie.Need-same-length Inv-loop μ-loop
-same-length c = search needs
-
 returns-2 : tie.Need-returns-2 Inv-loop μ-loop
 returns-2 c =
     let m = c .before .before in
@@ -54,27 +45,6 @@ returns-2 c =
     let s = now (a .text) in
     let h = sym (m .before .before .same .ensures) ∙ m .before .if1 .left in
     decoded-past s (now (a .out)) h _ (omega arith)
-
-mul-octet : tie.Need-mul-octet Inv-loop μ-loop
-mul-octet c = search needs
-
-shared-slice-read-octet : tie.Need-shared-slice-read-octet Inv-loop μ-loop
-shared-slice-read-octet c = search needs
-
-mul-octet-2 : tie.Need-mul-octet-2 Inv-loop μ-loop
-mul-octet-2 c = search needs
-
-add-octet : tie.Need-add-octet Inv-loop μ-loop
-add-octet c = search needs
-
-shared-slice-read-octet-2 : tie.Need-shared-slice-read-octet-2 Inv-loop μ-loop
-shared-slice-read-octet-2 c = search needs
-
-octet-requires : tie.Need-octet-requires Inv-loop μ-loop
-octet-requires c κs = search needs
-
-same-length-2 : tie.Need-same-length-2 Inv-loop μ-loop
-same-length-2 c = search needs
 
 returns-3 : tie.Need-returns-3 Inv-loop μ-loop
 returns-3 c =
@@ -86,18 +56,6 @@ returns-3 c =
     let none = pair-none (getD s (2 * n) 0) (getD s (2 * n + 1) 0) (c .before .octet .result) (c .before .octet .ensures) (c .if3 .taken) in
     let e : isHex s ≡ false = m .loop .inv .0 ∙ pairs-on s n (omega arith) ∙ (rw none) in
     decoded-broken s (now (a .out)) h _ e
-
-cast-out : tie.Need-cast-out Inv-loop μ-loop
-cast-out c = search needs
-
-slice-write-out : tie.Need-slice-write-out Inv-loop μ-loop
-slice-write-out c = search needs
-
-add-n : tie.Need-add-n Inv-loop μ-loop
-add-n c = search needs
-
-loop-less : tie.Need-loop-less Inv-loop μ-loop
-loop-less c = search needs
 
 put : (d s : List ℕ) (n : ℕ) → n < length d → n < length s → set (paste d 0 s n) n (getD s n 0) ≡ paste d 0 s (suc n)
 put d s n h k = ap (λ (i : ℕ). set (paste d 0 s n) i (getD s n 0)) (sym (zero-add n)) ∙ paste-suc d 0 s n 0 (omega arith) k
@@ -121,12 +79,6 @@ loop-again c =
       omega arith,
     )
 
-mul-if4 : tie.Need-mul-if4 Inv-loop μ-loop
-mul-if4 c = search needs
-
-same-length-3 : tie.Need-same-length-3 Inv-loop μ-loop
-same-length-3 c = search needs
-
 returns-4 : tie.Need-returns-4 Inv-loop μ-loop
 returns-4 c =
     let m = c .before .before in
@@ -135,9 +87,6 @@ returns-4 c =
     let h = sym (m .before .before .same .ensures) ∙ m .before .if1 .left in
     decoded-broken s (now (a .out)) h _ (m .loop .inv .0 ∙ pairs-odd s (m .loop .n) (omega arith))
 
-same-length-4 : tie.Need-same-length-4 Inv-loop μ-loop
-same-length-4 c = search needs
-
 returns-5 : tie.Need-returns-5 Inv-loop μ-loop
 returns-5 c =
     let m = c .before .before .before in
@@ -145,9 +94,6 @@ returns-5 c =
     let s = now (a .text) in
     let h = sym (m .before .before .same .ensures) ∙ m .before .if1 .left in
     decoded-empty s (now (a .out)) h _ (omega arith)
-
-same-length-5 : tie.Need-same-length-5 Inv-loop μ-loop
-same-length-5 c = search needs
 
 returns-6 : tie.Need-returns-6 Inv-loop μ-loop
 returns-6 c =
@@ -164,32 +110,7 @@ returns-6 c =
 pub decode-spec : {M : Type 1} → statement M
 decode-spec =
     tie.close
-    (tie.spec
-    Inv-loop
-    μ-loop
-    slice-aggregate-same
-    same-requires
-    returns
-    loop-holds
-    same-length
-    returns-2
-    mul-octet
-    shared-slice-read-octet
-    mul-octet-2
-    add-octet
-    shared-slice-read-octet-2
-    octet-requires
-    same-length-2
-    returns-3
-    cast-out
-    slice-write-out
-    add-n
-    loop-less
-    loop-again
-    mul-if4
-    same-length-3
-    returns-4
-    same-length-4
-    returns-5
-    same-length-5
-    returns-6)
+    (tie.spec Inv-loop μ-loop (λ c. search needs) (λ c κs. search needs) returns loop-holds (λ c. search needs) returns-2
+    (λ c. search needs) (λ c. search needs) (λ c. search needs) (λ c. search needs) (λ c. search needs) (λ c κs. search needs)
+    (λ c. search needs) returns-3 (λ c. search needs) (λ c. search needs) (λ c. search needs) (λ c. search needs) loop-again
+    (λ c. search needs) (λ c. search needs) returns-4 (λ c. search needs) returns-5 (λ c. search needs) returns-6)

@@ -6,12 +6,6 @@ use Rattle.script.specs.Hex.{hexDigit}
 use Rattle.script.proofs.hex.digit.Statement.{statement}
 use Rattle.script.proofs.hex.digit.Tie as tie
 
-sub-result : tie.Need-sub-result
-sub-result c = search needs
-
-sub-result-2 : tie.Need-sub-result-2
-sub-result-2 c = search needs
-
 returns : tie.Need-returns
 unfolding hexDigit
 returns c =
@@ -57,13 +51,4 @@ returns-7 c =
 pub digit-spec : {M : Type 1} → statement M
 digit-spec =
     tie.close
-    (tie.spec
-    sub-result
-    sub-result-2
-    returns
-    returns-2
-    returns-3
-    returns-4
-    returns-5
-    returns-6
-    returns-7)
+    (tie.spec (λ c. search needs) (λ c. search needs) returns returns-2 returns-3 returns-4 returns-5 returns-6 returns-7)

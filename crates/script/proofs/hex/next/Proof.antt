@@ -7,24 +7,6 @@ use Rattle.script.proofs.Decoding.{given-some, given-none}
 use Rattle.script.proofs.hex.next.Statement.{statement}
 use Rattle.script.proofs.hex.next.Tie as tie
 
-next-requires : tie.Need-next-requires
-next-requires c κs = search needs
-
-text-requires : tie.Need-text-requires
-text-requires c κs = search needs
-
-decode-requires : tie.Need-decode-requires
-decode-requires c κs = search needs
-
-enum-known-count : tie.Need-enum-known-count
-enum-known-count c = search needs
-
-enum-told : tie.Need-enum-told
-enum-told c = search needs
-
-same-length : tie.Need-same-length
-same-length c = search needs
-
 returns : tie.Need-returns
 returns c =
     let d = c .before .before .before .before in
@@ -35,9 +17,6 @@ returns c =
     let e = word-there line (a .at) (w .result .from) (w .result .to) (now (t .result)) (w .ensures) (t .ensures) in
     let got = rw (e, c .enum-told .given .1) at (d .decode .ensures) in
     given-none (wordAt line (a .at)) (wordEnd line (a .at)) _ _ got
-
-same-length-2 : tie.Need-same-length-2
-same-length-2 c = search needs
 
 returns-2 : tie.Need-returns-2
 returns-2 c =
@@ -53,13 +32,5 @@ returns-2 c =
 pub next-spec : {M : Type 1} → statement M
 next-spec =
     tie.close
-    (tie.spec
-    next-requires
-    text-requires
-    decode-requires
-    enum-known-count
-    enum-told
-    same-length
-    returns
-    same-length-2
-    returns-2)
+    (tie.spec (λ c κs. search needs) (λ c κs. search needs) (λ c κs. search needs) (λ c. search needs) (λ c. search needs)
+    (λ c. search needs) returns (λ c. search needs) returns-2)

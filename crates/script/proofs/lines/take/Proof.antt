@@ -15,19 +15,12 @@ returns-2 c =
     let a = c .before .before .args in
     takes-over (a .r) (now (a .line)) (a .octet) (c .before .if1 .left) (c .if2 .taken)
 
-slice-write-line : tie.Need-slice-write-line
-slice-write-line c = search needs
-
-add-next : tie.Need-add-next
-add-next c = search needs
-
-same-length : tie.Need-same-length
-same-length c = search needs
-
 returns-3 : tie.Need-returns-3
 returns-3 c =
     let a = c .before .before .args in
     takes-octet (a .r) (now (a .line)) (a .octet) (c .before .if1 .left) (c .if2 .left)
 
 pub take-spec : {M : Type 1} → statement M
-take-spec = tie.close (tie.spec returns returns-2 slice-write-line add-next same-length returns-3)
+take-spec =
+    tie.close
+    (tie.spec returns returns-2 (λ c. search needs) (λ c. search needs) (λ c. search needs) returns-3)

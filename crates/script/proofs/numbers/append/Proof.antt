@@ -11,12 +11,6 @@ returns c =
     let a = c .before .args in
     rw (lt-ltb 4294967295 (a .value * 10 + a .last) (omega arith))
 
-mul-n : tie.Need-mul-n
-mul-n c = search needs
-
-add-n : tie.Need-add-n
-add-n c = search needs
-
 returns-2 : tie.Need-returns-2
 returns-2 c =
     let a = c .before .before .args in
@@ -28,4 +22,5 @@ returns-3 c =
     rw (le-ltb 4294967295 (a .value * 10 + a .last) (omega arith))
 
 pub append-spec : {M : Type 1} → statement M
-append-spec = tie.close (tie.spec returns mul-n add-n returns-2 returns-3)
+append-spec =
+    tie.close (tie.spec returns (λ c. search needs) (λ c. search needs) returns-2 returns-3)

@@ -12,21 +12,6 @@ use Rattle.script.proofs.Digits.{number-none, number-short, number-past
 use Rattle.script.proofs.numbers.next.Statement.{statement}
 use Rattle.script.proofs.numbers.next.Tie as tie
 
-next-requires : tie.Need-next-requires
-next-requires c κs = search needs
-
-text-requires : tie.Need-text-requires
-text-requires c κs = search needs
-
-digits-requires : tie.Need-digits-requires
-digits-requires c κs = search needs
-
-enum-known-value : tie.Need-enum-known-value
-enum-known-value c = search needs
-
-enum-told : tie.Need-enum-told
-enum-told c = search needs
-
 returns : tie.Need-returns
 returns c =
     let d = c .before .before in
@@ -60,9 +45,6 @@ returns-3 c =
     let told = ap (λ (s : List ℕ). decimalAt s 0) (sym e) ∙ sym (d .digits .ensures) ∙ c .before .before .before .value .given .1 in
     sym (number-past (wordAt line (a .at)) (wordEnd line (a .at)) _ _ told (rw (← ap length e) (c .before .if1 .left)) (c .if2 .taken))
 
-cast-t10 : tie.Need-cast-t10
-cast-t10 c = search needs
-
 returns-4 : tie.Need-returns-4
 returns-4 c =
     let d = c .before .before .before .before .before in
@@ -77,14 +59,5 @@ returns-4 c =
 pub next-spec : {M : Type 1} → statement M
 next-spec =
     tie.close
-    (tie.spec
-    next-requires
-    text-requires
-    digits-requires
-    enum-known-value
-    enum-told
-    returns
-    returns-2
-    returns-3
-    cast-t10
-    returns-4)
+    (tie.spec (λ c κs. search needs) (λ c κs. search needs) (λ c κs. search needs) (λ c. search needs) (λ c. search needs) returns
+    returns-2 returns-3 (λ c. search needs) returns-4)

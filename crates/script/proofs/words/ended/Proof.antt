@@ -7,11 +7,9 @@ use lib.ListN.{length}
 use Rattle.script.proofs.words.ended.Statement.{statement}
 use Rattle.script.proofs.words.ended.Tie as tie
 
-start-requires : tie.Need-start-requires
-start-requires c κs = search needs
-
 returns : tie.Need-returns
 returns c = ap (leb (length (now (c .before .before .args .line)))) (c .start .ensures)
 
 pub ended-spec : {M : Type 1} → statement M
-ended-spec = tie.close (tie.spec start-requires returns)
+ended-spec =
+    tie.close (tie.spec (λ c κs. search needs) returns)

@@ -8,14 +8,9 @@ use Rattle.octets.specs.Same.{same}
 use Rattle.script.proofs.words.is.Statement.{statement}
 use Rattle.script.proofs.words.is.Tie as tie
 
-text-requires : tie.Need-text-requires
-text-requires c κs = search needs
-
-same-requires : tie.Need-same-requires
-same-requires c κs = search needs
-
 returns : tie.Need-returns
 returns c = c .same .ensures ∙ ap (λ (w : List ℕ). same w (now (c .before .before .before .before .args .name))) (c .before .text .ensures)
 
 pub is-spec : {M : Type 1} → statement M
-is-spec = tie.close (tie.spec text-requires same-requires returns)
+is-spec =
+    tie.close (tie.spec (λ c κs. search needs) (λ c κs. search needs) returns)

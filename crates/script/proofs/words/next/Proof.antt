@@ -9,12 +9,6 @@ use Rattle.script.specs.Words.{isLetter}
 use Rattle.script.proofs.words.next.Statement.{statement}
 use Rattle.script.proofs.words.next.Tie as tie
 
-start-requires : tie.Need-start-requires
-start-requires c κs = search needs
-
-end-requires : tie.Need-end-requires
-end-requires c κs = search needs
-
 returns : tie.Need-returns
 returns c =
     let line = now (c .before .before .before .args .line) in
@@ -22,4 +16,5 @@ returns c =
     (e, c .end .ensures ∙ ap (λ (n : ℕ). n + length (leading isLetter (drop n line))) e)
 
 pub next-spec : {M : Type 1} → statement M
-next-spec = tie.close (tie.spec start-requires end-requires returns)
+next-spec =
+    tie.close (tie.spec (λ c κs. search needs) (λ c κs. search needs) returns)

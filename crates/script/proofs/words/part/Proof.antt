@@ -11,34 +11,16 @@ use mathlib.Core.List.{List}
 use Rattle.script.proofs.words.part.Statement.{statement}
 use Rattle.script.proofs.words.part.Tie as tie
 
-slice-aggregate-result : tie.Need-slice-aggregate-result
-slice-aggregate-result c = search needs
-
 returns : tie.Need-returns
 returns c =
     let a = c .before .before .before .args in
     sym (ap (take (a .to - a .from)) (drop-of-length-le (now (a .line)) (le-of-lt (c .before .if1 .taken))) ∙ take-nil (a .to - a .from))
-
-slice-aggregate-result-2 : tie.Need-slice-aggregate-result-2
-slice-aggregate-result-2 c = search needs
 
 returns-2 : tie.Need-returns-2
 returns-2 c =
     let a = c .before .before .before .before .args in
     let e : a .to - a .from ≡ 0 = omega arith in
     rw e
-
-sub-front : tie.Need-sub-front
-sub-front c = search needs
-
-part-front-start : tie.Need-part-front-start
-part-front-start c = search needs
-
-part-front-end : tie.Need-part-front-end
-part-front-end c = search needs
-
-front-requires : tie.Need-front-requires
-front-requires c κs = search needs
 
 returns-3 : tie.Need-returns-3
 returns-3 c =
@@ -50,13 +32,5 @@ returns-3 c =
 pub part-spec : {M : Type 1} → statement M
 part-spec =
     tie.close
-    (tie.spec
-    slice-aggregate-result
-    returns
-    slice-aggregate-result-2
-    returns-2
-    sub-front
-    part-front-start
-    part-front-end
-    front-requires
-    returns-3)
+    (tie.spec (λ c. search needs) returns (λ c. search needs) returns-2 (λ c. search needs) (λ c. search needs) (λ c. search needs)
+    (λ c κs. search needs) returns-3)

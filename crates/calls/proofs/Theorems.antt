@@ -1,0 +1,17 @@
+-- The claims of specs/Claims.antt.
+--
+--   firstRefuses, noneAnswers   each of them
+--
+-- Assumes nothing.
+use mathlib.Core.Path.{_≡_, refl}
+use mathlib.Core.List.{[], _∷_}
+use Rattle.calls.specs.Refusal.{_when_}
+use Rattle.calls.specs.Claims.{FirstRefuses, NoneAnswers}
+
+pub firstRefuses : FirstRefuses
+firstRefuses [] after k none = refl
+firstRefuses ((i when b) ∷ l) after k none = rw (none .0) (firstRefuses l after k (none .1))
+
+pub noneAnswers : NoneAnswers
+noneAnswers [] none = refl
+noneAnswers ((i when b) ∷ l) none = rw (none .0) (noneAnswers l (none .1))
