@@ -16,7 +16,6 @@ pub mod Gathering
 pub mod Packing
 pub mod Tallying
 pub mod Pouring
-pub mod Delivering
 pub mod Closing
 pub mod Refusing
 pub mod Sorting

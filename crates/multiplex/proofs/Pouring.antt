@@ -1,114 +1,30 @@
--- The writes: pieces poured one at a time.
+-- The writes: one more piece, or the unit that the closing mark ends, shown as it is taken.
 --
---   puts-held, puts-unit       one piece written on a segmentable channel, and on another
---   puts-parts                 .. by the channel that it comes to
---   puts-tally                 the tally counts it
---   closes-marked, closes-plain   the tally where the mark is set, and where it is not
---   closes-least, closes-most  .. has no fewer octets and units, and at most one unit more
---   ends-marked, ends-plain    .. and what is written then
---   part-exact, part-length    a piece as the code cuts it, and its length
---   putsAll-at, putsAll-end    what is written from place j on, by the piece there and those behind it; and behind the last
+--   part-exact, part-length       a piece as the code cuts it, and its length
+--   takes-held, takes-unit        one piece written on a segmentable channel, and on another
+--   closed-tells                  the closing mark, counted
+--   closes-least                  it makes octets and units no fewer, and at most one unit more
+--   leaving-shown                 where a delivery is shown, the call leaves it
+--   finishes-marked, finishes-plain   .. and written, where it is set, and where it is not
 --
 -- Assumes nothing.
 use mathlib.Core.Path.{_≡_, refl, ap, _∙_}
 use mathlib.Core.List.{List}
-use mathlib.Core.Bool.{Bool, true, false, cond}
-use Prim.Native.Nat.{ℕ, _+_, _*_, _-_, _≤_, _<_}
+use mathlib.Core.Bool.{Bool, true, false}
+use Prim.Native.Nat.{ℕ, _+_, _*_, _-_, _≤_}
 use native.Mathlib.Nat.{le-refl, add-sub-cancel-left}
 use native.Mathlib.Omega.{arith}
-use lib.ListN.{length, getD, take, drop, length-drop}
-use lib.Seq.{length-take-le, drop-drop}
-use Rattle.octets.specs.Written.{written}
+use lib.ListN.{length, take, drop, length-append, length-drop}
+use lib.Seq.{length-take-le}
+use denote.Ref.{now}
+use Rattle.octets.specs.Written.{written, written-next}
+use Rattle.calls.specs.Refusal.{leaving}
 use Rattle.channels.specs.declared.Channel.{Channel}
 use Rattle.multiplex.specs.declared.demultiplexer.Tally.{Tally}
-use Rattle.channels.specs.Channels.{channelAt, heldOf, placeOctets}
-use Rattle.multiplex.specs.Pieces.{Piece, laid}
-use Rattle.multiplex.specs.Tally.{counts, closing, closes, Draft, gained, noted, heldWith, outputWith, unitsWith, puts, putsAll, ends}
+use Rattle.channels.specs.Channels.{channelAt, put, holding, heldOf, placeOctets}
+use Rattle.multiplex.specs.Demultiplexer.{Delivery, DemuxLent, finished, closed, writes}
+use Rattle.multiplex.specs.Tally.{Slice, closes, Tells, Shows, Room, Takes, Poured, Exact, Finishes}
 use Rattle.multiplex.specs.Units.{listed}
-use Rattle.multiplex.proofs.Tallying.{laid-at, laid-end}
-
-either : (b : Bool) (u v : Draft) (t : Tally) → u .tally ≡ t → v .tally ≡ t → cond b u v .tally ≡ t
-either true u v t e f = e
-either false u v t e f = f
-
-module _ (w : Draft) (p : ℕ) (x : List ℕ) where
-  abbrev after : Tally
-  after = counts (w .tally) p (length x)
-
-  pub puts-held : channelAt (w .tally .channels) p .segmentable ≡ true → puts w p x ≡ gained w after p x
-  unfolding puts
-  puts-held e = rw e
-
-  pub puts-unit : channelAt (w .tally .channels) p .segmentable ≡ false → puts w p x ≡ noted w after (channelAt (w .tally .channels) p .number) x
-  unfolding puts
-  puts-unit e = rw e
-
-  abbrev on : Channel
-  on = channelAt (w .tally .channels) p
-
-  pub puts-parts : record {
-    tally = after;
-    held = heldWith on p (w .held) x;
-    output = outputWith on (w .tally .octets) (w .output) x;
-    units = unitsWith on (w .tally .octets) (w .tally .units) (w .units) x;
-  } ≡ puts w p x
-  unfolding puts
-  puts-parts = by (on .segmentable)
-    where
-      by : (b : Bool) → record {
-        tally = after;
-        held = cond b (written (w .held) (placeOctets * p + on .held) x) (w .held);
-        output = cond b (w .output) (written (w .output) (w .tally .octets) x);
-        units = cond b (w .units) (written (w .units) (3 * w .tally .units) (listed (on .number) (w .tally .octets) (length x)));
-      } ≡ cond b (gained w after p x) (noted w after (on .number) x)
-      by true = refl
-      by false = refl
-
-  pub puts-tally : puts w p x .tally ≡ after
-  unfolding puts
-  puts-tally = either (channelAt (w .tally .channels) p .segmentable) _ _ after refl refl
-
-module _ (t : Tally) (mark : Bool) (p : ℕ) where
-  pub closes-marked : mark ≡ true → closes t mark p ≡ closing t p
-  unfolding closes
-  closes-marked m = rw m
-
-  pub closes-plain : mark ≡ false → closes t mark p ≡ t
-  unfolding closes
-  closes-plain m = rw m
-
-  pub closes-least : (t .octets ≤ closes t mark p .octets) × (t .units ≤ closes t mark p .units)
-  unfolding closes
-  closes-least = by mark
-    where
-      by : (m : Bool) → (t .octets ≤ cond m (closing t p) t .octets) × (t .units ≤ cond m (closing t p) t .units)
-      by true = (omega arith, omega arith)
-      by false = (le-refl _, le-refl _)
-
-  pub closes-most : closes t mark p .units ≤ t .units + 1
-  unfolding closes
-  closes-most = by mark
-    where
-      by : (m : Bool) → cond m (closing t p) t .units ≤ t .units + 1
-      by true = le-refl _
-      by false = omega arith
-
-module _ (w : Draft) (mark : Bool) (p : ℕ) where
-  abbrev here : Channel
-  here = channelAt (w .tally .channels) p
-
-  pub ends-marked : mark ≡ true → length (heldOf (w .tally .channels) (w .held) p) ≡ here .held → ends w mark p ≡ record {
-    tally = closes (w .tally) mark p;
-    held = w .held;
-    output = written (w .output) (w .tally .octets) (heldOf (w .tally .channels) (w .held) p);
-    units = written (w .units) (3 * w .tally .units) (listed (here .number) (w .tally .octets) (here .held));
-  }
-  unfolding ends closes
-  ends-marked m e = rw (m, e)
-
-  pub ends-plain : mark ≡ false → ends w mark p ≡ w
-  unfolding ends
-  ends-plain m = rw m
 
 module _ (xs : List ℕ) (at n : ℕ) where
   pub part-exact : take (at + n - at) (drop at xs) ≡ take n (drop at xs)
@@ -117,15 +33,76 @@ module _ (xs : List ℕ) (at n : ℕ) where
   pub part-length : at + n ≤ length xs → length (take n (drop at xs)) ≡ n
   part-length h = length-take-le n (drop at xs) (rw (length-drop at xs) (omega arith))
 
-module _ (w : Draft) (ps ls xs : List ℕ) (j at : ℕ) where
-  pub putsAll-at : j < length ps → j < length ls
-      → putsAll w (laid (drop j ps) (drop j ls)) (drop at xs)
-      ≡ putsAll (puts w (getD ps j 0) (take (getD ls j 0) (drop at xs))) (laid (drop (j + 1) ps) (drop (j + 1) ls)) (drop (at + getD ls j 0) xs)
-  unfolding putsAll
-  putsAll-at h k =
-      ap (λ (l : List Piece). putsAll w l (drop at xs)) (laid-at ps ls j h k)
-      ∙ ap (putsAll (puts w (getD ps j 0) (take (getD ls j 0) (drop at xs))) (laid (drop (j + 1) ps) (drop (j + 1) ls))) (drop-drop (getD ls j 0) at xs)
+shows-unit : {o u : List ℕ} {d : Delivery} {t : Tally} {h o' u' : List ℕ} → Tells d t → Room o u d → Shows o u d h o' u' → (n : ℕ) (x : List ℕ)
+    (k : ℕ) → length x ≡ k → Shows o u (finished d n x) h (written o' (t .octets) x) (written u' (3 * t .units) (listed n (t .octets) k))
+shows-unit {o} {u} {d} w room v n x k e = record {
+  held = v .held;
+  output = rw (v .output, w .octets) (written-next o (d .octets) x (room .output));
+  units = rw (v .units, w .octets, w .units, ← w .even, ← e) (written-next u (d .units) (listed n (length (d .octets)) (length x)) (room .units));
+}
 
-  pub putsAll-end : length ps ≤ j → putsAll w (laid (drop j ps) (drop j ls)) (drop at xs) ≡ w
-  unfolding putsAll
-  putsAll-end h = rw (laid-end ps ls j h)
+module _ {c : Channel} {p octets count : ℕ} {x : List ℕ} {held output units : Slice} where
+  pub takes-held : c .segmentable ≡ true → now (held .exit) ≡ written (now (held .entry)) (placeOctets * p + c .held) x
+      → now (output .exit) ≡ now (output .entry) → now (units .exit) ≡ now (units .entry) → Takes c p octets count x held output units
+  takes-held g h o u = record {
+    more = λ {d = d} e w room v.
+        let f : channelAt (d .channels) p .segmentable ≡ true = ap (λ (c : Channel). c .segmentable) e ∙ g in
+        record { held = rw (f, h, v .held, e); output = rw f (o ∙ v .output); units = rw f (u ∙ v .units) };
+  }
+
+  pub takes-unit : c .segmentable ≡ false → now (held .exit) ≡ now (held .entry) → now (output .exit) ≡ written (now (output .entry)) octets x
+      → now (units .exit) ≡ written (now (units .entry)) (3 * count) (listed (c .number) octets (length x)) → Takes c p octets count x held output units
+  takes-unit g h o u = record {
+    more = λ {d = d} e w room v.
+        let f : channelAt (d .channels) p .segmentable ≡ false = ap (λ (c : Channel). c .segmentable) e ∙ g in
+        let y = shows-unit w room v (c .number) x (length x) refl in
+        record { held = rw f (h ∙ y .held); output = rw f (o ∙ y .output); units = rw (f, e) (u ∙ y .units) };
+  }
+
+-- ---- the closing mark
+
+pub closed-tells : (d : Delivery) (t : Tally) (p : ℕ) → Tells d t → Exact d p → Tells (closed d p) (record {
+  channels = put (t .channels) p (holding (channelAt (t .channels) p) 0);
+  octets = t .octets + channelAt (t .channels) p .held;
+  units = t .units + 1;
+})
+closed-tells d t p w e =
+    let x = heldOf (d .channels) (d .held) p in
+    record {
+      channels = rw (w .channels);
+      octets = rw (w .channels, w .octets, length-append (d .octets) x, e);
+      units = rw (w .units);
+      even = length-append (d .units) (listed (channelAt (d .channels) p .number) (length (d .octets)) (length x)) ∙ omega (arith, w .even);
+    }
+
+pub closes-least : (d : Delivery) (mark : Bool) (p : ℕ) → (length (d .octets) ≤ length (closes d mark p .octets))
+    × (length (d .units) ≤ length (closes d mark p .units)) × (closes d mark p .count ≤ d .count + 1)
+closes-least d false p = (le-refl _, le-refl _, omega arith)
+closes-least d true p =
+    let x = heldOf (d .channels) (d .held) p in
+    let u = listed (channelAt (d .channels) p .number) (length (d .octets)) (length x) in
+    (omega (arith, length-append (d .octets) x), omega (arith, length-append (d .units) u), le-refl _)
+
+pub leaving-shown : {o u : List ℕ} {d : Delivery} {t : Tally} {h o' u' : List ℕ} → Poured o u d t h o' u'
+    → leaving {X = DemuxLent} (t .units) (record { channels = t .channels; held = h; output = o'; units = u' }) ≡ leaving (d .count) (writes d o u)
+leaving-shown v = rw (v .tells .units, v .tells .channels, v .shows .held, v .shows .output, v .shows .units)
+
+module _ {mark : Bool} {p : ℕ} {t : Tally} {held output units : Slice} where
+  pub finishes-marked : mark ≡ true → length (heldOf (t .channels) (now (held .entry)) p) ≡ channelAt (t .channels) p .held
+      → now (output .exit) ≡ written (now (output .entry)) (t .octets) (heldOf (t .channels) (now (held .entry)) p)
+      → now (units .exit)
+      ≡ written (now (units .entry)) (3 * t .units) (listed (channelAt (t .channels) p .number) (t .octets) (channelAt (t .channels) p .held))
+      → {t₁ : Tally} → ((d : Delivery) → Tells d t → (mark ≡ true → Exact d p) → Tells (closes d mark p) t₁) → Finishes mark p t held output units t₁
+  finishes-marked m e o u f = record {
+    more = λ {d = d} room v.
+        let w = v .tells .channels in
+        let x : Exact d p = rw (w, v .shows .held) at e in
+        let y = shows-unit (v .tells) room (v .shows) (channelAt (d .channels) p .number) (heldOf (d .channels) (d .held) p) _ x in
+        record {
+          tells = f d (v .tells) (λ _. x);
+          shows = record { held = rw m (v .shows .held); output = rw (m, o, w, v .shows .held) (y .output); units = rw (m, u, w) (y .units) };
+        };
+  }
+
+  pub finishes-plain : mark ≡ false → now (output .exit) ≡ now (output .entry) → now (units .exit) ≡ now (units .entry) → Finishes mark p t held output units t
+  finishes-plain m o u = record { more = λ room v. rw (m, o, u) v }

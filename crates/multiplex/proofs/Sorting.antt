@@ -10,21 +10,19 @@
 -- Assumes nothing.
 use mathlib.Core.Path.{_≡_, refl, sym, ap, ap₂, _∙_}
 use mathlib.Core.List.{List, [], _∷_, map}
-use mathlib.Core.Bool.{Bool, true, false, _&&_}
+use mathlib.Core.Bool.{Bool, true, false}
 use Prim.Native.Nat.{ℕ, _+_, _≤_, _<_}
 use native.Mathlib.Omega.{arith}
-use borrow.Author.Tests.{lt-ltb, le-ltb, leb-true}
-use lib.Dec.{leb}
+use borrow.Author.Tests.{lt-ltb, le-ltb}
 use lib.ListN.{length, take, length-map}
-use Rattle.octets.specs.Tests.{both-true}
 use Rattle.calls.specs.Refusal.{refusing}
 use Rattle.table.specs.declared.walk.Laid.{Laid}
 use Rattle.table.specs.Slots.{Slot, payloadSlots, octetsOf, numbersOf, lengthsOf}
-use Rattle.table.specs.Table.{entryOf, isDefined, highestCode, longestPayload}
+use Rattle.table.specs.Table.{entryOf, isDefined, longestPayload}
 use Rattle.channels.specs.declared.Channels.{Channels}
 use Rattle.channels.specs.Channels.{placeOf, allOpen}
 use Rattle.multiplex.specs.Pieces.{paired, laid, placed, total}
-use Rattle.multiplex.specs.Tally.{AllPlaces}
+use Rattle.multiplex.specs.Tally.{InPlaces}
 use Rattle.channels.proofs.Laws.{in-placed}
 use Rattle.multiplex.proofs.Laying.{Slotted}
 use Rattle.multiplex.specs.Demultiplexer.{DemuxLent, delivered, sorted, demultiplexed}
@@ -43,9 +41,7 @@ module _ (s : Channels) where
 -- ---- the places of the slots
 
 pub record Found (s : Channels) (l : List Slot) (n : ℕ) (ps ls : List ℕ) : Type 0 where
-  pub within : AllPlaces ps
-  pub same : length ps ≡ length ls
-  pub few : length ps ≤ longestPayload
+  pub places : InPlaces ps ls
   pub most : total (laid ps ls) ≤ n
   pub pieces : laid ps ls ≡ placed s l
 
@@ -58,9 +54,7 @@ slotted-found s l n r cs ls slotted ps e all =
     let j : length ps ≡ length l = ap length e ∙ m ∙ c in
     let same = ap₂ laid e (slotted .lengths) ∙ placed-laid s l in
     record {
-      within = λ i h. rw e (in-placed s (numbersOf l) all i (omega arith));
-      same = j ∙ sym k;
-      few = omega (arith, slotted .few);
+      places = record { within = λ i h. rw e (in-placed s (numbersOf l) all i (omega arith)); same = j ∙ sym k; few = omega (arith, slotted .few) };
       most = rw same (omega (arith, placed-total s l, slotted .most));
       pieces = same;
     }

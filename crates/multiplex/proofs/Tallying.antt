@@ -1,40 +1,42 @@
--- The dry run: pieces counted one at a time.
+-- One more piece: counted as it is taken, and the way that the loops go, piece by piece.
 --
 --   at-once-most               no more are finished at once than come
---   counts-ind                 what holds of a tally with more held, and with one more unit, holds of `counts`
---   counts-held, counts-unit   `counts` on a segmentable channel, and on another
---   counts-parts               `counts` by what becomes of the channel, and of the numbers
---   counts-channels            its channels are those of refusal 8's definition
---   counts-least, counts-most  finished octets and units never fall, and rise by no more than came
 --   room-held                  what has room on a segmentable channel stays within 1,024
---   laid-at, laid-end          the pieces behind place j: the one there and those behind it; none
---   fits-met, fits-missed, fits-end   `fits` behind place j, by the room of the piece there
---   room-met                   where all fits, the piece at place j has room
---   total-at                   how many octets come from place j on
---   tallied-at, tallied-end    `tallied` behind place j
+--   took-ind                   what holds of octets joined, and of a finished unit, holds of octets taken
+--   counts t p n               the tally t with one more piece, as the loops count it
+--   tells-numbers              whose numbers tell of a delivery, with its channels tells of it
+--   tells-next                 .. tells of one more piece taken
+--   took-channels              its channels are those of refusal 8's definition
+--   fits-met, fits-missed, fits-split, fits-end   `fits` by the room of the first piece, and of none
+--   tookAll-most               finished octets and units are at most those that came
+--   piece-at                   the pieces behind place j: the one there and those behind it
+--   Way                        what the first j pieces lead to, the octets behind them, and the whole by those
+--   way-none, way-next, way-all   .. at the start, after one more piece, and after all
+--   way-within                 the octets of the piece there are among those left
+--   way-room                   where there is room for the whole, there is for what they lead to
 --   getD-any                   an element of a list, whatever stands for those behind it
---   tallied-least              finished octets and units never fall
 --
 -- Assumes nothing.
-use mathlib.Core.Path.{_≡_, refl, sym, ap, _∙_}
+use mathlib.Core.Path.{_≡_, refl, sym, ap, ap₂, subst, _∙_}
 use mathlib.Core.List.{List, [], _∷_}
 use mathlib.Core.Bool.{Bool, true, false, cond, not, _||_}
-use Prim.Native.Nat.{ℕ, zero, suc, _+_, _≤_, _<_}
+use Prim.Native.Nat.{ℕ, zero, suc, _+_, _*_, _≤_, _<_}
 use native.Mathlib.Nat.{le-refl, le-trans, not-suc-le-zero, le-of-suc-le-suc}
-use native.Mathlib.Numerals.{add-one}
 use native.Mathlib.Omega.{arith}
 use borrow.Author.Tests.{leb-true}
 use lib.Dec.{leb}
-use lib.ListN.{length, getD, drop, drop-of-length-le}
-use lib.Seq.{drop-cons, set-getD}
+use lib.ListN.{length, getD, take, drop, length-append, length-drop}
+use lib.Seq.{set-getD, length-take-le}
 use Rattle.octets.specs.Tests.{both-true}
 use Rattle.channels.specs.declared.Channel.{Channel}
 use Rattle.channels.specs.declared.Channels.{Channels}
 use Rattle.multiplex.specs.declared.demultiplexer.Tally.{Tally}
 use Rattle.channels.specs.Channels.{vacant, channelAt, put, placeOctets}
-use Rattle.multiplex.specs.Pieces.{paired, Piece, laid, total}
-use Rattle.multiplex.specs.Demultiplexer.{counted, roomIn, hasRoom, fits}
-use Rattle.multiplex.specs.Tally.{heldMore, oneUnit, counts, joins, atOnce, tallied}
+use Rattle.multiplex.specs.Pieces.{Piece, piece, laid, total}
+use Rattle.multiplex.specs.Demultiplexer.{Delivery, joined, finished, took, tookAll, nothing, counted, roomIn, hasRoom, fits}
+use Rattle.multiplex.specs.Tally.{joins, atOnce, Tells, Room, InPlaces}
+use Rattle.multiplex.specs.Units.{listed}
+use Rattle.multiplex.proofs.Slotting.{paired-at}
 
 pub at-once-most : (c : Channel) (k : ℕ) → atOnce c k ≤ k
 at-once-most c k = by (c .segmentable)
@@ -43,112 +45,150 @@ at-once-most c k = by (c .segmentable)
     by true = omega arith
     by false = le-refl k
 
-module _ (t : Tally) (p n : ℕ) where
-  pub counts-ind : (P : Tally → Type 0)
-      → (channelAt (t .channels) p .segmentable ≡ true → P (heldMore t p n))
-      → (channelAt (t .channels) p .segmentable ≡ false → P (oneUnit t n)) → P (counts t p n)
-  unfolding counts
-  counts-ind P f g = by (channelAt (t .channels) p .segmentable) f g
-    where
-      by : (b : Bool) → (b ≡ true → P (heldMore t p n)) → (b ≡ false → P (oneUnit t n)) → P (cond b (heldMore t p n) (oneUnit t n))
-      by true f g = f refl
-      by false f g = g refl
-
-  pub counts-held : channelAt (t .channels) p .segmentable ≡ true → counts t p n ≡ heldMore t p n
-  unfolding counts
-  counts-held e = rw e
-
-  pub counts-unit : channelAt (t .channels) p .segmentable ≡ false → counts t p n ≡ oneUnit t n
-  unfolding counts
-  counts-unit e = rw e
-
-  pub counts-parts : record {
-    channels = put (t .channels) p (joins (channelAt (t .channels) p) n);
-    octets = t .octets + atOnce (channelAt (t .channels) p) n;
-    units = t .units + atOnce (channelAt (t .channels) p) 1;
-  } ≡ counts t p n
-  counts-parts =
-      counts-ind (λ r. parted ≡ r)
-      (λ e. alike _ _ _ _ _ _ (rw e) (rw e (omega arith)) (rw e (omega arith)))
-      (λ e. alike _ _ _ _ _ _ (rw (e, set-getD (t .channels .at) p vacant)) (rw e (omega arith)) (rw e))
-    where
-      alike : (s r : Channels) (a b c d : ℕ) → s ≡ r → a ≡ b → c ≡ d
-          → _≡_ {A = Tally} (record { channels = s; octets = a; units = c }) (record { channels = r; octets = b; units = d })
-      alike s r a b c d e f g = rw (e, f, g)
-
-      parted : Tally
-      parted = record {
-        channels = put (t .channels) p (joins (channelAt (t .channels) p) n);
-        octets = t .octets + atOnce (channelAt (t .channels) p) n;
-        units = t .units + atOnce (channelAt (t .channels) p) 1;
-      }
-
-  pub counts-channels : counts t p n .channels ≡ counted (t .channels) p n
-  counts-channels = counts-ind (λ r. r .channels ≡ counted (t .channels) p n) (λ e. rw e) (λ e. rw e)
-
-  pub counts-least : (t .octets ≤ counts t p n .octets) × (t .units ≤ counts t p n .units)
-  counts-least = counts-ind (λ r. (t .octets ≤ r .octets) × (t .units ≤ r .units)) (λ e. (le-refl _, le-refl _)) (λ e. (omega arith, omega arith))
-
-  pub counts-most : (counts t p n .octets ≤ t .octets + n) × (counts t p n .units ≤ t .units + 1)
-  counts-most = counts-ind (λ r. (r .octets ≤ t .octets + n) × (r .units ≤ t .units + 1)) (λ e. (omega arith, omega arith)) (λ e. (le-refl _, le-refl _))
-
 pub room-held : (c : Channel) (n : ℕ) → roomIn c n ≡ true → c .segmentable ≡ true → c .held + n ≤ placeOctets
 room-held c n h g = leb-true _ _ (sym (ap (λ (b : Bool). not b || leb (c .held + n) placeOctets) g) ∙ h)
 
-module _ (ps ls : List ℕ) (j : ℕ) where
-  pub laid-at : j < length ps → j < length ls
-      → laid (drop j ps) (drop j ls) ≡ record { place = getD ps j 0; octets = getD ls j 0 } ∷ laid (drop (j + 1) ps) (drop (j + 1) ls)
-  unfolding paired
-  laid-at h k = rw (add-one, drop-cons ps j 0, drop-cons ls j 0)
+-- ---- one piece
 
-  pub laid-end : length ps ≤ j → laid (drop j ps) (drop j ls) ≡ []
-  unfolding paired
-  laid-end h = rw (drop-of-length-le ps h)
+-- by the two kinds of channel
+pub took-ind : (d : Delivery) (p : ℕ) (x : List ℕ) (P : Delivery → Type 0) → (channelAt (d .channels) p .segmentable ≡ true → P (joined d p x))
+    → (channelAt (d .channels) p .segmentable ≡ false → P (finished d (channelAt (d .channels) p .number) x)) → P (took d p x)
+took-ind d p x P = by (channelAt (d .channels) p .segmentable)
+  where
+    by : (b : Bool) → (b ≡ true → P (joined d p x)) → (b ≡ false → P (finished d (channelAt (d .channels) p .number) x))
+        → P (cond b (joined d p x) (finished d (channelAt (d .channels) p .number) x))
+    by true f g = f refl
+    by false f g = g refl
 
-  pub total-at : j < length ps → j < length ls → total (laid (drop j ps) (drop j ls)) ≡ getD ls j 0 + total (laid (drop (j + 1) ps) (drop (j + 1) ls))
-  unfolding total
-  total-at h k = rw (laid-at h k)
+abbrev pub counts : Tally → (p n : ℕ) → Tally
+counts t p n = record {
+  channels = put (t .channels) p (joins (channelAt (t .channels) p) n);
+  octets = t .octets + atOnce (channelAt (t .channels) p) n;
+  units = t .units + atOnce (channelAt (t .channels) p) 1;
+}
 
-  module _ (t : Tally) where
-    abbrev here : Tally
-    here = counts t (getD ps j 0) (getD ls j 0)
+pub tells-numbers : {d : Delivery} {t : Tally} → Tells d t → Tells d (record { channels = d .channels; octets = t .octets; units = t .units })
+tells-numbers w = record { channels = refl; octets = w .octets; units = w .units; even = w .even }
 
-    module _ (h : j < length ps) (k : j < length ls) where
-      pub fits-met : hasRoom (t .channels) (getD ps j 0) (getD ls j 0) ≡ true
-          → fits (t .channels) (laid (drop j ps) (drop j ls)) ≡ fits (here .channels) (laid (drop (j + 1) ps) (drop (j + 1) ls))
-      unfolding fits
-      fits-met e = rw (laid-at h k, e, counts-channels t (getD ps j 0) (getD ls j 0))
+counted-is : (s : Channels) (p n : ℕ) → put s p (joins (channelAt s p) n) ≡ counted s p n
+counted-is s p n = by (channelAt s p .segmentable) refl
+  where
+    by : (b : Bool) → channelAt s p .segmentable ≡ b → put s p (joins (channelAt s p) n) ≡ counted s p n
+    by true e = rw e
+    by false e = rw (e, set-getD (s .at) p vacant)
 
-      pub room-met : fits (t .channels) (laid (drop j ps) (drop j ls)) ≡ true → hasRoom (t .channels) (getD ps j 0) (getD ls j 0) ≡ true
-      unfolding fits
-      room-met e = both-true (hasRoom (t .channels) (getD ps j 0) (getD ls j 0)) _ (rw (laid-at h k) at e) .0
+module _ (d : Delivery) (p : ℕ) (x : List ℕ) where
+  abbrev units : List ℕ
+  units = listed (channelAt (d .channels) p .number) (length (d .octets)) (length x)
 
-      pub fits-missed : hasRoom (t .channels) (getD ps j 0) (getD ls j 0) ≡ false → fits (t .channels) (laid (drop j ps) (drop j ls)) ≡ false
-      unfolding fits
-      fits-missed e = rw (laid-at h k, e)
+  pub took-channels : took d p x .channels ≡ counted (d .channels) p (length x)
+  took-channels = took-ind d p x (λ r. r .channels ≡ counted (d .channels) p (length x)) (λ e. rw e) (λ e. rw e)
 
-      pub tallied-at : tallied t (laid (drop j ps) (drop j ls)) ≡ tallied here (laid (drop (j + 1) ps) (drop (j + 1) ls))
-      unfolding tallied
-      tallied-at = rw (laid-at h k)
+  pub tells-next : (t : Tally) → Tells d t → Tells (took d p x) (counts t p (length x))
+  tells-next t w = record {
+    channels = rw (w .channels) (counted-is (d .channels) p (length x) ∙ sym took-channels);
+    octets =
+        took-ind d p x (λ r. counts t p (length x) .octets ≡ length (r .octets))
+        (λ e. rw (w .channels, e) (omega (arith, w .octets))) (λ e. rw (w .channels, e, length-append) (omega (arith, w .octets)));
+    units =
+        took-ind d p x (λ r. counts t p (length x) .units ≡ r .count)
+        (λ e. rw (w .channels, e) (omega (arith, w .units))) (λ e. rw (w .channels, e) (omega (arith, w .units)));
+    even = took-ind d p x (λ r. length (r .units) ≡ 3 * r .count) (λ e. w .even) (λ e. length-append (d .units) units ∙ omega (arith, w .even));
+  }
 
-    pub fits-end : length ps ≤ j → fits (t .channels) (laid (drop j ps) (drop j ls)) ≡ true
-    unfolding fits
-    fits-end h = rw (laid-end h)
+  took-least : (length (d .octets) ≤ length (took d p x .octets)) × (length (d .units) ≤ length (took d p x .units))
+  took-least =
+      took-ind d p x (λ r. (length (d .octets) ≤ length (r .octets)) × (length (d .units) ≤ length (r .units))) (λ e. (le-refl _, le-refl _))
+      (λ e. (omega (arith, length-append (d .octets) x), omega (arith, length-append (d .units) units)))
 
-    pub tallied-end : length ps ≤ j → tallied t (laid (drop j ps) (drop j ls)) ≡ t
-    unfolding tallied
-    tallied-end h = rw (laid-end h)
+  took-most : (length (took d p x .octets) ≤ length (d .octets) + length x) × (took d p x .count ≤ d .count + 1)
+  took-most =
+      took-ind d p x (λ r. (length (r .octets) ≤ length (d .octets) + length x) × (r .count ≤ d .count + 1)) (λ e. (omega arith, omega arith))
+      (λ e. (omega (arith, length-append (d .octets) x), le-refl _))
+
+-- ---- refusal 8
+
+module _ (s : Channels) (p n : ℕ) {l k : List Piece} (e : l ≡ piece p n ∷ k) where
+  pub fits-met : hasRoom s p n ≡ true → fits s l ≡ fits (put s p (joins (channelAt s p) n)) k
+  unfolding fits
+  fits-met h = rw (e, h, counted-is s p n)
+
+  pub fits-missed : hasRoom s p n ≡ false → fits s l ≡ false
+  unfolding fits
+  fits-missed h = rw (e, h)
+
+  pub fits-split : fits s l ≡ true → (hasRoom s p n ≡ true) × (fits (counted s p n) k ≡ true)
+  unfolding fits
+  fits-split h = both-true (hasRoom s p n) _ (rw e at h)
+
+pub fits-end : (s : Channels) {l : List Piece} → l ≡ [] → fits s l ≡ true
+unfolding fits
+fits-end s e = rw e
+
+-- ---- all pieces
+
+tookAll-least : (d : Delivery) (l : List Piece) (xs : List ℕ)
+    → (length (d .octets) ≤ length (tookAll d l xs .octets)) × (length (d .units) ≤ length (tookAll d l xs .units))
+unfolding tookAll
+tookAll-least d [] xs = (le-refl _, le-refl _)
+tookAll-least d (q ∷ l) xs =
+    let a = took-least d (q .place) (take (q .octets) xs) in
+    let b = tookAll-least (took d (q .place) (take (q .octets) xs)) l (drop (q .octets) xs) in
+    (le-trans (a .0) (b .0), le-trans (a .1) (b .1))
+
+pub tookAll-most : (d : Delivery) (l : List Piece) (xs : List ℕ) → total l ≤ length xs
+    → (length (tookAll d l xs .octets) ≤ length (d .octets) + total l) × (tookAll d l xs .count ≤ d .count + length l)
+unfolding tookAll total
+tookAll-most d [] xs h = (omega arith, omega arith)
+tookAll-most d (q ∷ l) xs h =
+    let a = took-most d (q .place) (take (q .octets) xs) in
+    let b = tookAll-most (took d (q .place) (take (q .octets) xs)) l (drop (q .octets) xs) (omega (arith, length-drop (q .octets) xs)) in
+    (omega (arith, a .0, b .0, length-take-le (q .octets) xs (omega arith)), omega (arith, a .1, b .1))
+
+-- ---- the way
+
+pub piece-at : {ps ls : List ℕ} {j : ℕ} → InPlaces ps ls → j < length ps
+    → drop j (laid ps ls) ≡ piece (getD ps j 0) (getD ls j 0) ∷ drop (j + 1) (laid ps ls)
+piece-at {ps} {ls} {j} w h = paired-at piece ps ls j h (omega (arith, w .same))
+
+pub record Way (s : Channels) (h : List ℕ) (l : List Piece) (xs : List ℕ) (j : ℕ) (t : Tally) (far : Delivery) (rest : List ℕ) : Type 0 where
+  pub tells : Tells far t
+  pub onward : tookAll far (drop j l) rest ≡ tookAll (nothing s h) l xs
+  pub enough : total (drop j l) ≤ length rest
+
+pub way-none : (s : Channels) (h : List ℕ) (l : List Piece) (xs : List ℕ) → total l ≤ length xs
+    → Way s h l xs 0 (record { channels = s; octets = 0; units = 0 }) (nothing s h) xs
+way-none s h l xs k = record { tells = record { channels = refl; octets = refl; units = refl; even = refl }; onward = refl; enough = k }
+
+module _ {s : Channels} {h : List ℕ} {l : List Piece} {xs : List ℕ} {j : ℕ} {t : Tally} {far : Delivery} {rest : List ℕ}
+    (w : Way s h l xs j t far rest) where
+  -- the piece there, its octets x, and those behind it
+  module _ (p n : ℕ) (e : drop j l ≡ piece p n ∷ drop (j + 1) l) where
+    pub way-within : n + total (drop (j + 1) l) ≤ length rest
+    unfolding total
+    way-within = rw e at (w .enough)
+
+    pub way-next : (x behind : List ℕ) → take n rest ≡ x → drop n rest ≡ behind → Way s h l xs (j + 1) (counts t p n) (took far p x) behind
+    unfolding tookAll
+    way-next x behind f g =
+        let m : length x ≡ n = ap length (sym f) ∙ length-take-le n rest (omega (arith, way-within)) in
+        record {
+          tells = subst (λ (k : ℕ). Tells (took far p x) (counts t p k)) m (tells-next far p x t (w .tells));
+          onward = ap₂ (λ (y b : List ℕ). tookAll (took far p y) (drop (j + 1) l) b) (sym f) (sym g) ∙ rw e at (w .onward);
+          enough = omega (arith, way-within, length-drop n rest, ap length g);
+        }
+
+  pub way-room : (o u : List ℕ) → Room o u (tookAll (nothing s h) l xs) → Room o u far
+  way-room o u k =
+      let b = rw (w .onward) at (tookAll-least far (drop j l) rest) in
+      record { output = le-trans (b .0) (k .output); units = le-trans (b .1) (k .units) }
+
+  pub way-all : drop j l ≡ [] → far ≡ tookAll (nothing s h) l xs
+  unfolding tookAll
+  way-all e = rw e at (w .onward)
 
 -- a place within the list has the same element whatever stands for those behind it
 pub getD-any : (l : List ℕ) (j a b : ℕ) → j < length l → getD l j a ≡ getD l j b
 getD-any [] j a b h = absurd (not-suc-le-zero h)
 getD-any (x ∷ l) zero a b h = refl
 getD-any (x ∷ l) (suc j) a b h = getD-any l j a b (le-of-suc-le-suc h)
-
-pub tallied-least : (t : Tally) (l : List Piece) → (t .octets ≤ tallied t l .octets) × (t .units ≤ tallied t l .units)
-unfolding tallied
-tallied-least t [] = (le-refl _, le-refl _)
-tallied-least t (q ∷ l) =
-    let a = counts-least t (q .place) (q .octets) in
-    let b = tallied-least (counts t (q .place) (q .octets)) l in
-    (le-trans (a .0) (b .0), le-trans (a .1) (b .1))

@@ -1,115 +1,147 @@
--- A delivery by counting and by writing: what the demultiplexer finds out first, by value, and then does.
+-- The delivery as the demultiplexer's inner functions tell it to each other: first by value, and then as it is written.
 --
---   noTally s          nothing has come yet
---   counts t p n       the tally t with one more piece: n octets came to place p
---   heldMore, oneUnit  .. on a segmentable channel, and on another, where it is a unit
+--   Slice              a slice that a call is given, as it comes and as the call leaves it
+--   lent               what the demultiplexer is lent to write to
+--   leaves             .. and how the call ends with it
 --   joins c n          the channel c after n octets came to it
 --   atOnce c k         of k that come to c, how many are finished at once
---   tallied t l        .. with the pieces l
---   closes t mark p    .. with what place p holds ended as a unit, where the mark is set
---   Draft              a tally, the octets held, the output and the list of units, as far as they are written
---   noted, gained      .. with one more finished unit, and with octets joined to what is held
---   heldWith, outputWith, unitsWith   what is held, the output and the list of units with the octets x of one piece written
---   puts w p x         the draft w with the octets x of one piece written to where they belong
---   putsAll w l xs     .. with the octets xs, piece by piece
---   ends w mark p      .. with what place p holds ended as a unit, where the mark is set
---   AllPlaces ps          every number of ps is a place
+--   closes d mark p    the delivery d with what place p holds ended as a unit, where the mark is set
+--   Tells d t          the tally t tells how far the delivery d has led
+--   Shows o u d ..     what is held, the output and the list of units show the delivery d, written over o and u
+--   Poured             .. and a tally tells it
+--   Room o u d         o and u have room for it
+--   InPlaces ps ls     pieces of these places and lengths can be looked up
+--   Deliverable        .. and their octets are there, and so is what is held
+--   Counts s l r       what the dry run finds out of the pieces l
+--   Puts, Takes        what the octets of one piece need to be written, and what they make of a delivery that is shown
+--   Pours, PouredBy    .. and those of all pieces, from the start
+--   Exact d p          place p holds as many octets as its channel says
+--   Small t p          the place p is one, and the tally's numbers are small
+--   Closable, Finishes   what the closing mark needs, where the unit is written, and what it makes of a delivery that is shown
 --
 -- Assumes nothing.
-use mathlib.Core.Bool.{Bool, cond}
-use mathlib.Core.List.{List, [], _∷_}
-use Prim.Native.Nat.{ℕ, _+_, _*_, _<_}
-use lib.ListN.{length, getD, take, drop}
+use mathlib.Core.Path.{_≡_}
+use mathlib.Core.Bool.{Bool, true, cond}
+use mathlib.Core.List.{List}
+use Prim.Native.Nat.{ℕ, _+_, _*_, _≤_, _<_}
+use lib.ListN.{length, getD}
+use denote.Ref.{RefT, now}
+use denote.Triple.Both.{Both}
 use Rattle.octets.specs.Written.{written}
+use Rattle.calls.specs.Refusal.{Ended, ended}
+use Rattle.table.specs.Table.{longestPayload}
 use Rattle.channels.specs.declared.Channel.{Channel}
 use Rattle.channels.specs.declared.Channels.{Channels}
+use Rattle.channels.specs.Channels.{placeCount, placeOctets, allOctets, channelAt, holding, heldOf}
+use Rattle.multiplex.specs.declared.demultiplexer.Counted.{Counted}
+use Rattle.multiplex.specs.declared.demultiplexer.Delivered.{Delivered}
 use Rattle.multiplex.specs.declared.demultiplexer.Tally.{Tally}
-use Rattle.channels.specs.Channels.{placeCount, channelAt, put, holding, heldOf, placeOctets}
-use Rattle.multiplex.specs.Pieces.{Piece}
-use Rattle.multiplex.specs.Demultiplexer.{grown}
-use Rattle.multiplex.specs.Units.{listed}
+use Rattle.multiplex.specs.Pieces.{Piece, laid, total}
+use Rattle.multiplex.specs.Demultiplexer.{Delivery, DemuxLent, took, tookAll, closed, nothing, roomIn, fits, finishedSays}
 
-abbrev pub noTally : Channels → Tally
-noTally s = record { channels = s; octets = 0; units = 0 }
+-- ---- a call's slices
 
-abbrev pub heldMore : Tally → (p n : ℕ) → Tally
-heldMore t p n = record { channels = grown (t .channels) p n; octets = t .octets; units = t .units }
+abbrev pub Slice : Type 0
+Slice = Both (RefT (List ℕ)) (RefT (List ℕ))
 
-abbrev pub oneUnit : Tally → (n : ℕ) → Tally
-oneUnit t n = record { channels = t .channels; octets = t .octets + n; units = t .units + 1 }
+abbrev pub lent : Channels → (held output units : Slice) → DemuxLent
+lent s held output units = record { channels = s; held = now (held .entry); output = now (output .entry); units = now (units .entry) }
 
-unfoldable pub counts : Tally → (p n : ℕ) → Tally
-counts t p n = cond (channelAt (t .channels) p .segmentable) (heldMore t p n) (oneUnit t n)
+abbrev pub leaves : Delivered → (held output units : Slice) → Ended ℕ DemuxLent
+leaves r held output units =
+    ended (finishedSays (r .finished)) (record { channels = r .channels; held = now (held .exit); output = now (output .exit); units = now (units .exit) })
 
--- .. by the channel alone
+-- ---- how far
+
 abbrev pub joins : Channel → ℕ → Channel
 joins c n = cond (c .segmentable) (holding c (c .held + n)) c
 
 abbrev pub atOnce : Channel → ℕ → ℕ
 atOnce c k = cond (c .segmentable) 0 k
 
-unfoldable pub tallied : Tally → List Piece → Tally
-tallied t [] = t
-tallied t (q ∷ l) = tallied (counts t (q .place) (q .octets)) l
+abbrev pub closes : Delivery → (mark : Bool) → (p : ℕ) → Delivery
+closes d mark p = cond mark (closed d p) d
 
-abbrev pub closing : Tally → (p : ℕ) → Tally
-closing t p = record {
-  channels = put (t .channels) p (holding (channelAt (t .channels) p) 0);
-  octets = t .octets + channelAt (t .channels) p .held;
-  units = t .units + 1;
-}
+pub record Tells (d : Delivery) (t : Tally) : Type 0 where
+  pub channels : t .channels ≡ d .channels
+  pub octets : t .octets ≡ length (d .octets)
+  pub units : t .units ≡ d .count
+  pub even : length (d .units) ≡ 3 * d .count
 
-unfoldable pub closes : Tally → (mark : Bool) → (p : ℕ) → Tally
-closes t mark p = cond mark (closing t p) t
+pub record Shows (o u : List ℕ) (d : Delivery) (h o' u' : List ℕ) : Type 0 where
+  pub held : h ≡ d .held
+  pub output : o' ≡ written o 0 (d .octets)
+  pub units : u' ≡ written u 0 (d .units)
 
--- ---- the same, as it is written
+pub record Poured (o u : List ℕ) (d : Delivery) (t : Tally) (h o' u' : List ℕ) : Type 0 where
+  pub tells : Tells d t
+  pub shows : Shows o u d h o' u'
 
-pub record Draft : Type 0 where
-  pub tally : Tally
-  pub held : List ℕ
-  pub output : List ℕ
-  pub units : List ℕ
+pub record Room (o u : List ℕ) (d : Delivery) : Type 0 where
+  pub output : length (d .octets) ≤ length o
+  pub units : length (d .units) ≤ length u
 
--- one more finished unit u, of channel n; t is the tally with it
-abbrev pub noted : Draft → Tally → (n : ℕ) → List ℕ → Draft
-noted w t n u = record {
-  tally = t;
-  held = w .held;
-  output = written (w .output) (w .tally .octets) u;
-  units = written (w .units) (3 * w .tally .units) (listed n (w .tally .octets) (length u));
-}
+-- ---- the pieces
 
--- x joined to what place p holds; t is the tally with it
-abbrev pub gained : Draft → Tally → (p : ℕ) → List ℕ → Draft
-gained w t p x = record {
-  tally = t;
-  held = written (w .held) (placeOctets * p + channelAt (w .tally .channels) p .held) x;
-  output = w .output;
-  units = w .units;
-}
+pub record InPlaces (ps ls : List ℕ) : Type 0 where
+  pub within : (j : ℕ) → j < length ps → getD ps j 0 < placeCount
+  pub same : length ps ≡ length ls
+  pub few : length ps ≤ longestPayload
 
--- .. by the channel alone
-abbrev pub heldWith : Channel → (p : ℕ) → (held x : List ℕ) → List ℕ
-heldWith c p held x = cond (c .segmentable) (written held (placeOctets * p + c .held) x) held
+pub record Deliverable (ps ls xs h : List ℕ) : Type 0 where
+  pub pieces : InPlaces ps ls
+  pub enough : total (laid ps ls) ≤ length xs
+  pub short : length xs ≤ longestPayload
+  pub whole : length h ≡ allOctets
 
-abbrev pub outputWith : Channel → (octets : ℕ) → (output x : List ℕ) → List ℕ
-outputWith c octets output x = cond (c .segmentable) output (written output octets x)
+-- the dry run is given neither the payload nor what is held: it tells of all
+pub record Counts (s : Channels) (l : List Piece) (r : Counted) : Type 0 where
+  pub fit : r .fits ≡ fits s l
+  pub tells : r .fits ≡ true → (h xs : List ℕ) → total l ≤ length xs → Tells (tookAll (nothing s h) l xs) (r .tally)
 
-abbrev pub unitsWith : Channel → (octets count : ℕ) → (units x : List ℕ) → List ℕ
-unitsWith c octets count units x = cond (c .segmentable) units (written units (3 * count) (listed (c .number) octets (length x)))
+pub record Puts (c : Channel) (p octets count : ℕ) (h o u x : List ℕ) : Type 0 where
+  pub near : p < placeCount
+  pub short : length x ≤ longestPayload
+  pub room : roomIn c (length x) ≡ true
+  pub octets-small : octets < 65536
+  pub count-small : count < 65536
+  pub output : octets + atOnce c (length x) ≤ length o
+  pub units : 3 * (count + atOnce c 1) ≤ length u
+  pub whole : length h ≡ allOctets
 
-unfoldable pub puts : Draft → (p : ℕ) → List ℕ → Draft
-puts w p x =
-    let t = counts (w .tally) p (length x) in
-    cond (channelAt (w .tally .channels) p .segmentable) (gained w t p x) (noted w t (channelAt (w .tally .channels) p .number) x)
+pub record Takes (c : Channel) (p octets count : ℕ) (x : List ℕ) (held output units : Slice) : Type 0 where
+  pub more : {o u : List ℕ} {d : Delivery} → channelAt (d .channels) p ≡ c → Tells d (record { channels = d .channels; octets = octets; units = count })
+      → Room o u d → Shows o u d (now (held .entry)) (now (output .entry)) (now (units .entry))
+      → Shows o u (took d p x) (now (held .exit)) (now (output .exit)) (now (units .exit))
 
-unfoldable pub putsAll : Draft → List Piece → List ℕ → Draft
-putsAll w [] xs = w
-putsAll w (q ∷ l) xs = putsAll (puts w (q .place) (take (q .octets) xs)) l (drop (q .octets) xs)
+pub record Pours (s : Channels) (h ps ls xs o u : List ℕ) : Type 0 where
+  pub given : Deliverable ps ls xs h
+  pub fit : fits s (laid ps ls) ≡ true
+  pub room : Room o u (tookAll (nothing s h) (laid ps ls) xs)
 
-unfoldable pub ends : Draft → (mark : Bool) → (p : ℕ) → Draft
-ends w mark p =
-    cond mark (noted w (closing (w .tally) p) (channelAt (w .tally .channels) p .number) (heldOf (w .tally .channels) (w .held) p)) w
+abbrev pub PouredBy : Channels → (held places lengths payload output units : Slice) → Tally → Type 0
+PouredBy s held places lengths payload output units t =
+    Poured (now (output .entry)) (now (units .entry))
+    (tookAll (nothing s (now (held .entry))) (laid (now (places .entry)) (now (lengths .entry))) (now (payload .entry)))
+    t (now (held .exit)) (now (output .exit)) (now (units .exit))
 
-abbrev pub AllPlaces : List ℕ → Type 0
-AllPlaces ps = (j : ℕ) → j < length ps → getD ps j 0 < placeCount
+-- ---- the closing mark
+
+abbrev pub Exact : Delivery → (p : ℕ) → Type 0
+Exact d p = length (heldOf (d .channels) (d .held) p) ≡ channelAt (d .channels) p .held
+
+pub record Small (t : Tally) (p : ℕ) : Type 0 where
+  pub near : p < placeCount
+  pub octets : t .octets < 65536
+  pub units : t .units < 65536
+
+pub record Closable (t : Tally) (p : ℕ) (h o u : List ℕ) : Type 0 where
+  pub small : Small t p
+  pub within : channelAt (t .channels) p .held ≤ placeOctets
+  pub whole : length h ≡ allOctets
+  pub output : t .octets + channelAt (t .channels) p .held ≤ length o
+  pub units : 3 * (t .units + 1) ≤ length u
+
+pub record Finishes (mark : Bool) (p : ℕ) (t : Tally) (held output units : Slice) (t₁ : Tally) : Type 0 where
+  pub more : {o u : List ℕ} {d : Delivery} → Room o u d → Poured o u d t (now (held .entry)) (now (output .entry)) (now (units .entry))
+      → Poured o u (closes d mark p) t₁ (now (held .entry)) (now (output .exit)) (now (units .exit))

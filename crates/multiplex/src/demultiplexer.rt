@@ -10,17 +10,17 @@ use table::LONGEST_PAYLOAD;
 use table::TABLE_NUMBERS;
 ghost use mathlib.Core.Path.{_≡_};
 ghost use mathlib.Core.Bool.{true, not, _&&_};
-ghost use Prim.Native.Nat.{_+_, _*_, _-_, _≤_, _<_};
+ghost use Prim.Native.Nat.{_+_, _-_, _≤_, _<_};
 ghost use lib.ListN.{length, getD};
 ghost use Rattle.octets.specs.Written.{written};
 ghost use Rattle.calls.specs.Refusal.{ended};
 ghost use Rattle.table.specs.Slots.{payloadSlots};
 ghost use Rattle.table.specs.Table.{highestCode, longestPayload, entryOf};
-ghost use Rattle.channels.specs.Channels.{placeCount, placeOctets, allOctets, channelAt};
-ghost use Rattle.multiplex.specs.Pieces.{laid, total};
-ghost use Rattle.multiplex.specs.Demultiplexer as the;
-ghost use Rattle.multiplex.specs.Demultiplexer.{roomIn, delivered, sorted, demultiplexed, finishedSays};
-ghost use Rattle.multiplex.specs.Tally.{noTally, joins, atOnce, tallied, closes, heldWith, outputWith, unitsWith, putsAll, ends, AllPlaces};
+ghost use Rattle.channels.specs.Channels.{placeCount, allOctets, channelAt};
+ghost use Rattle.multiplex.specs.Pieces.{laid};
+ghost use Rattle.multiplex.specs.Demultiplexer.{Delivery, roomIn, delivered, sorted, demultiplexed, finishedSays};
+ghost use Rattle.multiplex.specs.Tally.{joins, atOnce, closes, Tells, InPlaces, Deliverable, Counts, Puts, Takes, Pours, PouredBy};
+ghost use Rattle.multiplex.specs.Tally.{lent, leaves, Exact, Small, Closable, Finishes};
 ghost use Rattle.multiplex.specs.Units.{listed};
 
 // How many units are finished, or document 01's refusal number.
@@ -102,9 +102,8 @@ fn told(fits: bool, channels: Channels, octets: usize, units: usize) -> Counted
 
 // The dry run: every piece, by value.
 fn count_all(s: Channels, places: &[u16], lengths: &[u16]) -> Counted
-    requires { ⌜ AllPlaces (now places) × (length (now places) ≡ length (now lengths)) × (length (now places) ≤ longestPayload) ⌝ }
-    ensures { λ r. ⌜ (r .fits ≡ the.fits s (laid (now (places .entry)) (now (lengths .entry))))
-        × (r .fits ≡ true → r .tally ≡ tallied (noTally s) (laid (now (places .entry)) (now (lengths .entry)))) ⌝ }
+    requires { ⌜ InPlaces (now places) (now lengths) ⌝ }
+    ensures { λ r. ⌜ Counts s (laid (now (places .entry)) (now (lengths .entry))) r ⌝ }
 {
     let mut cur = s;
     let mut octets = 0;
@@ -148,11 +147,8 @@ fn put(
     units: &mut [u16],
     x: &[u8],
 )
-    requires { ⌜ (p < placeCount) × (length (now x) ≤ longestPayload) × (roomIn c (length (now x)) ≡ true) × (octets < 65536) × (count < 65536)
-        × (octets + atOnce c (length (now x)) ≤ length (now output)) × (3 * (count + atOnce c 1) ≤ length (now units)) × (length (now held) ≡ allOctets) ⌝ }
-    ensures { λ _. ⌜ (now (held .exit) ≡ heldWith c p (now (held .entry)) (now (x .entry)))
-        × (now (output .exit) ≡ outputWith c octets (now (output .entry)) (now (x .entry)))
-        × (now (units .exit) ≡ unitsWith c octets count (now (units .entry)) (now (x .entry))) ⌝ }
+    requires { ⌜ Puts c p octets count (now held) (now output) (now units) (now x) ⌝ }
+    ensures { λ _. ⌜ Takes c p octets count (now (x .entry)) held output units ⌝ }
 {
     if c.segmentable {
         octets::write(held, PLACE_OCTETS * p + c.held as usize, x);
@@ -172,13 +168,8 @@ fn pour(
     output: &mut [u8],
     units: &mut [u16],
 ) -> Tally
-    requires { ⌜ AllPlaces (now places) × (length (now places) ≡ length (now lengths)) × (the.fits s (laid (now places) (now lengths)) ≡ true)
-        × (total (laid (now places) (now lengths)) ≤ length (now payload)) × (length (now payload) ≤ longestPayload) × (length (now places) ≤ longestPayload)
-        × (tallied (noTally s) (laid (now places) (now lengths)) .octets ≤ length (now output))
-        × (3 * tallied (noTally s) (laid (now places) (now lengths)) .units ≤ length (now units)) × (length (now held) ≡ allOctets) ⌝ }
-    ensures { λ r. ⌜ record { tally = r; held = now (held .exit); output = now (output .exit); units = now (units .exit) }
-        ≡ putsAll (record { tally = noTally s; held = now (held .entry); output = now (output .entry); units = now (units .entry) })
-        (laid (now (places .entry)) (now (lengths .entry))) (now (payload .entry)) ⌝ }
+    requires { ⌜ Pours s (now held) (now places) (now lengths) (now payload) (now output) (now units) ⌝ }
+    ensures { λ r. ⌜ PouredBy s held places lengths payload output units r ⌝ }
 {
     let mut cur = s;
     let mut octets = 0;
@@ -206,8 +197,8 @@ fn pour(
 
 // Ends the unit that place p holds, where the mark is set, by value.
 fn close(t: Tally, mark: bool, p: usize) -> Tally
-    requires { ⌜ (mark ≡ true → p < placeCount) × (t .octets < 65536) × (t .units < 65536) ⌝ }
-    ensures { λ r. ⌜ r ≡ closes t mark p ⌝ }
+    requires { ⌜ (mark ≡ true → Small t p) ⌝ }
+    ensures { λ r. ⌜ ((d : Delivery) → Tells d t → (mark ≡ true → Exact d p) → Tells (closes d mark p) r) ⌝ }
 {
     if mark {
         let mut s = t.channels;
@@ -233,10 +224,8 @@ fn finish(
     units: &mut [u16],
     p: usize,
 ) -> Tally
-    requires { ⌜ (length (now held) ≡ allOctets) × (mark ≡ true → (p < placeCount) × (channelAt (t .channels) p .held ≤ placeOctets)) × (t .octets < 65536) × (t .units < 65536)
-        × (closes t mark p .octets ≤ length (now output)) × (3 * closes t mark p .units ≤ length (now units)) ⌝ }
-    ensures { λ r. ⌜ record { tally = r; held = now (held .entry); output = now (output .exit); units = now (units .exit) }
-        ≡ ends (record { tally = t; held = now (held .entry); output = now (output .entry); units = now (units .entry) }) mark p ⌝ }
+    requires { ⌜ (mark ≡ true → Closable t p (now held) (now output) (now units)) ⌝ }
+    ensures { λ r. ⌜ Finishes mark p t held output units r ⌝ }
 {
     if mark {
         let s = t.channels;
@@ -289,12 +278,9 @@ fn deliver(
     output: &mut [u8],
     units: &mut [u16],
 ) -> Delivered
-    requires { ⌜ AllPlaces (now places) × (length (now places) ≡ length (now lengths)) × (length (now places) ≤ longestPayload)
-        × (total (laid (now places) (now lengths)) ≤ length (now payload)) × (length (now payload) ≤ longestPayload)
-        × (length (now held) ≡ allOctets) ⌝ }
-    ensures { λ r. ⌜ ended (finishedSays (r .finished)) (record { channels = r .channels; held = now (held .exit); output = now (output .exit); units = now (units .exit) })
-        ≡ delivered (record { channels = s; held = now (held .entry); output = now (output .entry); units = now (units .entry) })
-        mark (laid (now (places .entry)) (now (lengths .entry))) (now (payload .entry)) ⌝ }
+    requires { ⌜ Deliverable (now places) (now lengths) (now payload) (now held) ⌝ }
+    ensures { λ r. ⌜ leaves r held output units
+        ≡ delivered (lent s held output units) mark (laid (now (places .entry)) (now (lengths .entry))) (now (payload .entry)) ⌝ }
 {
     let last = last_place(places);
     if has_wrong_mark(s, mark, last) {
@@ -331,8 +317,7 @@ fn sort(
     units: &mut [u16],
 ) -> Delivered
     requires { ⌜ (length (now payload) ≤ longestPayload) × (code .0 ≤ highestCode) × (length (now held) ≡ allOctets) ⌝ }
-    ensures { λ r. ⌜ ended (finishedSays (r .finished)) (record { channels = r .channels; held = now (held .exit); output = now (output .exit); units = now (units .exit) })
-        ≡ sorted (record { channels = s; held = now (held .entry); output = now (output .entry); units = now (units .entry) })
+    ensures { λ r. ⌜ leaves r held output units ≡ sorted (lent s held output units)
         mark (payloadSlots (entryOf (now (table .entry)) (code .0)) (length (now (payload .entry)))) (now (payload .entry)) ⌝ }
 {
     let mut places = [0u16; LONGEST_PAYLOAD];

@@ -9,11 +9,5 @@ add-next c =
     let a = c .before .before .args in
     omega (arith, room-held (a .c) (a .n) (c .before .before .pre) (c .before .if1 .taken))
 
-returns : tie.Need-returns
-returns c = rw (c .before .if1 .taken)
-
-returns-2 : tie.Need-returns-2
-returns-2 c = rw (c .if1 .left)
-
 pub join-spec : {M : Type 1} → statement M
-join-spec = tie.close (tie.spec add-next returns returns-2)
+join-spec = tie.close (tie.spec add-next (λ c. rw (c .before .if1 .taken)) (λ c. rw (c .if1 .left)))

@@ -11,25 +11,13 @@ use Rattle.multiplex.proofs.Tallying.{getD-any}
 use Rattle.multiplex.proofs.demultiplexer.last_place.Statement.{statement}
 use Rattle.multiplex.proofs.demultiplexer.last_place.Tie as tie
 
-returns : tie.Need-returns
-returns c = sym (List·getD-eq-default (now (c .before .args .places)) placeCount (omega arith))
-
-sub-result : tie.Need-sub-result
-sub-result c = search needs
-
-mul-result : tie.Need-mul-result
-mul-result c = search needs
-
-shared-slice-read-result : tie.Need-shared-slice-read-result
-shared-slice-read-result c = search needs
-
-cast-result : tie.Need-cast-result
-cast-result c = omega (arith, c .shared-slice-known .given (length (now (c .before .before .args .places)) - 1))
-
 returns-2 : tie.Need-returns-2
-returns-2 c = getD-any (now (c .before .before .args .places)) (length (now (c .before .before .args .places)) - 1) 0 placeCount (omega (arith, pos-of-ne-zero (c .before .if1 .left)))
+returns-2 c =
+    let ps = now (c .before .before .args .places) in
+    getD-any ps (length ps - 1) 0 placeCount (omega (arith, pos-of-ne-zero (c .before .if1 .left)))
 
 pub last-place-spec : {M : Type 1} → statement M
 last-place-spec =
     tie.close
-    (tie.spec returns sub-result mul-result shared-slice-read-result cast-result returns-2)
+    (tie.spec (λ c. sym (List·getD-eq-default (now (c .before .args .places)) placeCount (omega arith))) (λ c. search needs) (λ c. search needs)
+    (λ c. search needs) (λ c. omega (arith, c .shared-slice-known .given (length (now (c .before .before .args .places)) - 1))) returns-2)

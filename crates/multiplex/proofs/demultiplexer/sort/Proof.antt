@@ -43,7 +43,9 @@ module _ (c : tie.After-payload-slots) where
   ls = c .payload-slots .last .1 .1 .1 .1 .0
 
   slotted : Slotted l (length xs) (c .payload-slots .result) cs ls
-  slotted = lays-slotted (entryOf (now (from .args .table)) (from .args .code .0)) (length xs) (from .pre .0) (c .payload-slots .result) _ _ cs ls refl refl (c .payload-slots .ensures)
+  slotted =
+      lays-slotted (entryOf (now (from .args .table)) (from .args .code .0)) (length xs) (from .pre .0) (c .payload-slots .result) _ _ cs ls refl refl
+      (c .payload-slots .ensures)
 
   in-cs : n ≤ length cs
   in-cs = omega (arith, slotted .count, slotted .few, slotted .forChannels)
@@ -82,63 +84,46 @@ module _ (c : tie.After-find) where
       slotted-found (from p .args .s) (l p) (length (xs p)) (p .payload-slots .result) (cs p) (ls p) (slotted p) found-places (places-are ∙ found-are)
       (sym open-is ∙ e)
 
-payload-slots-requires : tie.Need-payload-slots-requires
-payload-slots-requires c κs = search needs
-
-refused-requires : tie.Need-refused-requires
-refused-requires c κs = search needs
-
 returns : tie.Need-returns
 returns c =
     let k = c .before .before .before in
     let more : octetsOf (l k) < length (xs k) = omega (arith, c .before .if1 .taken, k .payload-slots .ensures .left) in
     rw (c .refused .ensures) (sym (sorted-long (lent k) (from k .args .mark) (xs k) (l k) more))
 
-array-borrow-prefix-places : tie.Need-array-borrow-prefix-places
-array-borrow-prefix-places c = in-cs (c .before .before)
-
 slice-aggregate-find : tie.Need-slice-aggregate-find
-slice-aggregate-find c = sym (length-take-le (n (c .before .before .before)) (cs (c .before .before .before)) (in-cs (c .before .before .before)))
-
-find-requires : tie.Need-find-requires
-find-requires c κs = search needs
+slice-aggregate-find c =
+    let k = c .before .before .before in
+    sym (length-take-le (n k) (cs k) (in-cs k))
 
 array-share-prefix-places : tie.Need-array-share-prefix-places
-array-share-prefix-places c = omega (arith, length-append (c .before .before .before .find .last .1 .0) (drop (n (c .before .before .before .before .before .before .before)) (cs (c .before .before .before .before .before .before .before))), found-length (c .before .before .before))
+array-share-prefix-places c =
+    let k = c .before .before .before in
+    omega (arith, length-append (k .find .last .1 .0) (drop (n (p k)) (cs (p k))), found-length k)
 
 slice-aggregate-deliver : tie.Need-slice-aggregate-deliver
-slice-aggregate-deliver c = sym (ap length (places-are (c .before .before .before .before)) ∙ found-length (c .before .before .before .before))
-
-array-share-prefix-lengths : tie.Need-array-share-prefix-lengths
-array-share-prefix-lengths c = in-ls (c .before .before .before .before .before .before .before .before)
+slice-aggregate-deliver c =
+    let k = c .before .before .before .before in
+    sym (ap length (places-are k) ∙ found-length k)
 
 slice-aggregate-deliver-2 : tie.Need-slice-aggregate-deliver-2
-slice-aggregate-deliver-2 c = sym (length-take-le (n (c .before .before .before .before .before .before .before .before .before)) (ls (c .before .before .before .before .before .before .before .before .before)) (in-ls (c .before .before .before .before .before .before .before .before .before)))
+slice-aggregate-deliver-2 c =
+    let k = c .before .before .before .before .before .before .before .before .before in
+    sym (length-take-le (n k) (ls k) (in-ls k))
 
 deliver-requires : tie.Need-deliver-requires
 deliver-requires c κs =
-    let f = found (c .before .before .before .before .before .before .before) (c .before .before .before .before .before .if2 .taken) in
-    let s = c .before .before .before .before .before .before .before .before .before .before .before .before .before .before .before .before .before .before in
-    (f .within, f .same, f .few, f .most, s .pre .0, s .pre .2)
-
-same-length : tie.Need-same-length
-same-length c = search needs
-
-same-length-2 : tie.Need-same-length-2
-same-length-2 c = search needs
-
-same-length-3 : tie.Need-same-length-3
-same-length-3 c = search needs
+    let k = c .before .before .before .before .before .before .before in
+    let f = found k (c .before .before .before .before .before .if2 .taken) in
+    record { pieces = f .places; enough = f .most; short = from (p k) .pre .0; whole = from (p k) .pre .2 }
 
 returns-2 : tie.Need-returns-2
 returns-2 c =
     let k = c .before .before .before .before .before .before .before .before .before .before .before .before .before .before in
     let m = from (p k) .args .mark in
-    c .before .before .before .before .before .before .deliver .ensures ∙ ap (λ (q : List Piece). delivered (lent (p k)) m q (xs (p k))) (found k (c .before .before .before .before .before .before .before .before .before .before .before .before .if2 .taken) .pieces)
-    ∙ sym (sorted-all (lent (p k)) m (xs (p k)) (l (p k)) (enough k) (sym (open-is k) ∙ c .before .before .before .before .before .before .before .before .before .before .before .before .if2 .taken))
-
-refused-requires-2 : tie.Need-refused-requires-2
-refused-requires-2 c κs = search needs
+    let e = c .before .before .before .before .before .before .before .before .before .before .before .before .if2 .taken in
+    c .before .before .before .before .before .before .deliver .ensures
+    ∙ ap (λ (q : List Piece). delivered (lent (p k)) m q (xs (p k))) (found k e .pieces)
+    ∙ sym (sorted-all (lent (p k)) m (xs (p k)) (l (p k)) (enough k) (sym (open-is k) ∙ e))
 
 returns-3 : tie.Need-returns-3
 returns-3 c =
@@ -149,21 +134,6 @@ returns-3 c =
 pub sort-spec : {M : Type 1} → statement M
 sort-spec =
     tie.close
-    (tie.spec
-    payload-slots-requires
-    refused-requires
-    returns
-    array-borrow-prefix-places
-    slice-aggregate-find
-    find-requires
-    array-share-prefix-places
-    slice-aggregate-deliver
-    array-share-prefix-lengths
-    slice-aggregate-deliver-2
-    deliver-requires
-    same-length
-    same-length-2
-    same-length-3
-    returns-2
-    refused-requires-2
-    returns-3)
+    (tie.spec (λ c κs. search needs) (λ c κs. search needs) returns (λ c. in-cs (c .before .before)) slice-aggregate-find (λ c κs. search needs)
+    array-share-prefix-places slice-aggregate-deliver (λ c. in-ls (c .before .before .before .before .before .before .before .before))
+    slice-aggregate-deliver-2 deliver-requires (λ c. search needs) (λ c. search needs) (λ c. search needs) returns-2 (λ c κs. search needs) returns-3)
