@@ -52,7 +52,8 @@ module _ (κ : Kind) (u : List ℕ) where
       let l = message-length in
       let fits = encodes-true (length (message κ u)) e (length before) (omega (arith, l)) (omega (arith, l)) (omega (arith, l)) in
       let d = encoded-is e (message κ u) before after n fits (rw is at p) in
-      let long : length (message κ u ++ d .parity) ≡ length (message κ u) + 2 * e = length-append (message κ u) (d .parity) ∙ ap (λ (k : ℕ). length (message κ u) + k) (d .right .long) in
+      let long : length (message κ u ++ d .parity) ≡ length (message κ u) + 2 * e =
+      length-append (message κ u) (d .parity) ∙ ap (λ (k : ℕ). length (message κ u) + k) (d .right .long) in
       record {
         sent = message κ u ++ d .parity;
         coded = record {
@@ -76,11 +77,13 @@ module _ (t n e : ℕ) where
 
     pub coding-short : (room : ℕ) → room < m → refusal (encodeTests t n e room) ≡ refused 3
     coding-short room l =
-        refused-room (isSetting n e) (isSendable t n e) (ltb room (sentOctets t n e)) (known .0) (known .1) (lt-ltb room (sentOctets t n e) (omega (arith, known .2)))
+        refused-room (isSetting n e) (isSendable t n e) (ltb room (sentOctets t n e)) (known .0) (known .1)
+        (lt-ltb room (sentOctets t n e) (omega (arith, known .2)))
 
     pub coding-allowed : (room : ℕ) → m ≤ room → refusal (encodeTests t n e room) ≡ told tt
     coding-allowed room l =
-        refused-not (isSetting n e) (isSendable t n e) (ltb room (sentOctets t n e)) (known .0) (known .1) (le-ltb room (sentOctets t n e) (omega (arith, known .2)))
+        refused-not (isSetting n e) (isSendable t n e) (ltb room (sentOctets t n e)) (known .0) (known .1)
+        (le-ltb room (sentOctets t n e) (omega (arith, known .2)))
 
     pub coding-all : (0 < t) × (m ≡ sentOctets t n e) × (m ≤ longestWord)
     unfolding isSendable

@@ -12,5 +12,6 @@
 -- Assumes nothing.
 pub use Rattle.adaptation.proofs.Refusals.{sent-leaves, refused-not, refused-none}
 pub use Rattle.adaptation.proofs.Coding.{coding-all}
-pub use Rattle.adaptation.proofs.Theorems.{sent-small, handed-small, sentIsHandedUp, faultlessIsCodeWord, outOfReachExactly, encodedUnique, receivedUnique}
+pub use Rattle.adaptation.proofs.Theorems.{sent-small, handed-small, sentIsHandedUp, faultlessIsCodeWord, outOfReachExactly, encodedUnique}
+pub use Rattle.adaptation.proofs.Theorems.{receivedUnique}
 pub use Rattle.adaptation.proofs.Unique.{badge-most, says-once, passed-once, read-once, received-once}

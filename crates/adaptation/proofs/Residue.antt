@@ -84,14 +84,16 @@ module _ (κ : Kind) where
   unfolding checkOf residues start
   check-is u =
       ap (octetsOf (κ .octets)) (check-bits (bits u))
-      ∙ octetsOf-sum (κ .octets) (residue (bits u)) (replicate (width κ) (κ .conditioned)) (residue-length (bits u) ∙ sym (length-replicate (width κ) (κ .conditioned)))
+      ∙ octetsOf-sum (κ .octets) (residue (bits u)) (replicate (width κ) (κ .conditioned))
+      (residue-length (bits u) ∙ sym (length-replicate (width κ) (κ .conditioned)))
 
   -- ---- octet by octet
 
   pub residues-none : residues [] ≡ start
   unfolding bits residue residues start
   residues-none =
-      ap (octetsOf (κ .octets)) (register-none 𝔹 g _ (length-replicate (length g) (κ .conditioned)) ∙ ap (λ (w : ℕ). replicate w (κ .conditioned)) (generator-length κ))
+      ap (octetsOf (κ .octets))
+      (register-none 𝔹 g _ (length-replicate (length g) (κ .conditioned)) ∙ ap (λ (w : ℕ). replicate w (κ .conditioned)) (generator-length κ))
 
   module _ (l : ℕ) (some : κ .octets ≡ suc l) (u : List ℕ) (o : ℕ) (octet : o < 256) where
     abbrev p : List Bool
@@ -122,7 +124,8 @@ module _ (κ : Kind) where
     unfolding residue plain
     moved =
         ap residue (bits-snoc u o)
-        ∙ register-more 𝔹 g _ (length-replicate (length g) (κ .conditioned)) (bits u) a b (bitsOf 8 o) (sym (take-append-drop 8 p)) (a-length ∙ sym (bitsOf-length 8 o))
+        ∙ register-more 𝔹 g _ (length-replicate (length g) (κ .conditioned)) (bits u) a b (bitsOf 8 o) (sym (take-append-drop 8 p))
+        (a-length ∙ sym (bitsOf-length 8 o))
         ∙ ap₂ (λ (m : ℕ) (q : List Bool). sum 𝔹 (b ++ zeros m) (remainder 𝔹 g q)) (bitsOf-length 8 o)
         (ap₂ (λ (q : List Bool) (w : ℕ). q ++ zeros w) (sum-bitsOf 8 a o a-length octet) (generator-length κ))
 
@@ -137,7 +140,8 @@ module _ (κ : Kind) where
 
     pub residues-step : (h : ℕ) (r : List ℕ) → residues u ≡ h ∷ r → residues (u ++ o ∷ []) ≡ xors (r ++ 0 ∷ []) (remainderOf κ (bitXor h o))
     residues-step h r e =
-        stepped ∙ ap₂ (λ (x : ℕ) (v : List ℕ). xors (v ++ 0 ∷ []) (remainderOf κ (bitXor x o))) (head-eq-of-cons-eq (sym held ∙ e)) (tail-eq-of-cons-eq (sym held ∙ e))
+        stepped ∙ ap₂ (λ (x : ℕ) (v : List ℕ). xors (v ++ 0 ∷ []) (remainderOf κ (bitXor x o))) (head-eq-of-cons-eq (sym held ∙ e))
+        (tail-eq-of-cons-eq (sym held ∙ e))
 
   -- ---- a loop over the content
 

@@ -29,7 +29,8 @@ use Rattle.adaptation.specs.Width.{isWidth, kindAt}
 use Rattle.adaptation.specs.AL1M.{isSetting, isSendable, sentOctets}
 use Rattle.adaptation.specs.Sending.{message, Coded, Sends}
 use Rattle.adaptation.specs.Receiving.{isWord, receiveTests, isBare, badgeOf, changedOf, handedUnit, HandedIs, Receives}
-use Rattle.adaptation.specs.Claims.{isFaulty, SentIsHandedUp, FaultlessIsCodeWord, OutOfReachExactly, CheckFailedExactly, UncheckedExactly, NoCheckAgrees, EncodedUnique, ReceivedUnique, RefusalLeaves}
+use Rattle.adaptation.specs.Claims.{isFaulty, SentIsHandedUp, FaultlessIsCodeWord, OutOfReachExactly, CheckFailedExactly, UncheckedExactly}
+use Rattle.adaptation.specs.Claims.{NoCheckAgrees, EncodedUnique, ReceivedUnique, RefusalLeaves}
 use Rattle.calls.specs.declared.Length.the-variants as sends
 use Rattle.adaptation.specs.declared.Badge.{Badge}
 use Rattle.adaptation.specs.declared.Badge.the-variants.{Clean, Corrected, OutOfReach, CheckFailed, Unchecked}
@@ -57,7 +58,8 @@ module _ (n e : ℕ) (w before : List ℕ) (allowed : refusal (receiveTests (len
 
 -- ---- what was found, by what it is within
 
-module _ (e : ℕ) (w before after c : List ℕ) (short : length w ≤ longestWord) (room : length w ≤ length before) (k : ℕ) (f : FoundIs e w before k after) (h : Within e w c) where
+module _ (e : ℕ) (w before after c : List ℕ) (short : length w ≤ longestWord) (room : length w ≤ length before) (k : ℕ) (f : FoundIs e w before k after)
+    (h : Within e w c) where
   found-same : f .found ≡ c
   found-same = neverSecond e w (f .found) c short (f .within) h
 
@@ -66,7 +68,8 @@ module _ (e : ℕ) (w before after c : List ℕ) (short : length w ≤ longestWo
 
   found-front : (i : ℕ) → i ≤ length w → take i after ≡ take i c
   found-front i l =
-      let front : take (length w) after ≡ c = ap₂ take (sym (h .long)) (f .written-is ∙ ap (written before 0) found-same) ∙ written-front before c (omega (arith, h .long)) in
+      let front : take (length w) after ≡ c =
+      ap₂ take (sym (h .long)) (f .written-is ∙ ap (written before 0) found-same) ∙ written-front before c (omega (arith, h .long)) in
       sym (take-take i (length w) after l) ∙ ap (take i) front
 
 -- ---- the badge, undone
@@ -97,7 +100,8 @@ faultless-found false zero = refl
 faultless-found b (suc k) = refl
 
 -- the part that the badge chooses
-chosen : (b : Bool) (k t : ℕ) (w after c : List ℕ) → (k ≡ 0 → w ≡ c) → take t after ≡ take t c → handedUnit (badgeOf b (reach.Found k) true) w after t ≡ take t c
+chosen : (b : Bool) (k t : ℕ) (w after c : List ℕ) → (k ≡ 0 → w ≡ c) → take t after ≡ take t c → handedUnit (badgeOf b (reach.Found k) true) w after t
+    ≡ take t c
 chosen true zero t w after c z h = ap (take t) (z refl)
 chosen false zero t w after c z h = ap (take t) (z refl)
 chosen b (suc k) t w after c z h = h
@@ -137,7 +141,8 @@ module _ (n e : ℕ) (w before after : List ℕ) (j : Judgement) (allowed : refu
     badge-found : j .badge ≡ badgeOf (isBare (kindAt n) e) (reach.Found (distance w c)) (agrees (kindAt n) (take (length w - 2 * e) c))
     unfolding count
     badge-found =
-        h .badge-is ∙ ap₂ (badgeOf (isBare (kindAt n) e)) (has-found c near .1 ∙ ap reach.Found changed-is) (ap (agrees (kindAt n)) (front (length w - 2 * e) (omega arith)))
+        h .badge-is ∙ ap₂ (badgeOf (isBare (kindAt n) e)) (has-found c near .1 ∙ ap reach.Found changed-is)
+        (ap (agrees (kindAt n)) (front (length w - 2 * e) (omega arith)))
 
     changed-found : j .changed ≡ distance w c
     unfolding count
@@ -146,7 +151,8 @@ module _ (n e : ℕ) (w before after : List ℕ) (j : Judgement) (allowed : refu
     unit-found : agrees (kindAt n) (take (length w - 2 * e) c) ≡ true → handedUnit (j .badge) w after (j .length) ≡ take (j .length) c
     unit-found a =
         ap (λ (b : Badge). handedUnit b w after (j .length)) (badge-found ∙ ap (badgeOf (isBare (kindAt n) e) (reach.Found (distance w c))) a)
-        ∙ chosen (isBare (kindAt n) e) (distance w c) (j .length) w after c (λ z. distance-zero w c (sym (near .long)) z) (front (j .length) (omega (arith, h .length-is)))
+        ∙ chosen (isBare (kindAt n) e) (distance w c) (j .length) w after c (λ z. distance-zero w c (sym (near .long)) z)
+        (front (j .length) (omega (arith, h .length-is)))
 
 pub faultlessIsCodeWord : FaultlessIsCodeWord
 faultlessIsCodeWord n e w before after j r g =
@@ -154,7 +160,8 @@ faultlessIsCodeWord n e w before after j r g =
     let a = faultless (isBare (kindAt n) e) (h .reach) (agrees (kindAt n) (take (length w - 2 * e) after)) (ap isFaulty (sym (h .badge-is)) ∙ g) in
     let f = as-found n e w before after j (r .0) h (a .0) (a .1) in
     let c = f .found in
-    let good : agrees (kindAt n) (take (length w - 2 * e) c) ≡ true = ap (agrees (kindAt n)) (sym (front n e w before after j (r .0) h c (f .within) (length w - 2 * e) (omega arith))) ∙ a .2 in (
+    let good : agrees (kindAt n) (take (length w - 2 * e) c) ≡ true =
+    ap (agrees (kindAt n)) (sym (front n e w before after j (r .0) h c (f .within) (length w - 2 * e) (omega arith))) ∙ a .2 in (
       c,
       record {
         within = f .within;
@@ -189,8 +196,12 @@ checkFailedExactly n e w before after j (allowed, h) = (failed, disagrees)
     failed : j .badge ≡ CheckFailed → (c : List ℕ) × Within e w c × (agrees (kindAt n) (take (length w - 2 * e) c) ≡ false)
     failed b =
         let t = subst (Tells (isBare (kindAt n) e) (h .reach) _) (sym (h .badge-is) ∙ b) (tells (isBare (kindAt n) e) (h .reach) _) in
-        let f = as-found n e w before after j allowed h (t .0) (t .1) in
-        (f .found, f .within, ap (agrees (kindAt n)) (sym (front n e w before after j allowed h (f .found) (f .within) (length w - 2 * e) (omega arith))) ∙ t .2)
+        let f = as-found n e w before after j allowed h (t .0) (t .1) in (
+          f .found,
+          f .within,
+          ap (agrees (kindAt n)) (sym (front n e w before after j allowed h (f .found) (f .within) (length w - 2 * e) (omega arith)))
+              ∙ t .2,
+        )
 
     disagrees : (c : List ℕ) × Within e w c × (agrees (kindAt n) (take (length w - 2 * e) c) ≡ false) → j .badge ≡ CheckFailed
     disagrees c = badge-found n e w before after j allowed h (c .0) (c .1) ∙ ap (badgeOf (isBare (kindAt n) e) (reach.Found (distance w (c .0)))) (c .2)
@@ -207,7 +218,8 @@ uncheckedExactly n e w before after j o (allowed, h) = (told-bare, bare)
         let no-code : e ≡ 0 = eqb-true e 0 (t .0) in
         let code : CodeWord e w = zeroSyndromes e w (omega arith) o .1 (λ i m. absurd (omega arith)) in
         let near : Within e w w = record { long = refl; code = code; near = omega (arith, distance-self w) } in
-        badge-found n e w before after j allowed h w near ∙ rw (b, distance-self w, agrees-none (kindAt n) (take (length w - 2 * e) w) (eqb-true (kindAt n .octets) 0 (t .1)))
+        badge-found n e w before after j allowed h w near
+        ∙ rw (b, distance-self w, agrees-none (kindAt n) (take (length w - 2 * e) w) (eqb-true (kindAt n .octets) 0 (t .1)))
 
 pub noCheckAgrees : NoCheckAgrees
 unfolding none
@@ -236,8 +248,12 @@ module _ (n e m : ℕ) (u room sent : List ℕ) (s : Sends n e u room (sends.Oct
   sizes : (0 < length u) × (m ≤ longestWord) × (m ≤ length room)
   unfolding isSendable
   sizes =
-      let b = both-true (leb 1 (length u)) (leb (sentOctets (length u) n e) longestWord) (sendable .1) in
-      (leb-true 1 (length u) (b .0), rw long (leb-true (sentOctets (length u) n e) longestWord (b .1)), rw long (ltb-false (length room) (sentOctets (length u) n e) (sendable .2)))
+      let b = both-true (leb 1 (length u)) (leb (sentOctets (length u) n e) longestWord) (sendable .1) in (
+        leb-true 1 (length u) (b .0),
+        rw long (leb-true (sentOctets (length u) n e) longestWord (b .1)),
+        rw long
+            (ltb-false (length room) (sentOctets (length u) n e) (sendable .2)),
+      )
 
   sent-front : take m sent ≡ s .1 .sent
   sent-front = ap₂ take (s .1 .count) (s .1 .written-is) ∙ written-front room (s .1 .sent) (omega (arith, s .1 .count, sizes .2))
@@ -256,7 +272,8 @@ module _ (n e m : ℕ) (u room sent : List ℕ) (s : Sends n e u room (sends.Oct
 
     unit-sent : take (length u) (s .1 .sent) ≡ u
     unit-sent =
-        sym (take-take (length u) (length (message (kindAt n) u)) (s .1 .sent) (omega (arith, message-length (kindAt n) u))) ∙ ap (take (length u)) (coded .begins)
+        sym (take-take (length u) (length (message (kindAt n) u)) (s .1 .sent) (omega (arith, message-length (kindAt n) u)))
+        ∙ ap (take (length u)) (coded .begins)
         ∙ take-append-seam u _
 
     allowed : refusal (receiveTests (length w) n e (length before)) ≡ told tt
@@ -272,7 +289,8 @@ module _ (n e m : ℕ) (u room sent : List ℕ) (s : Sends n e u room (sends.Oct
         let t : j .length ≡ length u = h .length-is ∙ omega (arith, l, long) in
         let d : j .changed ≡ distance w (take m sent) = changed-found n e w before after j a h c within ∙ ap (distance w) (sym sent-front) in
         let good : isFaulty (j .badge) ≡ false =
-        ap isFaulty (badge-found n e w before after j a h c within ∙ ap (badgeOf (isBare (kindAt n) e) (reach.Found (distance w c))) agrees-sent) ∙ faultless-found (isBare (kindAt n) e) (distance w c) in
+        ap isFaulty (badge-found n e w before after j a h c within ∙ ap (badgeOf (isBare (kindAt n) e) (reach.Found (distance w c))) agrees-sent)
+        ∙ faultless-found (isBare (kindAt n) e) (distance w c) in
         let u-is : handedUnit (j .badge) w after (length u) ≡ u =
         ap (handedUnit (j .badge) w after) (sym t) ∙ unit-found n e w before after j a h c within agrees-sent ∙ ap (λ (i : ℕ). take i c) t ∙ unit-sent in
         (j .badge, ap receive.Unit (judgement-same j (j .badge) (distance w (take m sent)) (length u) refl d t), u-is, good)
@@ -286,10 +304,19 @@ sentIsHandedUp n e m u room sent w before after r s l near fits p = handed n e m
 pub sent-small : (n e m : ℕ) (u room sent : List ℕ) → Sends n e u room (sends.Octets m) sent → m ≤ longestWord
 sent-small n e m u room sent s = sizes n e m u room sent s .1
 
-pub handed-small : (n e : ℕ) (w before after : List ℕ) (j : Judgement) → Receives n e w before (receive.Unit j) after → (j .changed ≤ 127) × (j .length ≤ longestWord)
+pub handed-small : (n e : ℕ) (w before after : List ℕ) (j : Judgement) → Receives n e w before (receive.Unit j) after
+    → (j .changed ≤ 127) × (j .length ≤ longestWord)
 unfolding isSetting
-handed-small n e w before after j (allowed, h) =
-    (omega (arith, h .changed-is, changed (h .reach) (h .repaired), leb-true e 127 (both-true (isWidth n) (leb e 127) (passed n e w before allowed .0) .1)), omega (arith, h .length-is, word-is n e w before allowed .0))
+handed-small n e w before after j (allowed, h) = (
+  omega (
+    arith,
+    h .changed-is,
+    changed (h .reach) (h .repaired),
+    leb-true e 127
+        (both-true (isWidth n) (leb e 127) (passed n e w before allowed .0) .1),
+  ),
+  omega (arith, h .length-is, word-is n e w before allowed .0),
+)
   where
     changed : (x : Reach) → Repaired e w before x after → changedOf x ≤ e
     changed (reach.Found k) f = omega (arith, f .count, f .within .near)
@@ -307,7 +334,8 @@ first-same t k i p q = cc
 pub encodedUnique : EncodedUnique
 encodedUnique n e u before after left (sends.Octets m) (sends.Octets i) (a, p) (b, q) =
     let same : p .sent ≡ q .sent =
-    codeWord-only e (message (kindAt n) u) (p .sent) (q .sent) (p .coded .long) (q .coded .long) (p .coded .code) (q .coded .code) (p .coded .begins) (q .coded .begins) in
+    codeWord-only e (message (kindAt n) u) (p .sent) (q .sent) (p .coded .long) (q .coded .long) (p .coded .code) (q .coded .code) (p .coded .begins)
+    (q .coded .begins) in
     (ap sends.Octets (p .count ∙ ap length same ∙ sym (q .count)), p .written-is ∙ ap (written before 0) same ∙ sym (q .written-is))
 encodedUnique n e u before after left (sends.Octets m) (sends.Refused k) (a, p) q = told-refused a (q .first)
 encodedUnique n e u before after left (sends.Refused k) (sends.Octets m) p (b, q) = told-refused b (p .first)
@@ -319,8 +347,12 @@ unfolding judgement
 receivedUnique n e w before after left (receive.Unit j) (receive.Unit i) (a, p) (b, q) =
     let both = repairedUnique e w before (p .reach) (q .reach) after left (p .repaired) (q .repaired) in
     let badge : j .badge ≡ i .badge =
-    p .badge-is ∙ ap₂ (λ (x : Reach) (y : List ℕ). badgeOf (isBare (kindAt n) e) x (agrees (kindAt n) (take (length w - 2 * e) y))) (both .0) (both .1) ∙ sym (q .badge-is) in
-    (ap receive.Unit (judgement-same j (i .badge) (i .changed) (i .length) badge (p .changed-is ∙ ap changedOf (both .0) ∙ sym (q .changed-is)) (p .length-is ∙ sym (q .length-is))), both .1)
+    p .badge-is ∙ ap₂ (λ (x : Reach) (y : List ℕ). badgeOf (isBare (kindAt n) e) x (agrees (kindAt n) (take (length w - 2 * e) y))) (both .0) (both .1)
+    ∙ sym (q .badge-is) in (
+      ap receive.Unit (judgement-same j (i .badge) (i .changed) (i .length) badge (p .changed-is ∙ ap changedOf (both .0) ∙ sym (q .changed-is))
+          (p .length-is ∙ sym (q .length-is))),
+      both .1,
+    )
 receivedUnique n e w before after left (receive.Unit j) (receive.Refused k) (a, p) q = told-refused a (q .first)
 receivedUnique n e w before after left (receive.Refused k) (receive.Unit j) p (b, q) = told-refused b (p .first)
 receivedUnique n e w before after left (receive.Refused k) (receive.Refused i) p q =

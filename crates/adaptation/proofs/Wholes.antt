@@ -29,7 +29,8 @@ use Rattle.calls.specs.Refusal.{Told, refused, told, leaving, refusing}
 use Rattle.calls.proofs.Laws.{checked-through}
 use Rattle.adaptation.specs.Check.{checkOf, agrees, eight}
 use Rattle.adaptation.specs.Handed.{longestUnit, handed}
-use Rattle.adaptation.specs.AL2.{field, whole, isSendable, sent, fieldLength, numberOf, unitOf, Parts, readTests, partsOf, apart, Receipt, handedUp, settled, delivered, received}
+use Rattle.adaptation.specs.AL2.{field, whole, isSendable, sent, fieldLength, numberOf, unitOf, Parts, readTests, partsOf, apart, Receipt}
+use Rattle.adaptation.specs.AL2.{handedUp, settled, delivered, received}
 use Rattle.adaptation.specs.declared.al2.Number.{Number}
 use Rattle.adaptation.specs.declared.al2.Number.the-variants.{Numbered, Plain}
 use Rattle.adaptation.specs.declared.al2.Arrival.{Arrival}
@@ -136,7 +137,8 @@ fieldLength-is Plain = refl
 pub whole-apart : (n : Number) (u : List ℕ) → 0 < length u → length (whole n u) ≤ longestUnit
     → apart (isNumbered n) (whole n u) ≡ told (record { number = n; agreeing = true; unit = u })
 whole-apart n u p l =
-    apart-read (isNumbered n) (whole n u) n true (omega (arith, whole-length n u (length (field n)) refl, fieldLength-is n)) l (number-whole n u) (agrees-own eight (field n ++ u))
+    apart-read (isNumbered n) (whole n u) n true (omega (arith, whole-length n u (length (field n)) refl, fieldLength-is n)) l (number-whole n u)
+    (agrees-own eight (field n ++ u))
     ∙ ap (λ (v : List ℕ). told (record { number = n; agreeing = true; unit = v })) (unit-whole n u)
 
 pub whole-received : (n : Number) (u : List ℕ) (e : ℕ) → 0 < length u → length (whole n u) ≤ longestUnit

@@ -45,7 +45,8 @@ abbrev pub SentIsHandedUp : Type 0
 SentIsHandedUp =
     (n e m : ℕ) (u room whole w before after : List ℕ) (r : Received) → Sends n e u room (sent.Octets m) whole
     → length w ≡ m → distance w (take m whole) ≤ e → m ≤ length before → Receives n e w before r after
-    → (b : Badge) × (r ≡ Unit (record { badge = b; changed = distance w (take m whole); length = length u })) × (handedUnit b w after (length u) ≡ u) × (isFaulty b ≡ false)
+    → (b : Badge) × (r ≡ Unit (record { badge = b; changed = distance w (take m whole); length = length u })) × (handedUnit b w after (length u)
+    ≡ u) × (isFaulty b ≡ false)
 
 -- what such a badge is given to
 pub record Faultless (n e : ℕ) (w after c : List ℕ) (j : Judgement) : Type 0 where

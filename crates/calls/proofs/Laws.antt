@@ -22,7 +22,8 @@ use mathlib.Core.Bool.{Bool, true, false, cond}
 use mathlib.Core.List.{List, [], _∷_}
 use Prim.Native.Nat.{ℕ}
 use Rattle.octets.specs.Tests.{never}
-use Rattle.calls.specs.Refusal.{Told, refused, told, Ended, ended, leaving, refusing, Test, _when_, checked, refusal, None, Refuses, outcomeSays, lengthSays}
+use Rattle.calls.specs.Refusal.{Told, refused, told, Ended, ended, leaving, refusing, Test, _when_, checked, refusal, None, Refuses}
+use Rattle.calls.specs.Refusal.{outcomeSays, lengthSays}
 use Rattle.calls.specs.declared.Outcome.{Outcome}
 use Rattle.calls.specs.declared.Outcome.the-variants as outcome
 use Rattle.calls.specs.declared.Length.{Length}
@@ -74,7 +75,8 @@ pub checked-refuses : {A X : Type 0} (x : X) (l : List Test) (a : A) (y : X) →
 checked-refuses x [] a y = allowed-refuses x [] a y refl
 checked-refuses {A = A} {X = X} x ((i when b) ∷ l) a y = by b (checked-refuses x l a y)
   where
-    by : (b : Bool) → Refuses (checked (refusing x) l (leaving a y)) l x → Refuses (cond b (refusing x i) (checked (refusing x) l (leaving a y))) (i when b ∷ l) x
+    by : (b : Bool) → Refuses (checked (refusing x) l (leaving a y)) l x
+        → Refuses (cond b (refusing x i) (checked (refusing x) l (leaving a y))) (i when b ∷ l) x
     by true h = refused-refuses x (i when true ∷ l) i x refl refl
     by false h = record { exactly = h .exactly; leaves = h .leaves }
 
@@ -82,7 +84,8 @@ pub told-refuses : {A : Type 0} (l : List Test) (a : A) → Refuses {X = Unit {0
 told-refuses [] a = allowed-refuses tt [] a tt refl
 told-refuses {A = A} ((i when b) ∷ l) a = by b (told-refuses l a)
   where
-    by : (b : Bool) → Refuses {X = Unit {0}} (ended (checked refused l (told a)) tt) l tt → Refuses {X = Unit {0}} (ended (cond b (refused i) (checked refused l (told a))) tt) (i when b ∷ l) tt
+    by : (b : Bool) → Refuses {X = Unit {0}} (ended (checked refused l (told a)) tt) l tt
+        → Refuses {X = Unit {0}} (ended (cond b (refused i) (checked refused l (told a))) tt) (i when b ∷ l) tt
     by true h = refused-refuses tt (i when true ∷ l) i tt refl refl
     by false h = record { exactly = h .exactly; leaves = h .leaves }
 
@@ -102,7 +105,8 @@ outcomeBack : Told (Unit {0}) → Outcome
 outcomeBack (told u) = outcome.Done
 outcomeBack (refused k) = outcome.Refused k
 
-pub outcome-once : {X : Type 0} (a b : Outcome) (x y : X) (z : Ended (Unit {0}) X) → ended (outcomeSays a) x ≡ z → ended (outcomeSays b) y ≡ z → (a ≡ b) × (x ≡ y)
+pub outcome-once : {X : Type 0} (a b : Outcome) (x y : X) (z : Ended (Unit {0}) X) → ended (outcomeSays a) x ≡ z → ended (outcomeSays b) y ≡ z
+    → (a ≡ b) × (x ≡ y)
 unfolding outcomeBack
 outcome-once = both-once outcomeSays outcomeBack back
   where

@@ -21,7 +21,8 @@ use Rattle.calls.proofs.Laws.{checked-keeps}
 use Rattle.adaptation.specs.Handed.{isUnit}
 use Rattle.channels.specs.declared.Channel.{Channel}
 use Rattle.channels.specs.declared.Channels.{Channels}
-use Rattle.channels.specs.Channels.{placeCount, placeOctets, vacant, fresh, start, placeOf, freePlace, isIn, channelAt, put, holding, waiting, numbering, Post, openTests, closeTests, resetTests, postTests, opened, closed, reset, posted}
+use Rattle.channels.specs.Channels.{placeCount, placeOctets, vacant, fresh, start, placeOf, freePlace, isIn, channelAt, put, holding, waiting}
+use Rattle.channels.specs.Channels.{numbering, Post, openTests, closeTests, resetTests, postTests, opened, closed, reset, posted}
 use Rattle.channels.specs.Layers as layers
 use Rattle.channels.specs.Claims.{Bounded, StartBounded, KeepsBounds}
 use Rattle.channels.proofs.Holding.{orderly-put}

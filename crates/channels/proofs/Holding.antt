@@ -30,7 +30,8 @@ abbrev pub heldAt : Channel → List ℕ → ℕ → List ℕ
 heldAt d h p = take (d .held) (drop (placeOctets * p) h)
 
 module _ {r : Channels} {h : List ℕ} (o : Orderly r h) {p : ℕ} (inside : p < placeCount) where
-  pub orderly-put : (d : Channel) (h′ : List ℕ) → d .held ≤ placeOctets → (d .segmentable ≡ false → d .held ≡ 0) → length h′ ≡ allOctets → Orderly (put r p d) h′
+  pub orderly-put : (d : Channel) (h′ : List ℕ) → d .held ≤ placeOctets → (d .segmentable ≡ false → d .held ≡ 0) → length h′ ≡ allOctets
+      → Orderly (put r p d) h′
   orderly-put d h′ b f e = record {
     full = length-set (r .at) p d ∙ o .full;
     room = e;

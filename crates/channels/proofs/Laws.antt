@@ -8,7 +8,8 @@
 --   afterUnique, postUnique, sendUnique, takeUnique             one answer (Theorems)
 --
 -- Assumes nothing.
-pub use Rattle.channels.proofs.Seats.{first-found, first-set, first-put, Seat, seat, seats, place-seats, free-seats, seat-at, seats-put, seats-length, place-number, place-unique, vacant-behind, put-there, put-elsewhere}
+pub use Rattle.channels.proofs.Seats.{first-found, first-set, first-put, Seat, seat, seats, place-seats, free-seats, seat-at, seats-put}
+pub use Rattle.channels.proofs.Seats.{seats-length, place-number, place-unique, vacant-behind, put-there, put-elsewhere}
 pub use Rattle.channels.proofs.Placing.{sought-place, in-placed}
 pub use Rattle.channels.proofs.Holding.{heldAt, orderly-put, filled-room, held-grown, held-else, orderly-joined, orderly-emptied}
 pub use Rattle.channels.proofs.Bounds.{waits-put, bounded-put, start-bounded, keeps-bounds}

@@ -72,7 +72,8 @@ module _ (s : Channels) (n : ℕ) (numbered : Bool) (w : List ℕ) (p : ℕ) (e 
   unfolding taking
   taking-closed h = rw (← e, le-ltb _ _ h)
 
-  pub taking-by : p < placeCount → (r : Told Receipt) → r ≡ received numbered w (channelAt s p .expected) → takenBy s p (channelAt s p) r ≡ taking s n numbered w
+  pub taking-by : p < placeCount → (r : Told Receipt) → r ≡ received numbered w (channelAt s p .expected) → takenBy s p (channelAt s p) r
+      ≡ taking s n numbered w
   unfolding taking received
   taking-by h r f =
       ap (takenBy s p (channelAt s p)) f ∙ checked-through (takenBy s p (channelAt s p)) refused (readTests numbered w) _ ∙ rw (← e, lt-ltb _ _ h)

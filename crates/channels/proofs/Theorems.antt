@@ -29,12 +29,16 @@ afterUnique a b z p q =
 pub postUnique : PostUnique
 unfolding after
 postUnique s w n u v t a b p q =
-    let e = outcome-once (a .outcome) (b .outcome) (record { channels = a .channels; octets = v }) (record { channels = b .channels; octets = t }) (posted s w n u) p q in
+    let e =
+    outcome-once (a .outcome) (b .outcome) (record { channels = a .channels; octets = v }) (record { channels = b .channels; octets = t })
+    (posted s w n u) p q in
     (ap₂ after (e .0) (ap (λ (x : Post). x .channels) (e .1)), ap (λ (x : Post). x .octets) (e .1))
 
 pub sendUnique : SendUnique
 sendUnique x n numbered u v t a b p q =
-    let f = lengths-once (a .length) (b .length) (record { channels = a .channels; output = v }) (record { channels = b .channels; output = t }) (sending x n numbered u) p q in
+    let f =
+    lengths-once (a .length) (b .length) (record { channels = a .channels; output = v }) (record { channels = b .channels; output = t })
+    (sending x n numbered u) p q in
     (ap₂ (λ (r : Length) (y : SendLent). record { length = r; channels = y .channels }) (f .0) (f .1), ap (λ (y : SendLent). y .output) (f .1))
 
 pub takeUnique : TakeUnique

@@ -87,10 +87,12 @@ put s p c = record { at = set (s .at) p c }
 -- ---- what a place has
 
 abbrev pub holding : Channel → ℕ → Channel
-holding c k = record { «open» = c .«open»; segmentable = c .segmentable; number = c .number; held = k; waiting = c .waiting; sent = c .sent; expected = c .expected }
+holding c k =
+    record { «open» = c .«open»; segmentable = c .segmentable; number = c .number; held = k; waiting = c .waiting; sent = c .sent; expected = c .expected }
 
 abbrev pub waiting : Channel → ℕ → Channel
-waiting c k = record { «open» = c .«open»; segmentable = c .segmentable; number = c .number; held = c .held; waiting = k; sent = c .sent; expected = c .expected }
+waiting c k =
+    record { «open» = c .«open»; segmentable = c .segmentable; number = c .number; held = c .held; waiting = k; sent = c .sent; expected = c .expected }
 
 abbrev pub numbering : Channel → (sent expected : ℕ) → Channel
 numbering c i j = record { «open» = c .«open»; segmentable = c .segmentable; number = c .number; held = c .held; waiting = c .waiting; sent = i; expected = j }

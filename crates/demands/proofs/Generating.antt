@@ -41,7 +41,8 @@ rooted-worked zero h zero = octet-one
 rooted-worked zero h (suc k) = octet-nil
 rooted-worked (suc n) h k =
     octet-add _ _
-    ∙ ap₂ sum (before (λ k. rooted-worked n (omega arith) k) k) (octet-mul _ _ ∙ product-times _ _ (octet-lt _) (octet-lt _) ∙ ap₂ times (octet-pow (suc n) ∙ sym (powers-at (suc n) h)) (rooted-worked n (omega arith) k))
+    ∙ ap₂ sum (before (λ k. rooted-worked n (omega arith) k) k)
+    (octet-mul _ _ ∙ product-times _ _ (octet-lt _) (octet-lt _) ∙ ap₂ times (octet-pow (suc n) ∙ sym (powers-at (suc n) h)) (rooted-worked n (omega arith) k))
     ∙ sum-xor _ _
   where
     before : ((k : ℕ) → octet (rooted elements n (rising elements α) k) ≡ coefficient n k)
@@ -72,5 +73,6 @@ unfolding polynomial word ofList _⊞_ none
 polynomial-worked [] o k = octet-nil
 polynomial-worked (a ∷ w) o k =
     octet-add _ _
-    ∙ ap₂ sum (ap (λ (m : ℕ). octet (monomial elements m (element a) k)) (word-length w) ∙ monomial-worked (length w) a k (o 0)) (polynomial-worked w (λ i. o (suc i)) k)
+    ∙ ap₂ sum (ap (λ (m : ℕ). octet (monomial elements m (element a) k)) (word-length w) ∙ monomial-worked (length w) a k (o 0))
+    (polynomial-worked w (λ i. o (suc i)) k)
     ∙ sum-xor _ _

@@ -58,7 +58,8 @@ module _ (R : Receiver) (keeps : Keeps R) where
   counts m =
       m .differs
       (demand3 .repairs (m .width) (m .e) (m .word) (m .lent) (R .leaves (m .width) (m .e) (m .word) (m .lent)) (m .told)
-      (subst (λ r. Receives (m .width) (m .e) (m .word) (m .lent) r (R .leaves (m .width) (m .e) (m .word) (m .lent))) (m .answers) (keeps (m .width) (m .e) (m .word) (m .lent)))
+      (subst (λ r. Receives (m .width) (m .e) (m .word) (m .lent) r (R .leaves (m .width) (m .e) (m .word) (m .lent))) (m .answers)
+      (keeps (m .width) (m .e) (m .word) (m .lent)))
       .repaired (m .found) (m .within) .2)
 
 pub wrong : Wrong

@@ -109,5 +109,7 @@ unfolding noneNear noneAt
 noneNear-none w p t c n =
     let b = near-one w c (sym (n .long)) p (n .near) in
     let none : isCode 1 (set w (b .place) (getD c (b .place) 0)) ≡ false
-    = refuted _ (every-at (λ v. not (isCode 1 (set w (b .place) v))) 256 (every-at (noneAt w) (length w) t (b .place) (b .inside)) (getD c (b .place) 0) (n .code .octets (b .place))) in
+    =
+    refuted _ (every-at (λ v. not (isCode 1 (set w (b .place) v))) 256 (every-at (noneAt w) (length w) t (b .place) (b .inside)) (getD c (b .place) 0)
+    (n .code .octets (b .place))) in
     isCode-false 1 c (lit< tt) (ap (isCode 1) (b .is) ∙ none) (n .code)

@@ -47,7 +47,8 @@ use Rattle.demands.proofs.Generating.{coefficient, ofList, rooted-worke
 
 -- ---- receiving
 
-module _ (n e : ℕ) (w : List ℕ) (setting : isSetting n e ≡ true) (isOne : isWord (length w) n e ≡ true) (short : leb (length w) longestWord ≡ true) (long : ltb (2 * e) (length w) ≡ true) where
+module _ (n e : ℕ) (w : List ℕ) (setting : isSetting n e ≡ true) (isOne : isWord (length w) n e ≡ true) (short : leb (length w) longestWord ≡ true)
+    (long : ltb (2 * e) (length w) ≡ true) where
   module _ (before : List ℕ) (room : length w ≤ length before) where
     allowed : refusal (receiveTests (length w) n e (length before)) ≡ told tt
     allowed = refused-not (isSetting n e) (isWord (length w) n e) (ltb (length before) (length w)) setting isOne (le-ltb (length before) (length w) room)
@@ -68,7 +69,8 @@ module _ (n e : ℕ) (w : List ℕ) (setting : isSetting n e ≡ true) (isOne : 
         record {
           reach = reach.Found (distance w c);
           repaired = record { fits = fits; found = c; within = near; count = refl; written-is = refl };
-          badge-is = sym badge ∙ ap (λ (l : List ℕ). badgeOf (isBare (kindAt n) e) (reach.Found (distance w c)) (agrees (kindAt n) l)) (sym (front c (length w - 2 * e) (near .long) (omega arith)));
+          badge-is = sym badge ∙ ap (λ (l : List ℕ). badgeOf (isBare (kindAt n) e) (reach.Found (distance w c)) (agrees (kindAt n) l))
+              (sym (front c (length w - 2 * e) (near .long) (omega arith)));
           changed-is = refl;
           length-is = sym unit;
         },
@@ -92,10 +94,14 @@ module _ (n e : ℕ) (w : List ℕ) (setting : isSetting n e ≡ true) (isOne : 
       → distance w c ≡ k → unitLength (kindAt n) e (length w) ≡ length u → take (length u) (cond (isCorrected b) c w) ≡ u → ReceivedAs n e w b k u
   found-as c b k u near bs ks ls us before after r room h =
       let both = receivedUnique n e w before after (written before 0 c) r _ h (receives before room c near b (length u) bs ls) in
-      let t : length u ≤ length w = omega (arith, ls) in
-      (both .0 ∙ ap (λ (i : ℕ). al1m.Unit (record { badge = b; changed = i; length = length u })) ks, ap (λ (l : List ℕ). take (length u) (cond (isCorrected b) l w)) (both .1) ∙ chosen (isCorrected b) (front before room c (length u) (near .long) t) ∙ us)
+      let t : length u ≤ length w = omega (arith, ls) in (
+        both .0 ∙ ap (λ (i : ℕ). al1m.Unit (record { badge = b; changed = i; length = length u })) ks,
+        ap
+            (λ (l : List ℕ). take (length u) (cond (isCorrected b) l w)) (both .1) ∙ chosen (isCorrected b) (front before room c (length u) (near .long) t) ∙ us,
+      )
     where
-      chosen : (t : Bool) → take (length u) (written before 0 c) ≡ take (length u) c → take (length u) (cond t (written before 0 c) w) ≡ take (length u) (cond t c w)
+      chosen : (t : Bool) → take (length u) (written before 0 c) ≡ take (length u) c → take (length u) (cond t (written before 0 c) w)
+          ≡ take (length u) (cond t c w)
       chosen true p = p
       chosen false p = refl
 
@@ -115,7 +121,8 @@ octets-by [] t i = lit< tt
 octets-by (a ∷ w) t zero = ltb→lt a 256 (both-left (ltb a 256) (areOctets w) t)
 octets-by (a ∷ w) t (suc i) = octets-by w (both-right (ltb a 256) (areOctets w) t) i
 
-module _ (e : ℕ) (w c : List ℕ) (long : length c ≡ length w) (fits : 2 * e < longestWord) (octets : T (areOctets c)) (code : T (isCode e c)) (near : leb (distance w c) e ≡ true) where
+module _ (e : ℕ) (w c : List ℕ) (long : length c ≡ length w) (fits : 2 * e < longestWord) (octets : T (areOctets c)) (code : T (isCode e c))
+    (near : leb (distance w c) e ≡ true) where
   within-by : Within e w c
   within-by = record { long = long; code = isCode-true e c fits (octets-by c octets) code; near = leb-true (distance w c) e near }
 
@@ -133,7 +140,9 @@ generator-two : code.generator 2 ≡ polynomial elements (code.word (0x01 ∷ 0x
 unfolding code.generator
 generator-two =
     fun-ext
-    (λ k. octet-same _ _ (rooted-worked 4 (lit< tt) k ∙ four k ∙ sym (polynomial-worked (0x01 ∷ 0x1E ∷ 0xD8 ∷ 0xE7 ∷ 0x74 ∷ []) (octets-by (0x01 ∷ 0x1E ∷ 0xD8 ∷ 0xE7 ∷ 0x74 ∷ []) tt) k)))
+    (λ k. octet-same _ _
+    (rooted-worked 4 (lit< tt) k ∙ four k ∙ sym
+    (polynomial-worked (0x01 ∷ 0x1E ∷ 0xD8 ∷ 0xE7 ∷ 0x74 ∷ []) (octets-by (0x01 ∷ 0x1E ∷ 0xD8 ∷ 0xE7 ∷ 0x74 ∷ []) tt) k)))
 
 -- ---- the table
 

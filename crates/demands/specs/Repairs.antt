@@ -43,4 +43,5 @@ pub record Demand3 : Type 0 where
   -- a unit of which at most e octets changed is handed up as sent with the true count
   pub asSent : (n e m : ℕ) (u room sent w before after : List ℕ) (r : Received) → Sends n e u room (sends.Octets m) sent
       → length w ≡ m → distance w (take m sent) ≤ e → m ≤ length before → Receives n e w before r after
-      → (b : Badge) × (r ≡ al1m.Unit (record { badge = b; changed = distance w (take m sent); length = length u })) × (handedUnit b w after (length u) ≡ u) × (isFaulty b ≡ false)
+      → (b : Badge) × (r ≡ al1m.Unit (record { badge = b; changed = distance w (take m sent); length = length u })) × (handedUnit b w after (length u)
+      ≡ u) × (isFaulty b ≡ false)

@@ -60,7 +60,15 @@ module _ {x : DemuxLent} {t : List ℕ} {c : ℕ} {mark : Bool} {l : List Piece}
 
   pub welcome : demultiplexed x t c mark xs ≡ told
   unfolding demultiplexed delivered
-  welcome = rw (le-ltb longestPayload (length xs) (k .short), k .defined, le-ltb (octetsOf (payloadSlots (entryOf t c) (length xs))) (length xs) (k .enough), k .opened, k .pieced) last-welcome
+  welcome =
+      rw (
+        le-ltb longestPayload (length xs) (k .short),
+        k .defined,
+        le-ltb (octetsOf (payloadSlots (entryOf t c) (length xs))) (length xs)
+            (k .enough),
+        k .opened,
+        k .pieced,
+      ) last-welcome
 
 -- ---- what a walk sends
 
@@ -132,7 +140,8 @@ module _ {s : Channels} {w : List ℕ} {r : Channels} {h : List ℕ} {sent got :
         (got ++ unitsIn (written output 0 (result .octets)) (written units 0 (result .units)) (result .count))
     carried-over =
         let o = subst (Sound (x .channels) w sent got) is-carried (carries .sound) in
-        subst (λ (u : List UnitOn). Matched (x .channels) w (result .channels) (result .held) sent (got ++ u)) (sym (tells-read result (o .units) output units (o .tells)))
+        subst (λ (u : List UnitOn). Matched (x .channels) w (result .channels) (result .held) sent (got ++ u))
+        (sym (tells-read result (o .units) output units (o .tells)))
         (o .matched)
 
   pub payload-front : (lent : List ℕ) → room ≤ length lent → take (total (x .pieces)) (written lent 0 octets) ≡ octets

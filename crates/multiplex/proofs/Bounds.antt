@@ -81,7 +81,9 @@ unfolding demux.tookAll
 waits-took [] r xs w = w
 waits-took (q ∷ l) r xs w = waits-took l _ _ (by (channelAt (r .channels) (q .place) .segmentable))
   where
-    by : (b : Bool) → Waits (cond b (demux.joined r (q .place) (take (q .octets) xs)) (demux.finished r (channelAt (r .channels) (q .place) .number) (take (q .octets) xs)) .channels)
+    by : (b : Bool)
+        → Waits (cond b (demux.joined r (q .place) (take (q .octets) xs))
+        (demux.finished r (channelAt (r .channels) (q .place) .number) (take (q .octets) xs)) .channels)
     by true = waits-put (r .channels) (q .place) _ w (w (q .place))
     by false = w
 
@@ -99,7 +101,8 @@ module _ (x : demux.DemuxLent) (t : List ℕ) (c : ℕ) (mark : Bool) (xs : List
   waits-demux : Waits (x .channels) → Waits (demux.demultiplexed x t c mark xs .left .channels)
   unfolding demux.demultiplexed
   waits-demux w =
-      checked-keeps x (demux.demultiplexTests x t c mark xs) (λ (r : demux.DemuxLent). Waits (r .channels)) (leaving (d .count) (demux.writes d (x .output) (x .units))) w
+      checked-keeps x (demux.demultiplexTests x t c mark xs) (λ (r : demux.DemuxLent). Waits (r .channels))
+      (leaving (d .count) (demux.writes d (x .output) (x .units))) w
       λ e. waits-delivery (x .channels) (x .held) mark (placed (x .channels) (payloadSlots (entryOf t c) (length xs))) xs w
 
   refused-demux : (k : ℕ) → demux.demultiplexed x t c mark xs .answer ≡ refused k → demux.demultiplexed x t c mark xs .left ≡ x

@@ -69,7 +69,8 @@ pub record Step (s : Channels) (w : List ℕ) (r : Delivery) (p k : ℕ) (r′ :
   pub count : r′ .count ≤ r .count + 1
   pub alike : seats (r .channels) ≡ seats (r′ .channels)
 
-module _ {s : Channels} {w : List ℕ} {sent base : List UnitOn} {r : Delivery} (o : Sound s w sent base r) (n p : ℕ) (place : placeOf s n ≡ p) (inside : p < placeCount) (k : ℕ) (most : k ≤ waits (channelAt s p)) where
+module _ {s : Channels} {w : List ℕ} {sent base : List UnitOn} {r : Delivery} (o : Sound s w sent base r) (n p : ℕ) (place : placeOf s n ≡ p)
+    (inside : p < placeCount) (k : ℕ) (most : k ≤ waits (channelAt s p)) where
   abbrev x : List ℕ
   x = take k (waitingOf s w p)
 
@@ -83,7 +84,8 @@ module _ {s : Channels} {w : List ℕ} {sent base : List UnitOn} {r : Delivery} 
   step-joined g = record {
     taken = ap (λ (t : Bool). cond t (joined r p x) (finished r (d .number) x)) g;
     size = size;
-    room = ap (λ (t : Bool). not (d .segmentable) || t) (le-leb (d .held + k) placeOctets (omega (arith, o .matched .each p .bounded))) ∙ or-true (not (d .segmentable));
+    room = ap (λ (t : Bool). not (d .segmentable) || t) (le-leb (d .held + k) placeOctets (omega (arith, o .matched .each p .bounded)))
+        ∙ or-true (not (d .segmentable));
     counts = ap (λ (t : Bool). cond t (grown (r .channels) p k) (r .channels)) g ∙ ap (λ (j : ℕ). grown (r .channels) p j) (sym size);
     octets = omega arith;
     count = omega arith;
@@ -108,7 +110,15 @@ module _ {s : Channels} {w : List ℕ} {sent base : List UnitOn} {r : Delivery} 
       let mid = joined r p x .channels in
       let at : channelAt mid p ≡ more = put-there (r .channels) (full-there (o .matched)) p more inside in
       let e : channelAt mid p .held ≡ d .held + length x = ap (λ (c : Channel). c .held) at in
-      omega (arith, length-append (r .octets) (heldOf mid (joined r p x .held) p), length-take (channelAt mid p .held) (drop (placeOctets * p) (joined r p x .held)), e, size, o .matched .each p .bounded)
+      omega (
+        arith,
+        length-append (r .octets) (heldOf mid (joined r p x .held) p),
+        length-take (channelAt mid p .held)
+            (drop (placeOctets * p) (joined r p x .held)),
+        e,
+        size,
+        o .matched .each p .bounded,
+      )
 
 -- ---- a walk
 
@@ -188,7 +198,8 @@ module _ {w : List ℕ} {sent base : List UnitOn} {s : Channels} {r : Delivery} 
 
 -- ---- a slot that is not blocked
 
-module _ {w : List ℕ} {sent base : List UnitOn} {s : Channels} {r : Delivery} (o : Sound s w sent base r) (j p : ℕ) (place : placeOf s j ≡ p) (inside : p < placeCount) (n : ℕ) (free : isBlocked (channelAt s p) n ≡ false) where
+module _ {w : List ℕ} {sent base : List UnitOn} {s : Channels} {r : Delivery} (o : Sound s w sent base r) (j p : ℕ) (place : placeOf s j ≡ p)
+    (inside : p < placeCount) (n : ℕ) (free : isBlocked (channelAt s p) n ≡ false) where
   abbrev c : Channel
   c = channelAt s p
 
@@ -218,10 +229,12 @@ module _ {w : List ℕ} {sent base : List UnitOn} {s : Channels} {r : Delivery} 
       (ih (joined r p (take k (waitingOf s w p))) (sound-joined o j p place inside k l (there true e)))
   going false e f x last ih =
       let l : k ≡ waits c = omega (arith, eqb-true (waits c) n f) in
-      sending-carried p k (finished r (channelAt (r .channels) p .number) (take k (waitingOf s w p))) (step-finished o j p place inside k most (there false e)) x last
+      sending-carried p k (finished r (channelAt (r .channels) p .number) (take k (waitingOf s w p)))
+      (step-finished o j p place inside k most (there false e)) x last
       (ih (finished r (channelAt (r .channels) p .number) (take k (waitingOf s w p))) (sound-finished o j p place inside k l some (there false e)))
 
-  stopping : (g : Bool) → c .segmentable ≡ g → cond g (ltb n (waits c)) (eqb (waits c) n) ≡ false → Carried s w sent base r (ending (pieceAt s p n) (left s p k) g)
+  stopping : (g : Bool) → c .segmentable ≡ g → cond g (ltb n (waits c)) (eqb (waits c) n) ≡ false
+      → Carried s w sent base r (ending (pieceAt s p n) (left s p k) g)
   stopping true e f =
       let l : k ≡ waits c = omega (arith, ltb-false n (waits c) f) in
       closing-carried p k (joined r p (take k (waitingOf s w p))) (step-joined o j p place inside k most (there true e))

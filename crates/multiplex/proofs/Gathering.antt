@@ -65,11 +65,14 @@ module _ (s₀ : Channels) (w : List ℕ) (l₀ : List Piece) (d₀ d : List ℕ
       within = omega (arith, e, first-moves .0, first-moves .1)
 
       pub part-of : take (from s q + q .octets - from s q) (drop (from s q) w) ≡ take (q .octets) (waitingOf s w (q .place))
-      part-of = rw (add-sub-cancel-left (from s q) (q .octets)) (sym (take-take (q .octets) (waits (channelAt s (q .place))) (drop (from s q) w) (first-moves .1)))
+      part-of =
+          rw (add-sub-cancel-left (from s q) (q .octets)) (sym (take-take (q .octets) (waits (channelAt s (q .place))) (drop (from s q) w) (first-moves .1)))
 
       module _ (x : List ℕ) (f : x ≡ take (from s q + q .octets - from s q) (drop (from s q) w)) where
         part-length : length x ≡ q .octets
-        part-length = ap length (f ∙ ap (λ (n : ℕ). take n (drop (from s q) w)) (add-sub-cancel-left (from s q) (q .octets))) ∙ length-take-le (q .octets) (drop (from s q) w) (rw (length-drop (from s q) w) (omega (arith, within)))
+        part-length =
+            ap length (f ∙ ap (λ (n : ℕ). take n (drop (from s q) w)) (add-sub-cancel-left (from s q) (q .octets)))
+            ∙ length-take-le (q .octets) (drop (from s q) w) (rw (length-drop (from s q) w) (omega (arith, within)))
 
         room : at + length x ≤ length d
         room = rw part-length (first-moves .2)

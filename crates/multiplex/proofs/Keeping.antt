@@ -28,7 +28,8 @@ use Rattle.multiplex.specs.Demultiplexer.{Delivery, finished, joined, to
 use Rattle.multiplex.specs.Units.{UnitOn, unitsOn}
 use Rattle.channels.specs.Claims.{Orderly}
 use Rattle.multiplex.specs.Claims.{goingTo}
-use Rattle.channels.proofs.Laws.{Seat, seats, seats-put, seat-at, seats-length, place-number, place-unique, put-there, put-elsewhere, heldAt, held-grown, held-else, orderly-joined, orderly-emptied}
+use Rattle.channels.proofs.Laws.{Seat, seats, seats-put, seat-at, seats-length, place-number, place-unique, put-there, put-elsewhere, heldAt}
+use Rattle.channels.proofs.Laws.{held-grown, held-else, orderly-joined, orderly-emptied}
 use Rattle.multiplex.proofs.Records.{unitOn, Tells, tells-finished, on-this, on-other}
 
 flatten-snoc : (l : List (List ℕ)) (u : List ℕ) → flatten (l ++ u ∷ []) ≡ flatten l ++ u
@@ -71,7 +72,8 @@ module _ {s : Channels} {n : ℕ} {u : List ℕ} {r : Delivery} (o : Holds s n u
 
   number-there : there .number ≡ m
   number-there =
-      ap (λ (z : Seat). z .number) (seat-at (r .channels) s (o .alike) p) ∙ ap (λ (q : ℕ). channelAt s q .number) (sym place) ∙ place-number s full m (rw place inside)
+      ap (λ (z : Seat). z .number) (seat-at (r .channels) s (o .alike) p) ∙ ap (λ (q : ℕ). channelAt s q .number) (sym place)
+      ∙ place-number s full m (rw place inside)
 
   -- another channel has another place
   off : m ≢ n → placeOf s n ≢ p
@@ -134,8 +136,10 @@ module _ {s : Channels} {n : ℕ} {u : List ℕ} {r : Delivery} (o : Holds s n u
         let q : placeOf s n ≡ p = ap (placeOf s) (sym e) ∙ place in
         let none : heldOf (r .channels) (r .held) (placeOf s n) ≡ []
         = ap (heldOf (r .channels) (r .held)) q ∙ ap (λ (j : ℕ). take j (drop (placeOctets * p) (r .held))) (o .orderly .whole p g) in
-        let before : u ≡ flatten (unitsOn n (o .units)) = o .all ∙ ap (λ (v : List ℕ). flatten (unitsOn n (o .units)) ++ v) none ∙ append-nil (flatten (unitsOn n (o .units))) in
-        this-with e ∙ ap (λ (v : List ℕ). v ++ x) before ∙ sym (this-unit x e) ∙ sym (append-nil (flatten (unitsOn n (o .units ++ unitOn (there .number) x ∷ []))))
+        let before : u ≡ flatten (unitsOn n (o .units)) =
+        o .all ∙ ap (λ (v : List ℕ). flatten (unitsOn n (o .units)) ++ v) none ∙ append-nil (flatten (unitsOn n (o .units))) in
+        this-with e ∙ ap (λ (v : List ℕ). v ++ x) before ∙ sym (this-unit x e)
+        ∙ sym (append-nil (flatten (unitsOn n (o .units ++ unitOn (there .number) x ∷ []))))
         ∙ ap (λ (v : List ℕ). flatten (unitsOn n (o .units ++ unitOn (there .number) x ∷ [])) ++ v) (sym none)
     finished-all g (no f) = other-with f ∙ o .all ∙ ap (λ (v : List ℕ). v ++ heldOf (r .channels) (r .held) (placeOf s n)) (sym (other-unit x f))
 
@@ -162,7 +166,8 @@ module _ {s : Channels} {n : ℕ} {u : List ℕ} {r : Delivery} (o : Holds s n u
   held = heldOf (r .channels) (r .held) p
 
   closed-all : Dec (m ≡ n)
-      → u ≡ flatten (unitsOn n (o .units ++ unitOn (there .number) held ∷ [])) ++ heldAt (channelAt (put (r .channels) p (holding there 0)) (placeOf s n)) (r .held) (placeOf s n)
+      → u ≡ flatten (unitsOn n (o .units ++ unitOn (there .number) held ∷ [])) ++ heldAt (channelAt (put (r .channels) p (holding there 0)) (placeOf s n))
+      (r .held) (placeOf s n)
   closed-all (yes e) =
       let q : placeOf s n ≡ p = ap (placeOf s) (sym e) ∙ place in
       let none : heldAt (channelAt (put (r .channels) p (holding there 0)) (placeOf s n)) (r .held) (placeOf s n) ≡ []
@@ -209,7 +214,8 @@ slots-hold {s} {n} (y ∷ l) {u} {r} xs o a f h =
     let same : counted (r .channels) p k ≡ took r p x .channels
     = ap (counted (r .channels) p) (sym size) ∙ either-channels (c .segmentable) (joined r p x) (finished r (c .number) x) in
     let next = took-holds o (y .channel) p refl (ltb-true p placeCount (known .0)) x room in
-    let rest = slots-hold l (drop k xs) next (known .1) (ap (λ (t : Channels). fits t (placed s l)) (sym same) ∙ fitting .1) (rw (length-drop k xs) (omega arith)) in
+    let rest =
+    slots-hold l (drop k xs) next (known .1) (ap (λ (t : Channels). fits t (placed s l)) (sym same) ∙ fitting .1) (rw (length-drop k xs) (omega arith)) in
     subst (λ (v : List ℕ). Holds s n v (tookAll (took r p x) (placed s l) (drop k xs)))
     (append-assoc u (cond (eqb (y .channel) n) x []) (goingTo n (channelsOf l) (drop k xs))
     ∙ ap (λ (v : List ℕ). u ++ v) (sym (going-first n (y .channel) k (channelsOf l) xs (omega arith)))) rest

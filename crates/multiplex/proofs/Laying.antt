@@ -30,7 +30,8 @@ front : (d₀ d s : List ℕ) (n : ℕ) → d ≡ written d₀ 0 s → n ≡ len
 front d₀ d s n e k h =
     (ap length e ∙ written-length d₀ 0 s (omega arith), ap₂ (λ (m : ℕ) (l : List ℕ). take m l) k e ∙ written-front d₀ s h)
 
-pub lays-slotted : (entry : List ℕ) (n : ℕ) → n ≤ longestPayload → (r : Laid) (cs₀ ls₀ cs ls : List ℕ) → length cs₀ ≡ longestPayload → length ls₀ ≡ longestPayload
+pub lays-slotted : (entry : List ℕ) (n : ℕ) → n ≤ longestPayload → (r : Laid) (cs₀ ls₀ cs ls : List ℕ) → length cs₀ ≡ longestPayload → length ls₀
+    ≡ longestPayload
     → Lays (record { count = 0; left = n }) (payloadSlots entry n) r cs₀ ls₀ cs ls → Slotted (payloadSlots entry n) n r cs ls
 lays-slotted entry n h r cs₀ ls₀ cs ls a b lays =
     let l = payloadSlots entry n in

@@ -51,7 +51,8 @@ pub record Matched (s : Channels) (w : List ℕ) (r : Channels) (h : List ℕ) (
 
 -- ---- a change at one place
 
-pub record Change (s : Channels) (w : List ℕ) (r : Channels) (h : List ℕ) (sent got : List UnitOn) (p : ℕ) (c : Channel) (w′ : List ℕ) (r′ : Channels) (h′ : List ℕ) (sent′ got′ : List UnitOn) : Type 0 where
+pub record Change (s : Channels) (w : List ℕ) (r : Channels) (h : List ℕ) (sent got : List UnitOn) (p : ℕ) (c : Channel) (w′ : List ℕ) (r′ : Channels)
+    (h′ : List ℕ) (sent′ got′ : List UnitOn) : Type 0 where
   pub seated : seat c ≡ seat (channelAt s p)
   pub alike : seats r′ ≡ seats r
   pub others : (q : ℕ) → q ≢ p → channelAt r′ q ≡ channelAt r q
@@ -67,7 +68,8 @@ module _ {s : Channels} {w : List ℕ} {r : Channels} {h : List ℕ} {sent got :
   pub full-there : length (r .at) ≡ placeCount
   full-there = sym (seats-length s r (m .alike)) ∙ m .full
 
-  module _ {p : ℕ} {c : Channel} {w′ : List ℕ} {r′ : Channels} {h′ : List ℕ} {sent′ got′ : List UnitOn} (inside : p < placeCount) (x : Change s w r h sent got p c w′ r′ h′ sent′ got′) where
+  module _ {p : ℕ} {c : Channel} {w′ : List ℕ} {r′ : Channels} {h′ : List ℕ} {sent′ got′ : List UnitOn} (inside : p < placeCount)
+      (x : Change s w r h sent got p c w′ r′ h′ sent′ got′) where
     same-place : (n : ℕ) → placeOf (put s p c) n ≡ placeOf s n
     same-place = place-seats (put s p c) s (seats-put s p c (x .seated))
 

@@ -48,7 +48,8 @@ module _ {s : Channels} {w : List ℕ} {r : Channels} {h : List ℕ} {sent got :
   not-there : (k : ℕ) → placeOf s k ≢ p
   unfolding placeOf
   not-there k e =
-      let z : isChannel k (channelAt s p) ≡ true = ap (λ (q : ℕ). isChannel k (channelAt s q)) (sym e) ∙ first-found (isChannel k) vacant (s .at) (rw (m .full, e) inside) in
+      let z : isChannel k (channelAt s p) ≡ true =
+      ap (λ (q : ℕ). isChannel k (channelAt s q)) (sym e) ∙ first-found (isChannel k) vacant (s .at) (rw (m .full, e) inside) in
       let f : false ≡ true = rw is-free at z in
       never (cc)
 
@@ -63,9 +64,11 @@ module _ {s : Channels} {w : List ℕ} {r : Channels} {h : List ℕ} {sent got :
 
   logs : (k : ℕ) → Dec (n ≡ k)
       → unitsOn k sent
-      ≡ unitsOn k got ++ way (channelAt (put s p (fresh n g)) (placeOf (put s p (fresh n g)) k)) w (channelAt (put r p (fresh n g)) (placeOf (put s p (fresh n g)) k)) h (placeOf (put s p (fresh n g)) k)
+      ≡ unitsOn k got ++ way (channelAt (put s p (fresh n g)) (placeOf (put s p (fresh n g)) k)) w
+      (channelAt (put r p (fresh n g)) (placeOf (put s p (fresh n g)) k)) h (placeOf (put s p (fresh n g)) k)
   logs k (yes e) = rw (← e, place-new, put-there s (m .full) p (fresh n g) inside) log-new
-  logs k (no f) = rw (place-old k f, put-elsewhere s p (placeOf s k) (fresh n g) (not-there k), put-elsewhere r p (placeOf s k) (fresh n g) (not-there k)) (m .log k)
+  logs k (no f) =
+      rw (place-old k f, put-elsewhere s p (placeOf s k) (fresh n g) (not-there k), put-elsewhere r p (placeOf s k) (fresh n g) (not-there k)) (m .log k)
 
   pub opened-matched : Matched (put s p (fresh n g)) w (put r p (fresh n g)) h sent got
   opened-matched = record {

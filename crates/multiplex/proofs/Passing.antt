@@ -33,7 +33,8 @@ use Rattle.multiplex.specs.Demultiplexer.{Delivery, finished, joined, cl
 use Rattle.multiplex.specs.Multiplexer.{left}
 use Rattle.multiplex.specs.Units.{UnitOn, unitsOn}
 use Rattle.channels.specs.Claims.{Orderly}
-use Rattle.channels.proofs.Laws.{seats, Seat, seats-put, seat-at, place-number, place-unique, put-there, put-elsewhere, heldAt, filled-room, held-grown, held-else}
+use Rattle.channels.proofs.Laws.{seats, Seat, seats-put, seat-at, place-number, place-unique, put-there, put-elsewhere, heldAt, filled-room}
+use Rattle.channels.proofs.Laws.{held-grown, held-else}
 use Rattle.octets.specs.Parts.{part-next}
 use Rattle.multiplex.proofs.Records.{unitOn, Tells, tells-finished, on-this, on-other}
 use Rattle.multiplex.proofs.Matching.{waitingAt, way, Twin, Matched, full-there, changed}
@@ -46,7 +47,8 @@ orderly m = record {
   whole = λ p. m .each p .whole;
 }
 
-module _ {s : Channels} {w : List ℕ} {r : Channels} {h : List ℕ} {sent got : List UnitOn} (m : Matched s w r h sent got) (n p : ℕ) (place : placeOf s n ≡ p) (inside : p < placeCount) where
+module _ {s : Channels} {w : List ℕ} {r : Channels} {h : List ℕ} {sent got : List UnitOn} (m : Matched s w r h sent got) (n p : ℕ) (place : placeOf s n ≡ p)
+    (inside : p < placeCount) where
   abbrev here : Channel
   here = channelAt s p
 
@@ -102,7 +104,8 @@ module _ {s : Channels} {w : List ℕ} {r : Channels} {h : List ℕ} {sent got :
     module _ (less : k < waits here) where
       same-unit : heldAt more filled p ++ waitingAt (waiting here (waits here - k)) w p ≡ heldAt there h p ++ waitingAt here w p
       same-unit =
-          ap₂ (λ (a b : List ℕ). a ++ b) (held-grown (orderly m) inside x fitting) waiting-left ∙ append-assoc (heldAt there h p) x (drop k (waitingAt here w p))
+          ap₂ (λ (a b : List ℕ). a ++ b) (held-grown (orderly m) inside x fitting) waiting-left
+          ∙ append-assoc (heldAt there h p) x (drop k (waitingAt here w p))
           ∙ ap (λ (a : List ℕ). heldAt there h p ++ a) (take-append-drop k (waitingAt here w p))
 
       same-way : way here w there h p ≡ way (waiting here (waits here - k)) w more filled p
@@ -182,7 +185,8 @@ pub record Sound (s : Channels) (w : List ℕ) (sent base : List UnitOn) (r : De
   pub tells : Tells r units
   pub matched : Matched s w (r .channels) (r .held) sent (base ++ units)
 
-module _ {s : Channels} {w : List ℕ} {sent base : List UnitOn} {r : Delivery} (o : Sound s w sent base r) (n p : ℕ) (place : placeOf s n ≡ p) (inside : p < placeCount) (k : ℕ) where
+module _ {s : Channels} {w : List ℕ} {sent base : List UnitOn} {r : Delivery} (o : Sound s w sent base r) (n p : ℕ) (place : placeOf s n ≡ p)
+    (inside : p < placeCount) (k : ℕ) where
   abbrev piece : List ℕ
   piece = take k (waitingOf s w p)
 
@@ -229,7 +233,8 @@ module _ {s : Channels} {w : List ℕ} {sent base : List UnitOn} {r : Delivery} 
         units = o .units ++ unitOn (channelAt mid p .number) (heldAt (channelAt mid p) held p) ∷ [];
         tells = record { octets = again .octets; units = again .units; count = again .count };
         matched = subst (λ (u : List UnitOn). Matched (left s p k) w (closed (joined r p piece) p .channels) held sent u)
-            (ap₂ (λ (j : ℕ) (u : List ℕ). base ++ o .units ++ unitOn j u ∷ []) number′ unit ∙ append-assoc base (o .units) (unitOn (channelAt mid p .number) (heldAt (channelAt mid p) held p) ∷ []))
+            (ap₂ (λ (j : ℕ) (u : List ℕ). base ++ o .units ++ unitOn j u ∷ []) number′ unit
+            ∙ append-assoc base (o .units) (unitOn (channelAt mid p .number) (heldAt (channelAt mid p) held p) ∷ []))
             (ended-matched (o .matched) n p place inside k e some (closed (joined r p piece) p .channels) held
             (seats-put mid p (holding (channelAt mid p) 0) refl ∙ seats-put (r .channels) p more refl)
             (λ q f. put-elsewhere mid p q (holding (channelAt mid p) 0) f ∙ put-elsewhere (r .channels) p q more f)

@@ -29,7 +29,8 @@ use Rattle.multiplex.specs.Demultiplexer.{DemuxLent, demultiplexed}
 use Rattle.multiplex.specs.Multiplexer.{MuxLent, Payload, Walk, walked, gathered, multiplexTests, multiplexed}
 use Rattle.multiplex.specs.Units.{UnitOn, unitsOn, enoughOutput, enoughUnits}
 use Rattle.multiplex.specs.Calls.{with, done, finished, made, telling, calledBy}
-use Rattle.multiplex.specs.Runs.{withoutLast, World, begin, Event, bothOpen, bothReplace, post, pay, afterPost, afterPayload, afterMaking, step, run, isWaiting, Delivers, Demand2}
+use Rattle.multiplex.specs.Runs.{withoutLast, World, begin, Event, bothOpen, bothReplace, post, pay, afterPost, afterPayload, afterMaking, step}
+use Rattle.multiplex.specs.Runs.{run, isWaiting, Delivers, Demand2}
 use Rattle.channels.proofs.Laws.{free-seats, place-seats}
 use Rattle.multiplex.proofs.Matching.{Matched, posted-matched}
 use Rattle.multiplex.proofs.Opening.{opened-matched, start-matched}
@@ -72,13 +73,15 @@ module _ (x : World) (k : Kept x) (n : ℕ) (u : List ℕ) where
   abbrev Posted : Ended (Unit {0}) Post → Type 0
   Posted r =
       Kept (afterPost x unit
-      (ended (telling (r .answer) (λ t. done)) (record { channels = r .left .channels; held = x .sender .held; waiting = r .left .octets; table = x .sender .table })))
+      (ended (telling (r .answer) (λ t. done))
+      (record { channels = r .left .channels; held = x .sender .held; waiting = r .left .octets; table = x .sender .table })))
 
   same-kept : (i : ℕ) → Posted (refusing (record { channels = s; octets = x .sender .waiting }) i)
   same-kept i = record {
     tables = k .tables;
     unrefused = k .unrefused;
-    matched = subst (λ (l : List UnitOn). Matched s (x .sender .waiting) (x .receiver .channels) (x .receiver .held) l (x .delivered)) (sym (append-nil (x .posted))) (k .matched);
+    matched = subst (λ (l : List UnitOn). Matched s (x .sender .waiting) (x .receiver .channels) (x .receiver .held) l (x .delivered))
+        (sym (append-nil (x .posted))) (k .matched);
   }
 
   pub posting-kept : Posted (posted s (x .sender .waiting) n u)
@@ -99,7 +102,8 @@ module _ (x : World) (k : Kept x) (n : ℕ) (u : List ℕ) where
 
 -- ---- paying
 
-module _ (x : World) (k : Kept x) (c room : ℕ) (payload output units : List ℕ) (roomy : enoughOutput ≤ length output) (listed : enoughUnits ≤ length units) where
+module _ (x : World) (k : Kept x) (c room : ℕ) (payload output units : List ℕ) (roomy : enoughOutput ≤ length output)
+    (listed : enoughUnits ≤ length units) where
   abbrev t : List ℕ
   t = x .sender .table
 
@@ -130,8 +134,11 @@ module _ (x : World) (k : Kept x) (c room : ℕ) (payload output units : List �
   made-kept : isDefined t c ≡ true → room ≤ longestPayload → room ≤ length payload → walk .allOpen ≡ true
       → Got (demultiplexed here (x .receiver .table) c (walk .mark) (take (total (walk .pieces)) (written payload 0 octets)))
   made-kept defined small enough known =
-      let called : demultiplexed here (x .receiver .table) c (walk .mark) (take (total (walk .pieces)) (written payload 0 octets)) ≡ demultiplexed here t c (walk .mark) octets
-      = ap₂ (λ (a b : List ℕ). demultiplexed here a c (walk .mark) b) (sym (k .tables)) (payload-front (k .matched) t c room defined small known payload enough) in
+      let called : demultiplexed here (x .receiver .table) c (walk .mark) (take (total (walk .pieces)) (written payload 0 octets)) ≡ demultiplexed here t c
+      (walk .mark) octets
+      =
+      ap₂ (λ (a b : List ℕ). demultiplexed here a c (walk .mark) b) (sym (k .tables))
+      (payload-front (k .matched) t c room defined small known payload enough) in
       subst Got (sym (called ∙ accepted (k .matched) t c room defined small known output units roomy listed))
       (record {
         tables = k .tables;

@@ -142,7 +142,8 @@ module _ (n : ℕ) (ns₀ ls₀ : List ℕ) (s₀ : Channels) (ns ls : List ℕ)
         }
 
         pub last : Last k ≡ turned (channelAt s p) (getD ls j 0)
-            → WalkIs (walked s₀ all) (record { count = j + 1; octets = octets + k; mark = channelAt s p .segmentable; all_open = true; channels = left s p k }) (set ns j p) (set ls j k)
+            → WalkIs (walked s₀ all) (record { count = j + 1; octets = octets + k; mark = channelAt s p .segmentable; all_open = true; channels = left s p k })
+            (set ns j p) (set ls j k)
         last f =
             let whole = w .walk ∙ ap (before so-far) (turned-at (Last k) f) in
             let pieces = more ∙ sym (ap (λ (r : Walk). r .pieces) whole) in

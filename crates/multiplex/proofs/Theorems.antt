@@ -87,7 +87,8 @@ is-accepted x y t c mark xs k =
     same-told : (a b : ℕ) → _≡_ {A = Told ℕ} (told a) (told b) → a ≡ b
     same-told a b e = cc
 
-module _ (x y : DemuxLent) (mark : Bool) (l : List Slot) (xs : List ℕ) (k n : ℕ) (o : Orderly (x .channels) (x .held)) (most : octetsOf l ≤ length xs) (a : Accepted x y mark l xs k) where
+module _ (x y : DemuxLent) (mark : Bool) (l : List Slot) (xs : List ℕ) (k n : ℕ) (o : Orderly (x .channels) (x .held)) (most : octetsOf l ≤ length xs)
+    (a : Accepted x y mark l xs k) where
   abbrev s : Channels
   s = x .channels
 
@@ -128,7 +129,8 @@ octets-once x y t c mark xs k n o e =
     h .all
     ∙ ap₂ (λ (u : List UnitOn) (p : ℕ). flatten (unitsOn n u) ++ heldOf (d .channels) (d .held) p)
     (sym (tells-read d (h .units) (x .output) (x .units) (h .tells))) (sym (place-seats (d .channels) (x .channels) (h .alike) n))
-    ∙ ap₂ (λ (z : DemuxLent) (j : ℕ). flatten (unitsOn n (unitsIn (z .output) (z .units) j)) ++ heldOf (z .channels) (z .held) (placeOf (z .channels) n)) (a .left) (a .count)
+    ∙ ap₂ (λ (z : DemuxLent) (j : ℕ). flatten (unitsOn n (unitsIn (z .output) (z .units) j)) ++ heldOf (z .channels) (z .held) (placeOf (z .channels) n))
+    (a .left) (a .count)
 
 pub order-kept : OrderKept
 order-kept x y t c mark xs k o e =

@@ -31,7 +31,9 @@ pub multiplexed-once : (x : MuxLent) (w t : List ℕ) (c room : ℕ) (a b : Mult
     → (a ≡ b) × (d ≡ e)
 unfolding madeBack
 multiplexed-once x w t c room a b d e p q =
-    let f = both-once madeSays madeBack back (a .made) (b .made) (record { channels = a .channels; payload = d }) (record { channels = b .channels; payload = e }) (multiplexed x w t c room) p q in
+    let f =
+    both-once madeSays madeBack back (a .made) (b .made) (record { channels = a .channels; payload = d }) (record { channels = b .channels; payload = e })
+    (multiplexed x w t c room) p q in
     (ap₂ (λ (r : Made) (y : MuxLent). record { made = r; channels = y .channels }) (f .0) (f .1), ap (λ (y : MuxLent). y .payload) (f .1))
   where
     back : (r : Made) → madeBack (madeSays r) ≡ r

@@ -129,7 +129,8 @@ module _ (s : Channels) (p n : ℕ) (rest : Channels → Walk) where
 
 -- whether a slot's channel is open
 by-place : (P : Walk → Type 0) (s : Channels) (x : Slot) (l : List Slot) → P (stopped s false)
-    → (placeOf s (x .channel) < placeCount → P (byTurn s (placeOf s (x .channel)) (λ r. walked r l) (turned (channelAt s (placeOf s (x .channel))) (x .octets))))
+    → (placeOf s (x .channel) < placeCount → P
+    (byTurn s (placeOf s (x .channel)) (λ r. walked r l) (turned (channelAt s (placeOf s (x .channel))) (x .octets))))
     → P (walked s (x ∷ l))
 by-place P s x l closed is = by (isIn s (x .channel)) refl
   where
@@ -146,7 +147,8 @@ walked-sendable s [] = tt
 walked-sendable s (x ∷ l) =
     let p = placeOf s (x .channel) in
     by-place (λ w. Sendable s (w .pieces)) s x l tt (λ h.
-    turn-sendable s p (x .octets) (λ r. walked r l) (turned (channelAt s p) (x .octets)) h (turned-most (channelAt s p) (x .octets) .0) (λ k. walked-sendable (left s p k) l))
+    turn-sendable s p (x .octets) (λ r. walked r l) (turned (channelAt s p) (x .octets)) h (turned-most (channelAt s p) (x .octets) .0)
+    (λ k. walked-sendable (left s p k) l))
 
 pub walked-most : (s : Channels) (l : List Slot) → total (walked s l .pieces) ≤ octetsOf l
 unfolding walked total octetsOf
@@ -154,4 +156,5 @@ walked-most s [] = omega arith
 walked-most s (x ∷ l) =
     let p = placeOf s (x .channel) in
     by-place (λ w. total (w .pieces) ≤ x .octets + octetsOf l) s x l (omega arith) (λ h.
-    turn-most s p (x .octets) (λ r. walked r l) (turned (channelAt s p) (x .octets)) (octetsOf l) (turned-most (channelAt s p) (x .octets) .1) (λ k. walked-most (left s p k) l))
+    turn-most s p (x .octets) (λ r. walked r l) (turned (channelAt s p) (x .octets)) (octetsOf l) (turned-most (channelAt s p) (x .octets) .1)
+    (λ k. walked-most (left s p k) l))

@@ -31,7 +31,8 @@ use Rattle.channels.specs.declared.Channels.{Channels}
 use Rattle.channels.specs.Channels.{allOctets, placeOf, channelAt}
 use Rattle.multiplex.specs.Demultiplexer.{demultiplexed}
 use Rattle.multiplex.specs.Units.{UnitOn, unitsOn, unitsIn, enoughOutput, enoughUnits}
-use Rattle.multiplex.specs.Calls.{Link, Call, opening, replacing, posting, multiplexing, demultiplexing, Answer, done, finished, made, sent, taken, Demultiplexer, calledBy, called, begun}
+use Rattle.multiplex.specs.Calls.{Link, Call, opening, replacing, posting, multiplexing, demultiplexing, Answer, done, finished, made, sent}
+use Rattle.multiplex.specs.Calls.{taken, Demultiplexer, calledBy, called, begun}
 
 unfoldable pub withoutLast : List (List ℕ) → List (List ℕ)
 withoutLast [] = []

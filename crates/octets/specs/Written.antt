@@ -85,7 +85,8 @@ module _ {A : Type 0} where
     written-append t =
         ap₂ (λ (x y : List A). x ++ t ++ y) (take-at (take at d ++ s) (drop (at + length s) d) (at + length s) both-length)
         (sym (drop-drop (length t) (at + length s) (written d at s)) ∙ ap (drop (length t)) written-behind ∙ drop-drop (length t) (at + length s) d)
-        ∙ ap₂ (λ (x : List A) (n : ℕ). x ++ drop n d) (append-assoc (take at d) s t) (add-assoc at (length s) (length t) ∙ ap (λ (n : ℕ). at + n) (sym (length-append s t)))
+        ∙ ap₂ (λ (x : List A) (n : ℕ). x ++ drop n d) (append-assoc (take at d) s t)
+        (add-assoc at (length s) (length t) ∙ ap (λ (n : ℕ). at + n) (sym (length-append s t)))
 
   pub written-front : (d s : List A) → length s ≤ length d → take (length s) (written d 0 s) ≡ s
   written-front d s fits = written-part d 0 s (omega arith)

@@ -165,7 +165,8 @@ channels-cut n [] = sym (take-nothing n)
 channels-cut n (x ∷ l) =
     by-octets (λ (n : ℕ). channelsOf (cut n (x ∷ l)) ≡ take n (channelsOf (x ∷ l))) n refl (λ h.
     rw (ne-eqb n 0 h, channels-cut (n - x .octets) l)
-    (sym (take-both n (copies (x .octets) (x .channel ∷ [])) (channelsOf l) ∙ ap₂ (λ (a : List ℕ) (m : ℕ). a ++ take (n - m) (channelsOf l)) (take-copies n (x .octets) (x .channel)) (copies-length (x .octets) (x .channel)))))
+    (sym (take-both n (copies (x .octets) (x .channel ∷ [])) (channelsOf l)
+    ∙ ap₂ (λ (a : List ℕ) (m : ℕ). a ++ take (n - m) (channelsOf l)) (take-copies n (x .octets) (x .channel)) (copies-length (x .octets) (x .channel)))))
 
 -- ---- the slots of entries
 
@@ -195,7 +196,8 @@ either-filled false k l p q = q
 with-filled : (inner : List Slot) (s : List ℕ) (at : ℕ) → Filled inner → Filled (slotsWith inner s at)
 unfolding Filled
 with-filled inner s at p =
-    either-filled (eqb (getD s (at + 1) 0) 0) (record { channel = getD s (at + 2) 0; octets = passes (getD s at 0) } ∷ []) (copies (passes (getD s at 0)) inner) (passes-most (getD s at 0), tt) (copies-filled (passes (getD s at 0)) inner p)
+    either-filled (eqb (getD s (at + 1) 0) 0) (record { channel = getD s (at + 2) 0; octets = passes (getD s at 0) } ∷ []) (copies (passes (getD s at 0)) inner)
+    (passes-most (getD s at 0), tt) (copies-filled (passes (getD s at 0)) inner p)
 
 pub element-filled : (s : List ℕ) (depth at : ℕ) → Filled (elementSlots s depth at)
 unfolding elementSlots Filled

@@ -64,7 +64,8 @@ pub defined-put : (t : List ℕ) (c : ℕ) → c ≤ highestCode → (c ≡ 0 �
 unfolding isDefined
 defined-put t c h z =
     let k = longestEntry * (c - 1) in
-    let e : getD (take longestEntry (drop k t)) 0 0 ≡ getD t k 0 = getD-take longestEntry (drop k t) 0 0 (omega arith) ∙ getD-drop k t 0 0 ∙ ap (λ (n : ℕ). getD t n 0) (add-zero k) in
+    let e : getD (take longestEntry (drop k t)) 0 0 ≡ getD t k 0 =
+    getD-take longestEntry (drop k t) 0 0 (omega arith) ∙ getD-drop k t 0 0 ∙ ap (λ (n : ℕ). getD t n 0) (add-zero k) in
     rw (le-leb _ _ h, entry-put t c z, e)
 
 pub entry-short : (s : List ℕ) → isEntry s ≡ true → length s ≤ longestEntry

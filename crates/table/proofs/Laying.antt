@@ -68,7 +68,8 @@ same-cut (suc n) x y p h e =
     let z = empty-filled x p (omega (arith, cut-octets (suc n) x)) in
     rw (h z, append-nil)
 
-module _ (from mid : Laid) (x : List Slot) (c l c₁ l₁ : List ℕ) (full : Filled x) (room : Room from c l) (first : Lays from (cut (from .left) x) mid c l c₁ l₁) where
+module _ (from mid : Laid) (x : List Slot) (c l c₁ l₁ : List ℕ) (full : Filled x) (room : Room from c l)
+    (first : Lays from (cut (from .left) x) mid c l c₁ l₁) where
   fits : (f : Slot → ℕ) (d : List ℕ) → from .count + from .left ≤ length d → from .count + length (map f (cut (from .left) x)) ≤ length d
   fits f d h = omega (arith, length-map (cut (from .left) x) f, cut-fits (from .left) x full)
 
@@ -76,10 +77,14 @@ module _ (from mid : Laid) (x : List Slot) (c l c₁ l₁ : List ℕ) (full : Fi
   fewer = omega (arith, first .count, first .left, filled-length (cut (from .left) x) (cut-filled (from .left) x full), cut-most (from .left) x)
 
   pub kept-channels : length c₁ ≡ length c
-  kept-channels = ap length (first .channels) ∙ written-length c (from .count) (map (λ (x : Slot). x .channel) (cut (from .left) x)) (fits (λ (x : Slot). x .channel) c (room .forChannels))
+  kept-channels =
+      ap length (first .channels) ∙ written-length c (from .count) (map (λ (x : Slot). x .channel) (cut (from .left) x))
+      (fits (λ (x : Slot). x .channel) c (room .forChannels))
 
   pub kept-lengths : length l₁ ≡ length l
-  kept-lengths = ap length (first .lengths) ∙ written-length l (from .count) (map (λ (x : Slot). x .octets) (cut (from .left) x)) (fits (λ (x : Slot). x .octets) l (room .forLengths))
+  kept-lengths =
+      ap length (first .lengths) ∙ written-length l (from .count) (map (λ (x : Slot). x .octets) (cut (from .left) x))
+      (fits (λ (x : Slot). x .octets) l (room .forLengths))
 
   pub room-after : Room mid c₁ l₁
   room-after = record {
@@ -97,7 +102,8 @@ module _ (from mid : Laid) (x : List Slot) (c l c₁ l₁ : List ℕ) (full : Fi
       q ∙ ap₂ (λ (u : List ℕ) (n : ℕ). written u n (map f b)) p e ∙ written-append d (from .count) (map f a) (fits f d h) (map f b)
       ∙ ap (written d (from .count)) (sym (map-append f a b))
 
-  pub lays-both : (to : Laid) (y : List Slot) (c₂ l₂ : List ℕ) → Lays mid (cut (mid .left) y) to c₁ l₁ c₂ l₂ → Lays from (cut (from .left) (x ++ y)) to c l c₂ l₂
+  pub lays-both : (to : Laid) (y : List Slot) (c₂ l₂ : List ℕ) → Lays mid (cut (mid .left) y) to c₁ l₁ c₂ l₂
+      → Lays from (cut (from .left) (x ++ y)) to c l c₂ l₂
   lays-both to y c₂ l₂ second =
       let a = cut (from .left) x in
       let b = cut (mid .left) y in

@@ -122,7 +122,8 @@ many-bad one (suc n) at left z e = rw e
 
 module _ (s : List ℕ) where
   -- the numbers of an element that is no channel
-  by-head : (at left least : ℕ) → (getD s (at + 1) 0 ≡ 0 → ⊥) → (P : Head → Type 0) → P Malformed → P (Inner (getD s (at + 1) 0) (at + 2) (left - 1)) → P (headAt s at left least)
+  by-head : (at left least : ℕ) → (getD s (at + 1) 0 ≡ 0 → ⊥) → (P : Head → Type 0) → P Malformed → P (Inner (getD s (at + 1) 0) (at + 2) (left - 1))
+      → P (headAt s at left least)
   unfolding headAt
   by-head at left least e P p q =
       rw (ne-eqb _ _ e)
@@ -142,7 +143,8 @@ module _ (s : List ℕ) where
       let z = no-channel (suc d) at e in
       let n = getD s (at + 1) 0 in
       let u = sym (rw (sub-one (suc d)) at (element-inner s at (suc d) z (λ k. omega arith))) ∙ e in
-      let v = append-eq-nil-iff .0 (sym (copies-more (passes (getD s at 0)) (listSlots s d n (at + 2)) (λ k. omega (arith, passes-most (getD s at 0)))) ∙ u) .0 in
+      let v =
+      append-eq-nil-iff .0 (sym (copies-more (passes (getD s at 0)) (listSlots s d n (at + 2)) (λ k. omega (arith, passes-most (getD s at 0)))) ∙ u) .0 in
       append-eq-nil-iff .0 (sym (list-more s d n (at + 2) z) ∙ v) .0
 
   empty-bad : (d at left least : ℕ) → elementSlots s d at ≡ [] → elementAt s d at left least ≡ Bad
@@ -150,7 +152,8 @@ module _ (s : List ℕ) where
   empty-bad zero at left least e = by-head at left least (no-channel zero at e) (λ (h : Head). onHead (λ n a l. Bad) h ≡ Bad) refl refl
   empty-bad (suc d) at left least e =
       by-head at left least (no-channel (suc d) at e) (λ (h : Head). onHead (many (λ a l. elementAt s d a l 1)) h ≡ Bad) refl
-      (many-bad (λ a l. elementAt s d a l 1) (getD s (at + 1) 0) (at + 2) (left - 1) (no-channel (suc d) at e) (empty-bad d (at + 2) (left - 1) 1 (first-empty d at e)))
+      (many-bad (λ a l. elementAt s d a l 1) (getD s (at + 1) 0) (at + 2) (left - 1) (no-channel (suc d) at e)
+      (empty-bad d (at + 2) (left - 1) 1 (first-empty d at e)))
 
   empty-stays : (d at : ℕ) → elementSlots s d at ≡ [] → skip s d at ≡ at
   unfolding skip

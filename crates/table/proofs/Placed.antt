@@ -30,11 +30,13 @@ module _ (t s : List ℕ) (c : ℕ) (size : length t ≡ tableNumbers) (some : 1
   withEntry-front =
       let u = entryOf (withEntry t c s) c in
       let e : take (length s) u ≡ s =
-      ap (take (length s)) (entry-put (withEntry t c s) c (λ z. omega arith)) ∙ take-take (length s) longestEntry (drop (longestEntry * (c - 1)) (withEntry t c s)) short
+      ap (take (length s)) (entry-put (withEntry t c s) c (λ z. omega arith))
+      ∙ take-take (length s) longestEntry (drop (longestEntry * (c - 1)) (withEntry t c s)) short
       ∙ written-part t (longestEntry * (c - 1)) s fits in
       sym (take-append-drop (length s) u) ∙ ap (λ (v : List ℕ). v ++ drop (length s) u) e
 
-  apart : (d i : ℕ) → (suc d ≡ c → ⊥) → i < longestEntry → (longestEntry * d + i < longestEntry * (c - 1)) ⊎ (longestEntry * (c - 1) + length s ≤ longestEntry * d + i)
+  apart : (d i : ℕ) → (suc d ≡ c → ⊥) → i < longestEntry
+      → (longestEntry * d + i < longestEntry * (c - 1)) ⊎ (longestEntry * (c - 1) + length s ≤ longestEntry * d + i)
   apart d i n h = go (decLe (suc d) c)
     where
       go : Dec (suc d ≤ c) → (longestEntry * d + i < longestEntry * (c - 1)) ⊎ (longestEntry * (c - 1) + length s ≤ longestEntry * d + i)
@@ -55,7 +57,8 @@ module _ (t s : List ℕ) (c : ℕ) (size : length t ≡ tableNumbers) (some : 1
       same-length : length (take longestEntry (drop k (withEntry t c s))) ≡ length (take longestEntry (drop k t))
       same-length = simp (length-take, length-drop) (omega (arith, kept))
 
-      each : (i : ℕ) → i < length (take longestEntry (drop k (withEntry t c s))) → getD (take longestEntry (drop k (withEntry t c s))) i 0 ≡ getD (take longestEntry (drop k t)) i 0
+      each : (i : ℕ) → i < length (take longestEntry (drop k (withEntry t c s))) → getD (take longestEntry (drop k (withEntry t c s))) i 0
+          ≡ getD (take longestEntry (drop k t)) i 0
       each i h =
           let l : i < longestEntry = omega (arith, length-take longestEntry (drop k (withEntry t c s))) in
           getD-take longestEntry (drop k (withEntry t c s)) i 0 l ∙ getD-drop k (withEntry t c s) i 0

@@ -52,7 +52,13 @@ head-is s at left least =
     by-test P (ltb (length s - 3) at) _ _ (λ e. is-malformed) (λ b.
     by-test P (eqb left 0) _ _ (λ e. is-malformed) (λ c.
     by-test P (ltb (getD s at 0) least) _ _ (λ e. is-malformed) (λ d.
-    let sound : GoodNumbers s at left least = record { inside = omega (arith, ltb-false (length s) 3 a, ltb-false (length s - 3) at b); budget = omega (arith, eqb-false left 0 c); often = ltb-false (getD s at 0) least d } in
+    let sound : GoodNumbers s at left least =
+    record {
+      inside = omega (arith, ltb-false (length s) 3 a, ltb-false (length s - 3) at b);
+      budget = omega (arith, eqb-false left 0 c);
+      often = ltb-false
+          (getD s at 0) least d;
+    } in
     by-test P (eqb k 0) _ _ (λ e. is-channel sound (eqb-true _ _ e)) (λ e.
     by-test P (eqb k 1) _ _ (λ e. is-malformed) (λ f.
     is-inner sound (omega (arith, eqb-false k 0 e, eqb-false k 1 f))))))))
@@ -65,7 +71,8 @@ head-channel s at left least p e =
     let some : left ≡ 0 → ⊥ = λ z. omega (arith, p .budget) in
     rw (le-ltb _ _ short, le-ltb _ _ in₀, ne-eqb _ _ some, le-ltb _ _ (p .often), eq-eqb _ _ e)
 
-head-inner : (s : List ℕ) (at left least : ℕ) → GoodNumbers s at left least → 2 ≤ getD s (at + 1) 0 → headAt s at left least ≡ Inner (getD s (at + 1) 0) (at + 2) (left - 1)
+head-inner : (s : List ℕ) (at left least : ℕ) → GoodNumbers s at left least → 2 ≤ getD s (at + 1) 0 → headAt s at left least
+    ≡ Inner (getD s (at + 1) 0) (at + 2) (left - 1)
 unfolding headAt
 head-inner s at left least p h =
     let short : 3 ≤ length s = omega (arith, p .inside) in
@@ -108,7 +115,8 @@ module _ (s u : List ℕ) (alike : Alike s u) where
     many-alike (suc n) at left a l e = go (λ x y. many-alike n x y a l) (one at left 1) refl e
       where
         go : ((x y : ℕ) → many (λ p b. one p b 1) n x y ≡ Next a l → Again (λ b low. many (λ p c. other p c 1) n x b) y 1 a l)
-            → (r : Read) → one at left 1 ≡ r → andThen r (many (λ p b. one p b 1) n) ≡ Next a l → Again (λ b low. many (λ p c. other p c 1) (suc n) at b) left 1 a l
+            → (r : Read) → one at left 1 ≡ r → andThen r (many (λ p b. one p b 1) n) ≡ Next a l
+            → Again (λ b low. many (λ p c. other p c 1) (suc n) at b) left 1 a l
         go rest Bad p q = never (cc)
         go rest (Next x y) p q =
             let f = each at left x y p in
@@ -171,7 +179,8 @@ with-alike s u alike v w at h e =
 
 module _ (s u : List ℕ) (alike : Alike s u) where
   -- elements that are read one behind another, and k behind them that have the same slots
-  module _ (d : ℕ) (each : (at left least a l : ℕ) → left ≤ mostElements → elementAt s d at left least ≡ Next a l → elementSlots u d at ≡ elementSlots s d at) where
+  module _ (d : ℕ)
+      (each : (at left least a l : ℕ) → left ≤ mostElements → elementAt s d at left least ≡ Next a l → elementSlots u d at ≡ elementSlots s d at) where
     turns-alike : (n k at left a l : ℕ) → left ≤ mostElements → many (λ p b. elementAt s d p b 1) n at left ≡ Next a l
         → inTurn (elementSlots u d) (skip u d) k a ≡ inTurn (elementSlots s d) (skip s d) k a
         → inTurn (elementSlots u d) (skip u d) (n + k) at ≡ inTurn (elementSlots s d) (skip s d) (n + k) at
@@ -202,7 +211,8 @@ module _ (s u : List ℕ) (alike : Alike s u) where
   slots-alike (suc d) at left least a l h e = go (slots-alike d) (headAt s at left least) (head-is s at left least) e
     where
       go : ((at left least a l : ℕ) → left ≤ mostElements → elementAt s d at left least ≡ Next a l → elementSlots u d at ≡ elementSlots s d at)
-          → (o : Head) → HeadIs s at left least o → onHead (many (λ a l. elementAt s d a l 1)) o ≡ Next a l → elementSlots u (suc d) at ≡ elementSlots s (suc d) at
+          → (o : Head) → HeadIs s at left least o → onHead (many (λ a l. elementAt s d a l 1)) o ≡ Next a l
+          → elementSlots u (suc d) at ≡ elementSlots s (suc d) at
       go each Malformed is-malformed q = never (cc)
       go each (Channel b c) (is-channel p k) q = with-alike s u alike _ _ at (p .inside) (rw (second-alike s u alike at left least p, k))
       go each (Inner n b c) (is-inner p k) q =

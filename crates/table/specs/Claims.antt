@@ -26,7 +26,8 @@ use Rattle.table.specs.Lays.{Lays}
 
 abbrev pub ReplacedUnique : Type 0
 ReplacedUnique =
-    (t s after left : List ℕ) (c : ℕ) (r q : Outcome) → ended (outcomeSays r) after ≡ replaced t c s → ended (outcomeSays q) left ≡ replaced t c s → (r ≡ q) × (after ≡ left)
+    (t s after left : List ℕ) (c : ℕ) (r q : Outcome) → ended (outcomeSays r) after ≡ replaced t c s → ended (outcomeSays q) left ≡ replaced t c s
+    → (r ≡ q) × (after ≡ left)
 
 abbrev pub LaidUnique : Type 0
 LaidUnique =

@@ -13,13 +13,28 @@ returns-2 : tie.Need-returns-2
 unfolding opened
 returns-2 c =
     let p = c .before .before .before in
-    rw (c .refused2 .ensures, ← p .before .place-of .ensures, le-ltb _ _ (p .if1 .left), ← c .before .before .free-place .ensures, le-leb _ _ (c .before .if2 .taken))
+    rw (
+      c .refused2 .ensures,
+      ← p .before .place-of .ensures,
+      le-ltb _ _ (p .if1 .left),
+      ← c .before .before .free-place .ensures,
+      le-leb _ _
+          (c .before .if2 .taken),
+    )
 
 returns-3 : tie.Need-returns-3
 unfolding opened
 returns-3 c =
     let p = c .before .before .before .before in
-    rw (c .done .ensures, ← p .before .place-of .ensures, le-ltb _ _ (p .if1 .left), ← c .before .before .before .free-place .ensures, lt-leb _ _ (c .before .before .if2 .left), c .before .fresh .ensures)
+    rw (
+      c .done .ensures,
+      ← p .before .place-of .ensures,
+      le-ltb _ _ (p .if1 .left),
+      ← c .before .before .before .free-place .ensures,
+      lt-leb _ _
+          (c .before .before .if2 .left),
+      c .before .fresh .ensures,
+    )
 
 pub open-spec : {M : Type 1} → statement M
 open-spec =

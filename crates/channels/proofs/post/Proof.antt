@@ -26,14 +26,29 @@ returns-3 : tie.Need-returns-3
 unfolding posted
 returns-3 c =
     let t = c .before .before .before in
-    rw (c .refused3 .ensures, le-leb 1 _ (some (t .before .if1 .left)), le-leb _ _ (t .if2 .left), ← c .before .before .place-of .ensures, le-ltb _ _ (c .before .if3 .taken))
+    rw (
+      c .refused3 .ensures,
+      le-leb 1 _ (some (t .before .if1 .left)),
+      le-leb _ _ (t .if2 .left),
+      ← c .before .before .place-of .ensures,
+      le-ltb _ _
+          (c .before .if3 .taken),
+    )
 
 returns-4 : tie.Need-returns-4
 unfolding posted
 returns-4 c =
     let p = c .before .before .before .before in
     let t = p .before .before in
-    rw (c .refused4 .ensures, le-leb 1 _ (some (t .before .if1 .left)), le-leb _ _ (t .if2 .left), ← p .before .place-of .ensures, lt-ltb _ _ (p .if3 .left), le-leb _ _ (c .before .if4 .taken))
+    rw (
+      c .refused4 .ensures,
+      le-leb 1 _ (some (t .before .if1 .left)),
+      le-leb _ _ (t .if2 .left),
+      ← p .before .place-of .ensures,
+      lt-ltb _ _
+          (p .if3 .left),
+      le-leb _ _ (c .before .if4 .taken),
+    )
 
 returns-5 : tie.Need-returns-5
 unfolding posted
@@ -41,7 +56,16 @@ returns-5 c =
     let w = c .before .before .before in
     let p = w .before .before .before in
     let t = p .before .before in
-    rw (c .done .ensures, le-leb 1 _ (some (t .before .if1 .left)), le-leb _ _ (t .if2 .left), ← p .before .place-of .ensures, lt-ltb _ _ (p .if3 .left), lt-leb 1 _ (none (w .if4 .left)), c .before .write .ensures)
+    rw (
+      c .done .ensures,
+      le-leb 1 _ (some (t .before .if1 .left)),
+      le-leb _ _ (t .if2 .left),
+      ← p .before .place-of .ensures,
+      lt-ltb _ _
+          (p .if3 .left),
+      lt-leb 1 _ (none (w .if4 .left)),
+      c .before .write .ensures,
+    )
 
 pub post-spec : {M : Type 1} → statement M
 post-spec =

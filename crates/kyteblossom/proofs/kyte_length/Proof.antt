@@ -18,7 +18,9 @@ returns c =
     toZ-pos w32 (omega (arith, coding-all _ _ _ _ told .2)) ∙ ap answer told
 
 returns-2 : tie.Need-returns-2
-returns-2 c = toZ-ofZ {w = w32} (record { sfits = c .refusal .ok }) ∙ c .refusal .ensures ∙ ap answer (rw (c .before .before .k .given .1) at (c .before .before .before .before .sent-length .ensures))
+returns-2 c =
+    toZ-ofZ {w = w32} (record { sfits = c .refusal .ok }) ∙ c .refusal .ensures
+    ∙ ap answer (rw (c .before .before .k .given .1) at (c .before .before .before .before .sent-length .ensures))
 
 pub kyte-length-spec : {M : Type 1} → statement M
 kyte-length-spec =

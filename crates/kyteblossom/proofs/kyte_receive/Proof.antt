@@ -15,10 +15,26 @@ pack-requires c κs =
     (omega (arith, small .0), omega (arith, small .1))
 
 returns : tie.Need-returns
-returns c = record { outcome = Unit (c .before .before .j .given .0 .0); received = rw (c .before .before .j .given .1) at (c .before .before .before .before .before .before .receive .ensures); number = toZ-ofZ {w = w32} (record { sfits = c .pack .ok }) ∙ c .pack .ensures }
+returns c =
+    record {
+      outcome = Unit
+          (c .before .before .j .given .0 .0);
+      received =
+          rw (c .before .before .j .given .1) at (c .before .before .before .before .before .before .receive .ensures);
+      number = toZ-ofZ {w = w32}
+          (record { sfits = c .pack .ok }) ∙ c .pack .ensures;
+    }
 
 returns-2 : tie.Need-returns-2
-returns-2 c = record { outcome = Refused (c .before .before .k .given .0 .0); received = rw (c .before .before .k .given .1) at (c .before .before .before .before .before .before .receive .ensures); number = toZ-ofZ {w = w32} (record { sfits = c .refusal .ok }) ∙ c .refusal .ensures }
+returns-2 c =
+    record {
+      outcome = Refused
+          (c .before .before .k .given .0 .0);
+      received =
+          rw (c .before .before .k .given .1) at (c .before .before .before .before .before .before .receive .ensures);
+      number = toZ-ofZ {w = w32}
+          (record { sfits = c .refusal .ok }) ∙ c .refusal .ensures;
+    }
 
 pub kyte-receive-spec : {M : Type 1} → statement M
 kyte-receive-spec =

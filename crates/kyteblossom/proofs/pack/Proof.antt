@@ -16,7 +16,8 @@ few c = rw (c .badge-number .ensures) (badge-most (c .before .before .before .ar
 returns : tie.Need-returns
 returns c =
     let j = c .before .before .before .args .j in
-    toZ-pos w32 (omega (arith, few c, c .before .before .before .pre)) ∙ ap (λ (k : ℕ). pos (k + 256 * j .changed + 65536 * j .length)) (c .badge-number .ensures)
+    toZ-pos w32 (omega (arith, few c, c .before .before .before .pre))
+    ∙ ap (λ (k : ℕ). pos (k + 256 * j .changed + 65536 * j .length)) (c .badge-number .ensures)
 
 pub pack-spec : {M : Type 1} → statement M
 pack-spec =

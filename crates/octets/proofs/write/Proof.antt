@@ -17,5 +17,6 @@ loop-again c = let t = c .before in writing-next (t .before .loop .inv) 0 (t .be
 
 pub write-spec : {M : Type 1} → statement M
 write-spec =
-    tie.close (tie.spec Inv-loop μ-loop (λ c. writing-none _ _ _) (λ c. search needs) (λ c. search needs) (λ c. search needs) (λ c. search needs) (λ c. search needs)
+    tie.close (tie.spec Inv-loop μ-loop (λ c. writing-none _ _ _) (λ c. search needs) (λ c. search needs) (λ c. search needs) (λ c. search needs)
+    (λ c. search needs)
     loop-again (λ c. search needs) (λ c. writing-all (c .before .loop .inv) (c .loop-test .left)))

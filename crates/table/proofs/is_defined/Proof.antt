@@ -13,7 +13,9 @@ returns-2 : tie.Need-returns-2
 returns-2 c = sym (defined-fixed (now (c .before .before .args .table)) (c .before .before .args .code .0) (c .if2 .taken))
 
 returns-3 : tie.Need-returns-3
-returns-3 c = sym (defined-put (now (c .before .before .before .args .table)) (c .before .before .before .args .code .0) (c .before .before .if1 .left) (c .before .if2 .left))
+returns-3 c =
+    sym (defined-put (now (c .before .before .before .args .table)) (c .before .before .before .args .code .0) (c .before .before .if1 .left)
+    (c .before .if2 .left))
 
 pub is-defined-spec : {M : Type 1} → statement M
 is-defined-spec =

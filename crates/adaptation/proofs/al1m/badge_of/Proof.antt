@@ -13,7 +13,8 @@ returns c = badge-corrected _ _ _ (c .before .if1 .taken) (c .if2 .taken)
 returns-2 : tie.Need-returns-2
 returns-2 c =
     let a = c .before .before .before .args in
-    ap (λ (b : Bool). cond b Unchecked Clean) (sym (c .if3 .taken)) ∙ badge-same (a .bare) (a .agrees) (a .changed) (c .before .before .if1 .taken) (omega arith)
+    ap (λ (b : Bool). cond b Unchecked Clean) (sym (c .if3 .taken))
+    ∙ badge-same (a .bare) (a .agrees) (a .changed) (c .before .before .if1 .taken) (omega arith)
 
 returns-3 : tie.Need-returns-3
 returns-3 c =

@@ -24,7 +24,12 @@ octets c = ap (λ (κ : Kind). κ .octets) (kind-asked _ _ (known c))
 returns : tie.Need-returns
 returns c =
     let a = c .before .before .before .before .before .args in
-    record { first = refused-setting _ (isSendable (length (now (a .unit))) (a .width) (a .e)) (ltb (length (now (a .sent))) (sentOctets (length (now (a .unit))) (a .width) (a .e))) (setting-unknown _ _ (sym (c .before .before .setting-of .ensures) ∙ c .enum-told .given .1)); same = refl }
+    record {
+      first = refused-setting _ (isSendable (length (now (a .unit))) (a .width) (a .e))
+          (ltb (length (now (a .sent))) (sentOctets (length (now (a .unit))) (a .width) (a .e)))
+          (setting-unknown _ _ (sym (c .before .before .setting-of .ensures) ∙ c .enum-told .given .1));
+      same = refl;
+    }
 
 returns-2 : tie.Need-returns-2
 returns-2 c =
@@ -43,8 +48,13 @@ returns-3 c = record { first = coding-refused _ _ _ _ _ (rw (c .before .k .given
 returns-4 : tie.Need-returns-4
 returns-4 c =
     let a = c .before .before .before .before .before .before .before .before .before .before .before .before .before .before .before .args in
-    let told = rw (c .before .before .before .before .before .before .n .given .1) at (c .before .before .before .before .before .before .before .before .sent-length .ensures) in
-    (coding-allowed _ _ _ _ told _ (c .before .before .before .before .if1 .left), sent-at (a .width) (a .e) _ _ (now (a .unit)) (now (a .sent)) _ (kind-asked _ _ (known (c .before .before .before .before .before .before .before .before .before .before))) (coding-all _ _ _ _ told .1) (c .before .before .put .ensures))
+    let told =
+    rw (c .before .before .before .before .before .before .n .given .1) at (c .before .before .before .before .before .before .before .before .sent-length .ensures) in (
+      coding-allowed _ _ _ _ told _ (c .before .before .before .before .if1 .left),
+      sent-at (a .width) (a .e) _ _ (now (a .unit)) (now (a .sent)) _
+          (kind-asked _ _ (known (c .before .before .before .before .before .before .before .before .before .before))) (coding-all _ _ _ _ told .1)
+          (c .before .before .put .ensures),
+    )
 
 pub encode-spec : {M : Type 1} → statement M
 encode-spec =

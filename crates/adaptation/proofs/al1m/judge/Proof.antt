@@ -24,8 +24,11 @@ returns c =
 is-sealed-requires : tie.Need-is-sealed-requires
 is-sealed-requires c κs =
     let pre = c .before .before .before .before .before .before .before .before .before .before .before .before .pre in
-    let k : kindOf (c .before .before .before .before .before .before .before .before .before .before .before .before .args .w) .octets ≤ length (now (c .before .before .before .before .before .before .before .before .before .before .before .before .args .received)) - 2 * c .before .before .before .before .before .before .before .before .before .before .before .before .args .e = omega (arith, pre) in
-    rw (c .front .ensures) (fits-front _ _ (c .before .before .before .before .before .before .before .repair .last .1 .1 .0) (omega (arith, c .before .before .before .before .before .before .before .repair .kept .1 .1 .0, pre)) k)
+    let k : kindOf (c .before .before .before .before .before .before .before .before .before .before .before .before .args .w) .octets ≤ length (now (c .before .before .before .before .before .before .before .before .before .before .before .before .args .received)) - 2 * c .before .before .before .before .before .before .before .before .before .before .before .before .args .e =
+    omega (arith, pre) in
+    rw (c .front .ensures)
+    (fits-front _ _ (c .before .before .before .before .before .before .before .repair .last .1 .1 .0)
+    (omega (arith, c .before .before .before .before .before .before .before .repair .kept .1 .1 .0, pre)) k)
 
 returns-2 : tie.Need-returns-2
 returns-2 c =
@@ -34,7 +37,8 @@ returns-2 c =
     record {
       reach = Found (c .before .before .before .before .before .before .changed .given .0 .0);
       repaired = rw (c .before .before .before .before .before .before .changed .given .1) at (c .before .before .before .before .before .before .before .before .before .before .repair .ensures);
-      badge-is = c .badge-of .ensures ∙ (rw (c .before .is-bare .ensures κ (o .ensures), c .before .before .is-sealed .ensures, c .before .before .before .front .ensures));
+      badge-is = c .badge-of .ensures
+          ∙ (rw (c .before .is-bare .ensures κ (o .ensures), c .before .before .is-sealed .ensures, c .before .before .before .front .ensures));
       changed-is = refl;
       length-is = rw (o .ensures);
     }

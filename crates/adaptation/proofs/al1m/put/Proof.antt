@@ -12,7 +12,9 @@ use Rattle.adaptation.proofs.al1m.put.Statement.{statement}
 use Rattle.adaptation.proofs.al1m.put.Tie as tie
 
 slice-aggregate-encode : tie.Need-slice-aggregate-encode
-slice-aggregate-encode c = sym (length-take-le _ _ (omega (arith, c .before .before .before .seal .kept .0, c .before .octets-of .ensures, c .before .before .before .before .before .before .before .before .before .before .pre)))
+slice-aggregate-encode c =
+    sym (length-take-le _ _
+    (omega (arith, c .before .before .before .seal .kept .0, c .before .octets-of .ensures, c .before .before .before .before .before .before .before .before .before .before .pre)))
 
 returns : tie.Need-returns
 returns c =
@@ -20,8 +22,13 @@ returns c =
     let κ = kindOf (a .w) in
     let pre = c .before .before .before .before .before .before .before .before .before .before .before .before .before .before .pre in
     let k = c .before .before .before .before .before .octets-of in
-    let built = message-built κ (now (a .unit)) _ _ _ (length (now (a .unit)) + k .result) (omega (arith, pre)) (c .before .before .before .before .before .before .before .before .before .before .write .ensures) (c .before .before .before .before .before .before .before .seal .ensures) (ap (λ (x : ℕ). length (now (a .unit)) + x) (k .ensures)) in
-    sent-is κ (now (a .unit)) (a .e) _ (now (a .sent)) _ _ (λ i. c .before .before .before .before .before .before .before .before .before .before .before .before .before .shared-slice-known .given i .fits) built (pre .0) (pre .1) (pre .2) (c .before .before .encode .ensures)
+    let built =
+    message-built κ (now (a .unit)) _ _ _ (length (now (a .unit)) + k .result) (omega (arith, pre))
+    (c .before .before .before .before .before .before .before .before .before .before .write .ensures)
+    (c .before .before .before .before .before .before .before .seal .ensures) (ap (λ (x : ℕ). length (now (a .unit)) + x) (k .ensures)) in
+    sent-is κ (now (a .unit)) (a .e) _ (now (a .sent)) _ _
+    (λ i. c .before .before .before .before .before .before .before .before .before .before .before .before .before .shared-slice-known .given i .fits) built
+    (pre .0) (pre .1) (pre .2) (c .before .before .encode .ensures)
 
 pub put-spec : {M : Type 1} → statement M
 put-spec =

@@ -56,7 +56,11 @@ returns-2 : tie.Need-returns-2
 returns-2 c =
     let w = c .before .before in
     let a = w .before .before .before .before .before .args in
-    record { first = refused-length _ _ (ltb (length (now (a .repair))) (length (now (a .received)))) (known w .0) (word-long _ _ _ (c .if1 .taken)); same = refl }
+    record {
+      first = refused-length _ _ (ltb (length (now (a .repair))) (length (now (a .received)))) (known w .0)
+          (word-long _ _ _ (c .if1 .taken));
+      same = refl;
+    }
 
 returns-3 : tie.Need-returns-3
 returns-3 c =

@@ -33,7 +33,8 @@ returns-4 c =
     let w = s .before .before .before .before in
     let p = w .before .before .before .before in
     let o = p .before .before .before .before in
-    sym (sent-parts _ _ _ (o .number-octets .ensures) _ (omega (arith, p)) (omega (arith, few o, p)) (omega (arith, p)) _ _ _ (p .put-number .ensures) (w .write .ensures) (s .seal .ensures))
+    sym (sent-parts _ _ _ (o .number-octets .ensures) _ (omega (arith, p)) (omega (arith, few o, p)) (omega (arith, p)) _ _ _ (p .put-number .ensures)
+    (w .write .ensures) (s .seal .ensures))
 
 pub send-spec : {M : Type 1} → statement M
 send-spec =

@@ -31,7 +31,8 @@ loop-again c =
     let l = a .loop in
     let s = a .before .before in (
       (rw (c .before .remainder .ensures sixteen 0 (s .pre .0), c .remainder2 .ensures sixteen 1 (s .pre .1), add-one)
-          (residues-turn sixteen 1 refl (now (s .args .content)) (l .i) (l .first) (l .second ∷ []) (omega arith) (c .before .before .shared-slice-known2 .given (l .i) .fits) (l .inv .0))),
+          (residues-turn sixteen 1 refl (now (s .args .content)) (l .i) (l .first) (l .second ∷ []) (omega arith)
+          (c .before .before .shared-slice-known2 .given (l .i) .fits) (l .inv .0))),
       search needs,
     )
 

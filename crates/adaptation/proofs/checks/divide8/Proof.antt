@@ -32,7 +32,8 @@ loop-again c =
     let l = a .loop in
     let s = a .before .before in (
       (rw (c .remainder .ensures eight 0 (s .pre), add-one)
-          (residues-turn eight 0 refl (now (s .args .content)) (l .i) (l .first) [] (omega arith) (c .before .shared-slice-known2 .given (l .i) .fits) (l .inv .0))),
+          (residues-turn eight 0 refl (now (s .args .content)) (l .i) (l .first) [] (omega arith) (c .before .shared-slice-known2 .given (l .i) .fits)
+          (l .inv .0))),
       search needs,
     )
 
@@ -40,7 +41,8 @@ returns : tie.Need-returns Inv-loop μ-loop
 unfolding number octetsOf eight start
 returns c =
     let l = c .before .loop in
-    sym (ap (λ (x : ℕ). x ∷ []) (xor-zero-r (l .first))) ∙ residues-end eight (now (c .before .before .before .args .content)) (l .i) _ (omega arith) (l .inv .0)
+    sym (ap (λ (x : ℕ). x ∷ []) (xor-zero-r (l .first))) ∙ residues-end eight (now (c .before .before .before .args .content)) (l .i) _ (omega arith)
+    (l .inv .0)
 
 pub divide8-spec : {M : Type 1} → statement M
 divide8-spec =

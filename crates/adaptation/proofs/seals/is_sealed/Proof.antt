@@ -21,7 +21,8 @@ slice-aggregate-same c =
 returns : tie.Need-returns
 returns c =
     c .same .ensures
-    ∙ agrees-compared _ _ (c .before .before .before .check .result) _ _ (c .before .before .before .before .before .octets-of .ensures) (c .before .before .before .check .ensures)
+    ∙ agrees-compared _ _ (c .before .before .before .check .result) _ _ (c .before .before .before .before .before .octets-of .ensures)
+    (c .before .before .before .check .ensures)
 
 pub is-sealed-spec : {M : Type 1} → statement M
 is-sealed-spec =

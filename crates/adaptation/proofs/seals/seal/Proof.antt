@@ -22,7 +22,8 @@ slice-aggregate-write c =
 write-requires : tie.Need-write-requires
 write-requires c κs =
     let l = c .before .before .octets-of in
-    let e = length-take-le (l .result) (c .before .before .before .check .result) (check-fits _ _ _ _ _ (l .ensures) (c .before .before .before .check .ensures)) in
+    let e =
+    length-take-le (l .result) (c .before .before .before .check .result) (check-fits _ _ _ _ _ (l .ensures) (c .before .before .before .check .ensures)) in
     rw e (omega (arith, l .ensures, c .before .before .before .before .before .before .pre))
 
 returns : tie.Need-returns

@@ -19,7 +19,8 @@ returns-3 c =
     let k = c .before in
     let r = k .before .before in
     let f = r .before .before in
-    rw (k .enum-told .given .1, c .expect .ensures, ← f .before .place-of .ensures) (taking-by _ _ _ _ _ (f .before .place-of .ensures) (f .if1 .left) _ (rw (k .enum-told .given .1) at (r .receive .ensures)))
+    rw (k .enum-told .given .1, c .expect .ensures, ← f .before .place-of .ensures)
+    (taking-by _ _ _ _ _ (f .before .place-of .ensures) (f .if1 .left) _ (rw (k .enum-told .given .1) at (r .receive .ensures)))
 
 returns-4 : tie.Need-returns-4
 returns-4 c =

@@ -46,7 +46,12 @@ cast-numbers : tie.Need-cast-numbers Inv-loop μ-loop
 cast-numbers c =
     let l = c .before .before .before .before .before in
     let s = l .before .before .before .args .s in
-    omega (arith, placed (c .before) s (l .before .numbers-of .ensures), place-most s (getD (l .loop .numbers) (l .loop .j) 0) (len (l .before .before .before)))
+    omega (
+      arith,
+      placed (c .before) s (l .before .numbers-of .ensures),
+      place-most s (getD (l .loop .numbers) (l .loop .j) 0)
+          (len (l .before .before .before)),
+    )
 
 loop-less : tie.Need-loop-less Inv-loop μ-loop
 loop-less c = simp length-set (search needs)
@@ -59,10 +64,12 @@ loop-again c =
       λ s known.
           let e = placed t s known in (
             ⊎-elim
-                (λ w. l .inv .0 s known .0 ∙ ap (λ (b : Bool). l .all && b) (in-missed s (l .numbers) (l .j) h (omega (arith, e, w .0 .taken))) ∙ and-false (l .all) ∙ rw (w .1))
+                (λ w. l .inv .0 s known .0 ∙ ap (λ (b : Bool). l .all && b) (in-missed s (l .numbers) (l .j) h (omega (arith, e, w .0 .taken)))
+                ∙ and-false (l .all) ∙ rw (w .1))
                 (λ w. l .inv .0 s known .0 ∙ rw (in-met s (l .numbers) (l .j) (t .seek .result) h (omega (arith, e, w .0 .left)), w .1))
                 (c .if1 .came),
-            l .inv .0 s known .1 ∙ mapped-at (placeOf s) (l .numbers) 0 (l .numbers) (l .j) h h ∙ rw (e, drop-set-lt (l .j + 1) (l .numbers) (l .j) (placeOf s (getD (l .numbers) (l .j) 0)) (omega arith)),
+            l .inv .0 s known .1 ∙ mapped-at (placeOf s) (l .numbers) 0 (l .numbers) (l .j) h h
+                ∙ rw (e, drop-set-lt (l .j + 1) (l .numbers) (l .j) (placeOf s (getD (l .numbers) (l .j) 0)) (omega arith)),
           ),
       simp length-set (search needs),
       simp length-set (l .inv .2),
@@ -76,8 +83,11 @@ returns c =
     let l = c .before .loop in
     let s = c .before .before .before .before .args .s in
     let i = l .inv .0 s (c .before .before .numbers-of .ensures) in
-    let e = in-end s (l .numbers) (l .j) (c .loop-test .left) in
-    (sym (i .0 ∙ rw e (and-true (l .all))), sym (i .1 ∙ rw (take-all (l .j) (l .numbers) (c .loop-test .left), drop-of-length-le (l .numbers) (c .loop-test .left)) (append-nil (l .numbers))))
+    let e = in-end s (l .numbers) (l .j) (c .loop-test .left) in (
+      sym (i .0 ∙ rw e (and-true (l .all))),
+      sym
+          (i .1 ∙ rw (take-all (l .j) (l .numbers) (c .loop-test .left), drop-of-length-le (l .numbers) (c .loop-test .left)) (append-nil (l .numbers))),
+    )
 
 pub find-spec : {M : Type 1} → statement M
 find-spec =

@@ -27,14 +27,17 @@ loop-again c =
     let h = c .before .before .loop-test .taken in (
       search needs,
       length-set (l .loop .all) (l .loop .i) (c .number-of .result) ∙ l .loop .inv .1,
-      l .loop .inv .2 ∙ mapped-at numberOf (s .at) vacant (l .loop .all) (l .loop .i) (rw (len (l .before)) h) (rw (l .loop .inv .1) h) ∙ rw (c .number-of .ensures),
+      l .loop .inv .2 ∙ mapped-at numberOf (s .at) vacant (l .loop .all) (l .loop .i) (rw (len (l .before)) h) (rw (l .loop .inv .1) h)
+          ∙ rw (c .number-of .ensures),
     )
 
 returns : tie.Need-returns Inv-loop μ-loop
 returns c =
     let l = c .before in
     let h = c .loop-test .left in
-    sym (l .loop .inv .2 ∙ rw (take-all (l .loop .i) (l .loop .all) (rw (l .loop .inv .1) h), drop-of-length-le (l .before .args .t1 .at) {i = l .loop .i} (rw (len (l .before)) h)) (append-nil (l .loop .all)))
+    sym (l .loop .inv .2
+    ∙ rw (take-all (l .loop .i) (l .loop .all) (rw (l .loop .inv .1) h), drop-of-length-le (l .before .args .t1 .at) {i = l .loop .i} (rw (len (l .before)) h))
+    (append-nil (l .loop .all)))
 
 pub numbers-of-spec : {M : Type 1} → statement M
 numbers-of-spec =

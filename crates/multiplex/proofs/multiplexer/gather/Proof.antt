@@ -92,8 +92,11 @@ loop-again : tie.Need-loop-again Inv-loop μ-loop
 loop-again c =
     let w = c .before .before .before in
     let v = w .before .before .before in
-    let i = v .before .before .before .before in
-    (search needs, rw (c .leave .ensures) (gathers-next _ _ _ _ _ _ _ _ _ (here i) (i .before .before .before .before .before .before .pre .0) _ (rw (v .waits .ensures)) _ (w .write .ensures)))
+    let i = v .before .before .before .before in (
+      search needs,
+      rw (c .leave .ensures)
+          (gathers-next _ _ _ _ _ _ _ _ _ (here i) (i .before .before .before .before .before .before .pre .0) _ (rw (v .waits .ensures)) _ (w .write .ensures)),
+    )
 
 returns : tie.Need-returns Inv-loop μ-loop
 returns c =

@@ -8,19 +8,22 @@ use Rattle.table.specs.Table.{entryOf, longestPayload}
 use Rattle.table.specs.Slots.{payloadSlots}
 use Rattle.multiplex.specs.Multiplexer.{walked}
 use Rattle.multiplex.specs.Walks.{WalkIs}
-use Rattle.multiplex.proofs.Packing.{lays-numbers, lays-lengths, lays-within, walk-over, walk-sendable, walk-fits, packed-closed, packed-empty, packed-sent}
+use Rattle.multiplex.proofs.Packing.{lays-numbers, lays-lengths, lays-within, walk-over, walk-sendable, walk-fits, packed-closed, packed-empty}
+use Rattle.multiplex.proofs.Packing.{packed-sent}
 use Rattle.multiplex.proofs.multiplexer.pack.Statement.{statement}
 use Rattle.multiplex.proofs.multiplexer.pack.Tie as tie
 
 -- the lists have as many places as before
-long : (c : tie.After-payload-slots) → (length (c .payload-slots .last .1 .1 .1 .0) ≡ longestPayload) × (length (c .payload-slots .last .1 .1 .1 .1 .0) ≡ longestPayload)
+long : (c : tie.After-payload-slots)
+    → (length (c .payload-slots .last .1 .1 .1 .0) ≡ longestPayload) × (length (c .payload-slots .last .1 .1 .1 .1 .0) ≡ longestPayload)
 long c =
     let s = c .before .before .before .before in
     (lays-numbers _ _ (s .pre .0) _ _ _ _ _ (c .payload-slots .ensures) refl refl, lays-lengths _ _ (s .pre .0) _ _ _ _ _ (c .payload-slots .ensures) refl refl)
 
 -- the walk goes over the slots that the table laid down
 walks : (c : tie.After-walk) → let s = c .before .before .before .before .before .before .before in
-    WalkIs (walked (s .args .s) (payloadSlots (entryOf (now (s .args .table)) (s .args .code .0)) (s .args .room))) (c .walk .result) (c .walk .last .1 .1 .0) (c .walk .last .1 .1 .1 .0)
+    WalkIs (walked (s .args .s) (payloadSlots (entryOf (now (s .args .table)) (s .args .code .0)) (s .args .room))) (c .walk .result) (c .walk .last .1 .1 .0)
+    (c .walk .last .1 .1 .1 .0)
 walks c =
     let s = c .before .before .before .before .before .before .before in
     walk-over _ _ (s .pre .0) _ _ _ _ _ (c .before .before .before .payload-slots .ensures) refl refl _ _ _ _ (c .walk .ensures)

@@ -27,7 +27,9 @@ few-2 : (c : tie.After-known-told2 Inv-loop μ-loop) → c .before .k2 .given .0
 few-2 c = omega (arith, turn-last _ _ _ (sym (c .before .before .before .turn-of .ensures) ∙ c .before .k2 .given .1) .0)
 
 -- the channels keep their seats, so that a number is found where it was at first
-placed : (c : tie.After-seek Inv-loop μ-loop) → c .seek .result ≡ placeOf (c .before .before .before .before .loop .cur) (getD (c .before .before .before .before .loop .numbers) (c .before .before .before .before .loop .j) 0)
+placed : (c : tie.After-seek Inv-loop μ-loop) → c .seek .result
+    ≡ placeOf (c .before .before .before .before .loop .cur)
+    (getD (c .before .before .before .before .loop .numbers) (c .before .before .before .before .loop .j) 0)
 placed c =
     let l = c .before .before .before .before in
     let s = l .before .before .before .before .args .s in
@@ -45,14 +47,18 @@ returns : tie.Need-returns Inv-loop μ-loop
 returns c =
     let q = c .before .before in
     let i = q .before .before .before in
-    rw (c .ended .ensures) (closed _ _ _ _ _ _ _ _ _ (i .before .before .before .before .before .pre) (i .before .loop .inv .0) (i .loop-test .taken) _ (placed q) (c .before .if1 .taken))
+    rw (c .ended .ensures)
+    (closed _ _ _ _ _ _ _ _ _ (i .before .before .before .before .before .pre) (i .before .loop .inv .0) (i .loop-test .taken) _ (placed q)
+    (c .before .if1 .taken))
 
 returns-2 : tie.Need-returns-2 Inv-loop μ-loop
 returns-2 c =
     let t = c .before .before .before in
     let f = t .before .before .before in
     let i = f .before .before .before .before in
-    rw (c .ended2 .ensures) (blocked _ _ _ _ _ _ _ _ _ (i .before .before .before .before .before .pre) (i .before .loop .inv .0) (i .loop-test .taken) _ (placed (f .before)) (f .if1 .left) (sym (c .before .enum-told .given .1) ∙ t .turn-of .ensures))
+    rw (c .ended2 .ensures)
+    (blocked _ _ _ _ _ _ _ _ _ (i .before .before .before .before .before .pre) (i .before .loop .inv .0) (i .loop-test .taken) _ (placed (f .before))
+    (f .if1 .left) (sym (c .before .enum-told .given .1) ∙ t .turn-of .ensures))
 
 leave-requires : tie.Need-leave-requires Inv-loop μ-loop
 leave-requires c κs =
@@ -70,7 +76,11 @@ loop-again c =
     let t = c .before .before .before .before in
     let f = t .before .before .before in
     let i = f .before .before .before .before in
-    rw (c .leave .ensures) (goes _ _ _ _ _ _ _ _ _ (i .before .before .before .before .before .pre) (i .before .loop .inv .0) (i .loop-test .taken) _ (placed (f .before)) (f .if1 .left) _ (sym (c .before .before .k .given .1) ∙ t .turn-of .ensures), seats-put (i .before .loop .cur) _ _ refl ∙ i .before .loop .inv .1)
+    rw (c .leave .ensures) (
+      goes _ _ _ _ _ _ _ _ _ (i .before .before .before .before .before .pre) (i .before .loop .inv .0) (i .loop-test .taken) _ (placed (f .before))
+          (f .if1 .left) _ (sym (c .before .before .k .given .1) ∙ t .turn-of .ensures),
+      seats-put (i .before .loop .cur) _ _ refl ∙ i .before .loop .inv .1,
+    )
 
 leave-requires-2 : tie.Need-leave-requires-2 Inv-loop μ-loop
 leave-requires-2 c κs =
@@ -88,7 +98,9 @@ returns-3 c =
     let t = c .before .before .before .before .before in
     let f = t .before .before .before in
     let i = f .before .before .before .before in
-    rw (c .ended3 .ensures, c .before .leave2 .ensures) (last _ _ _ _ _ _ _ _ _ (i .before .before .before .before .before .pre) (i .before .loop .inv .0) (i .loop-test .taken) _ (placed (f .before)) (f .if1 .left) _ (sym (c .before .before .before .k2 .given .1) ∙ t .turn-of .ensures))
+    rw (c .ended3 .ensures, c .before .leave2 .ensures)
+    (last _ _ _ _ _ _ _ _ _ (i .before .before .before .before .before .pre) (i .before .loop .inv .0) (i .loop-test .taken) _ (placed (f .before))
+    (f .if1 .left) _ (sym (c .before .before .before .k2 .given .1) ∙ t .turn-of .ensures))
 
 returns-4 : tie.Need-returns-4 Inv-loop μ-loop
 returns-4 c =

@@ -57,8 +57,11 @@ element-sub-list t c = pos-of-ne-zero (c .if1 .left)
 
 element-list-requires : (t : ℕ) → element-lts.Need-list-requires (element-claims t) (element-at t) element.Post
 element-list-requires t c κs =
-    let v = c .before .before .h2 .given .0 in
-    (rw (← c .before .before .before .before .before .before .pre .0) (deeper (c .before .before .before .before .before .before .args .depth) (v .0) (c .if1 .left) (omega (arith, c .before .known-told2 .given))), tt)
+    let v = c .before .before .h2 .given .0 in (
+      rw (← c .before .before .before .before .before .before .pre .0)
+          (deeper (c .before .before .before .before .before .before .args .depth) (v .0) (c .if1 .left) (omega (arith, c .before .known-told2 .given))),
+      tt,
+    )
 
 element-enum-told : (t : ℕ) → element-lts.Need-enum-told (element-claims t) (element-at t) element.Post
 element-enum-told t c = search needs
@@ -71,12 +74,15 @@ element-returns t c =
 element-returns-2 : (t : ℕ) → element-lts.Need-returns-2 (element-claims t) (element-at t) element.Post
 element-returns-2 t c =
     let a = c .before .before .before .before .before .before .args in
-    sym (too-deep (now (a .s)) (a .at) (a .left) (a .least) (a .depth) _ _ _ (c .if1 .taken) (sym (c .before .before .before .before .numbers .ensures) ∙ c .before .before .h2 .given .1))
+    sym (too-deep (now (a .s)) (a .at) (a .left) (a .least) (a .depth) _ _ _ (c .if1 .taken)
+    (sym (c .before .before .before .before .numbers .ensures) ∙ c .before .before .h2 .given .1))
 
 element-returns-3 : (t : ℕ) → element-lts.Need-returns-3 (element-claims t) (element-at t) element.Post
 element-returns-3 t c =
     let a = c .before .before .before .before .before .before .before .args in
-    c .list .ensures ∙ sym (is-list (now (a .s)) (a .at) (a .left) (a .least) (a .depth) _ _ _ (c .before .if1 .left) (sym (c .before .before .before .before .before .numbers .ensures) ∙ c .before .before .before .h2 .given .1))
+    c .list .ensures ∙ sym
+    (is-list (now (a .s)) (a .at) (a .left) (a .least) (a .depth) _ _ _ (c .before .if1 .left)
+    (sym (c .before .before .before .before .before .numbers .ensures) ∙ c .before .before .before .h2 .given .1))
 
 element-returns-4 : (t : ℕ) → element-lts.Need-returns-4 (element-claims t) (element-at t) element.Post
 element-returns-4 t c =
@@ -98,7 +104,12 @@ list-sub-list : (t : ℕ) → list-lts.Need-sub-list (list-claims t) (list-at t)
 list-sub-list t c = pos-of-ne-zero (c .before .before .before .before .if1 .left)
 
 list-list-requires : (t : ℕ) → list-lts.Need-list-requires (list-claims t) (list-at t) list.Post
-list-list-requires t c κs = (rw (← c .before .before .before .before .before .before .pre .0) (onward (c .before .before .before .before .before .before .args .depth) (c .before .before .before .before .before .before .args .count) (c .before .before .before .before .if1 .left)), tt)
+list-list-requires t c κs = (
+  rw (← c .before .before .before .before .before .before .pre .0)
+      (onward (c .before .before .before .before .before .before .args .depth) (c .before .before .before .before .before .before .args .count)
+      (c .before .before .before .before .if1 .left)),
+  tt,
+)
 
 list-enum-told : (t : ℕ) → list-lts.Need-enum-told (list-claims t) (list-at t) list.Post
 list-enum-told t c = search needs
@@ -106,12 +117,16 @@ list-enum-told t c = search needs
 list-returns-2 : (t : ℕ) → list-lts.Need-returns-2 (list-claims t) (list-at t) list.Post
 list-returns-2 t c =
     let a = c .before .before .before .before .before .before .before .args in
-    c .list .ensures ∙ sym (one-more (now (a .s)) (a .depth) (a .count) (a .at) (a .left) (c .before .before .before .before .before .if1 .left) ∙ ap (λ r. andThen r (listAt (now (a .s)) (a .depth) (a .count - 1))) (sym (c .before .before .before .before .element .ensures) ∙ c .before .before .first .given .1))
+    c .list .ensures ∙ sym
+    (one-more (now (a .s)) (a .depth) (a .count) (a .at) (a .left) (c .before .before .before .before .before .if1 .left)
+    ∙ ap (λ r. andThen r (listAt (now (a .s)) (a .depth) (a .count - 1)))
+    (sym (c .before .before .before .before .element .ensures) ∙ c .before .before .first .given .1))
 
 list-returns-3 : (t : ℕ) → list-lts.Need-returns-3 (list-claims t) (list-at t) list.Post
 list-returns-3 t c =
     let a = c .before .before .before .before .before .args in
-    sym (one-more (now (a .s)) (a .depth) (a .count) (a .at) (a .left) (c .before .before .before .if1 .left) ∙ ap (λ r. andThen r (listAt (now (a .s)) (a .depth) (a .count - 1))) (sym (c .before .before .element .ensures) ∙ c .enum-told .given .1))
+    sym (one-more (now (a .s)) (a .depth) (a .count) (a .at) (a .left) (c .before .before .before .if1 .left)
+    ∙ ap (λ r. andThen r (listAt (now (a .s)) (a .depth) (a .count - 1))) (sym (c .before .before .element .ensures) ∙ c .enum-told .given .1))
 
 pub +element+list-spec : {M : Type 1} → statement M
 +element+list-spec = close μ-element μ-list (λ t. element-lts.spec (element-claims t)

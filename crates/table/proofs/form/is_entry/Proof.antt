@@ -20,15 +20,38 @@ returns-3 : tie.Need-returns-3
 returns-3 c = sym (entry-empty (now (c .before .before .before .before .before .args .s)) (c .before .before .before .if1 .left) (c .if3 .taken))
 
 returns-4 : tie.Need-returns-4
-returns-4 c = rw (entry-read (now (c .before .before .before .before .before .before .before .before .args .s)) (c .before .before .before .before .before .before .if1 .left) (c .before .before .before .if3 .left), ← c .before .before .list .ensures, c .enum-told .given .1)
+returns-4 c =
+    rw (
+      entry-read (now (c .before .before .before .before .before .before .before .before .args .s))
+          (c .before .before .before .before .before .before .if1 .left)
+          (c .before .before .before .if3 .left),
+      ← c .before .before .list .ensures,
+      c .enum-told .given .1,
+    )
 
 returns-5 : tie.Need-returns-5
 returns-5 c =
-    rw (entry-read (now (c .before .before .before .before .before .before .before .before .before .before .before .before .args .s)) (c .before .before .before .before .before .before .before .before .before .before .if1 .left) (c .before .before .before .before .before .before .before .if3 .left), ← c .before .before .before .before .before .before .list .ensures, c .before .before .before .before .at .given .1, ← c .before .before .element .ensures, c .enum-told2 .given .1)
+    rw (
+      entry-read (now (c .before .before .before .before .before .before .before .before .before .before .before .before .args .s))
+          (c .before .before .before .before .before .before .before .before .before .before .if1 .left)
+          (c .before .before .before .before .before .before .before .if3 .left),
+      ← c .before .before .before .before .before .before .list .ensures,
+      c .before .before .before .before .at .given .1,
+      ← c .before .before .element .ensures,
+      c .enum-told2 .given .1,
+    )
 
 returns-6 : tie.Need-returns-6
 returns-6 c =
-    rw (entry-read (now (c .before .before .before .before .before .before .before .before .before .before .before .before .before .args .s)) (c .before .before .before .before .before .before .before .before .before .before .before .if1 .left) (c .before .before .before .before .before .before .before .before .if3 .left), ← c .before .before .before .before .before .before .before .list .ensures, c .before .before .before .before .before .at .given .1, ← c .before .before .before .element .ensures, c .before .end .given .1)
+    rw (
+      entry-read (now (c .before .before .before .before .before .before .before .before .before .before .before .before .before .args .s))
+          (c .before .before .before .before .before .before .before .before .before .before .before .if1 .left)
+          (c .before .before .before .before .before .before .before .before .if3 .left),
+      ← c .before .before .before .before .before .before .before .list .ensures,
+      c .before .before .before .before .before .at .given .1,
+      ← c .before .before .before .element .ensures,
+      c .before .end .given .1,
+    )
 
 pub is-entry-spec : {M : Type 1} → statement M
 is-entry-spec =

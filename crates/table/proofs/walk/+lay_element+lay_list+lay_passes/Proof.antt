@@ -61,7 +61,8 @@ lay-passes-below t =
     and 3 lay-passes-kinds.ps (falls 3 lay-passes-kinds.ps _<_ μ-lay-passes t) lay-passes.Pre
 
 abbrev lay-element-claims : ℕ → lay-element-lts.Claims
-lay-element-claims t = (number-reads.Asked, number-reads.Learnt, times-reads.Asked, times-reads.Learnt, lay-slot-reads.Asked, lay-slot-reads.Learnt, lay-passes-below t, lay-passes.Post)
+lay-element-claims t =
+    (number-reads.Asked, number-reads.Learnt, times-reads.Asked, times-reads.Learnt, lay-slot-reads.Asked, lay-slot-reads.Learnt, lay-passes-below t, lay-passes.Post)
 
 abbrev lay-list-claims : ℕ → lay-list-lts.Claims
 lay-list-claims t = (lay-element-below t, lay-element.Post, after-reads.Asked, after-reads.Learnt)
@@ -93,17 +94,28 @@ lay-element-same-length-2 t c = search needs
 lay-element-returns : (t : ℕ) → lay-element-lts.Need-returns (lay-element-claims t) (lay-element-at t) lay-element.Post
 lay-element-returns t c =
     let a = c .before .before .before .before .before .before .before .before .before .before .before .before .before .before .before .args in
-    rw (as-channel (now (a .s)) (a .at) (a .depth) _ _ _ (c .before .before .before .before .before .before .before .before .before .before .before .number .ensures) (c .before .before .before .before .before .before .before .before .before .before .times .ensures) (c .before .before .before .before .before .before .before .before .before .number2 .ensures) _ (c .before .before .before .before .before .before .before .number3 .ensures) (c .before .before .before .before .before .before .before .before .if1 .taken)) (c .before .before .before .before .lay-slot .ensures)
+    rw (as-channel (now (a .s)) (a .at) (a .depth) _ _ _
+    (c .before .before .before .before .before .before .before .before .before .before .before .number .ensures)
+    (c .before .before .before .before .before .before .before .before .before .before .times .ensures)
+    (c .before .before .before .before .before .before .before .before .before .number2 .ensures) _
+    (c .before .before .before .before .before .before .before .number3 .ensures)
+    (c .before .before .before .before .before .before .before .before .if1 .taken)) (c .before .before .before .before .lay-slot .ensures)
 
 lay-element-returns-2 : (t : ℕ) → lay-element-lts.Need-returns-2 (lay-element-claims t) (lay-element-at t) lay-element.Post
 lay-element-returns-2 t c =
     let a = c .before .before .before .before .before .before .before .before .args in
-    lays-empty (a .from) (elementSlots (now (a .s)) (a .depth) (a .at)) (now (a .channels)) (now (a .lengths)) (as-flat (now (a .s)) (a .at) (a .depth) _ _ _ (c .before .before .before .before .number .ensures) (c .before .before .before .times .ensures) (c .before .before .number2 .ensures) (c .before .if1 .left) (c .if2 .taken))
+    lays-empty (a .from) (elementSlots (now (a .s)) (a .depth) (a .at)) (now (a .channels)) (now (a .lengths))
+    (as-flat (now (a .s)) (a .at) (a .depth) _ _ _ (c .before .before .before .before .number .ensures) (c .before .before .before .times .ensures)
+    (c .before .before .number2 .ensures) (c .before .if1 .left) (c .if2 .taken))
 
 lay-element-add-lay-passes : (t : ℕ) → lay-element-lts.Need-add-lay-passes (lay-element-claims t) (lay-element-at t) lay-element.Post
 lay-element-add-lay-passes t c =
     let a = c .before .before .before .before .before .before .before .before .args in
-    omega (arith, inner-inside (now (a .s)) (a .at) (a .depth) _ _ _ (c .before .before .before .before .number .ensures) (c .before .before .before .times .ensures) (c .before .before .number2 .ensures) (c .before .if1 .left))
+    omega (
+      arith,
+      inner-inside (now (a .s)) (a .at) (a .depth) _ _ _ (c .before .before .before .before .number .ensures)
+          (c .before .before .before .times .ensures) (c .before .before .number2 .ensures) (c .before .if1 .left),
+    )
 
 lay-element-sub-lay-passes : (t : ℕ) → lay-element-lts.Need-sub-lay-passes (lay-element-claims t) (lay-element-at t) lay-element.Post
 lay-element-sub-lay-passes t c = pos-of-ne-zero (c .if2 .left)
@@ -120,7 +132,12 @@ lay-element-same-length-4 t c = search needs
 lay-element-returns-3 : (t : ℕ) → lay-element-lts.Need-returns-3 (lay-element-claims t) (lay-element-at t) lay-element.Post
 lay-element-returns-3 t c =
     let a = c .before .before .before .before .before .before .before .before .before .before .before .before .before .before .before .args in
-    rw (as-inner (now (a .s)) (a .at) (a .depth) _ _ _ (c .before .before .before .before .before .before .before .before .before .before .before .number .ensures) (c .before .before .before .before .before .before .before .before .before .before .times .ensures) (c .before .before .before .before .before .before .before .before .before .number2 .ensures) (c .before .before .before .before .before .before .before .before .if1 .left) (c .before .before .before .before .before .before .before .if2 .left)) (c .before .before .before .before .lay-passes .ensures)
+    rw (as-inner (now (a .s)) (a .at) (a .depth) _ _ _
+    (c .before .before .before .before .before .before .before .before .before .before .before .number .ensures)
+    (c .before .before .before .before .before .before .before .before .before .before .times .ensures)
+    (c .before .before .before .before .before .before .before .before .before .number2 .ensures)
+    (c .before .before .before .before .before .before .before .before .if1 .left) (c .before .before .before .before .before .before .before .if2 .left))
+    (c .before .before .before .before .lay-passes .ensures)
 
 abbrev lay-list-Inv-loop : lay-list-lts.InvT-loop
 lay-list-Inv-loop s at depth count channels₀ lengths₀ laid₀ place₀ t₀ channels lengths laid place t =
@@ -132,10 +149,14 @@ lay-list-μ-loop s at depth count channels₀ lengths₀ laid₀ place₀ t₀ c
 
 lay-list-loop-holds : (t : ℕ) → lay-list-lts.Need-loop-holds (lay-list-claims t) (lay-list-at t) lay-list.Post lay-list-Inv-loop lay-list-μ-loop
 lay-list-loop-holds t c =
-    let a = c .before .before .before .args in
-    (omega arith, under-way (a .from) _ _ _ _ (c .before .before .before .pre .1) (ap (λ (n : ℕ). listSlots (now (a .s)) (a .depth) n (a .at)) (sub-zero (a .count))))
+    let a = c .before .before .before .args in (
+      omega arith,
+      under-way (a .from) _ _ _ _ (c .before .before .before .pre .1)
+          (ap (λ (n : ℕ). listSlots (now (a .s)) (a .depth) n (a .at)) (sub-zero (a .count))),
+    )
 
-lay-list-lay-element-requires : (t : ℕ) → lay-list-lts.Need-lay-element-requires (lay-list-claims t) (lay-list-at t) lay-list.Post lay-list-Inv-loop lay-list-μ-loop
+lay-list-lay-element-requires : (t : ℕ)
+    → lay-list-lts.Need-lay-element-requires (lay-list-claims t) (lay-list-at t) lay-list.Post lay-list-Inv-loop lay-list-μ-loop
 lay-list-lay-element-requires t c κs = (omega arith, c .before .before .before .loop .inv .1 .room)
 
 lay-list-same-length : (t : ℕ) → lay-list-lts.Need-same-length (lay-list-claims t) (lay-list-at t) lay-list.Post lay-list-Inv-loop lay-list-μ-loop
@@ -149,8 +170,11 @@ lay-list-returns t c =
     let a = c .before .before .before .before .before .before .before .before .before .before .before .before .before .before .args in
     let l = c .before .before .before .before .before .before .before .before .before .before .loop in
     let s = now (a .s) in
-    under-idle (l .inv .1) (elementSlots s (a .depth) (l .place)) (listSlots s (a .depth) (a .count - (l .t + 1)) (skip s (a .depth) (l .place))) (element-filled s (a .depth) (l .place))
-    (c .before .before .before .before .before .before .lay-element .ensures) (list-rest (a .count) (l .t) s (a .depth) (l .place) _ refl (c .before .before .before .before .before .before .before .before .before .loop-test .taken)) (list-idle s (a .depth) (a .count - (l .t + 1)) (l .place)) (c .if1 .taken)
+    under-idle (l .inv .1) (elementSlots s (a .depth) (l .place)) (listSlots s (a .depth) (a .count - (l .t + 1)) (skip s (a .depth) (l .place)))
+    (element-filled s (a .depth) (l .place))
+    (c .before .before .before .before .before .before .lay-element .ensures)
+    (list-rest (a .count) (l .t) s (a .depth) (l .place) _ refl (c .before .before .before .before .before .before .before .before .before .loop-test .taken))
+    (list-idle s (a .depth) (a .count - (l .t + 1)) (l .place)) (c .if1 .taken)
 
 lay-list-after-requires : (t : ℕ) → lay-list-lts.Need-after-requires (lay-list-claims t) (lay-list-at t) lay-list.Post lay-list-Inv-loop lay-list-μ-loop
 lay-list-after-requires t c κs = search needs
@@ -167,8 +191,11 @@ lay-list-loop-again t c =
     let l = c .before .before .before .before .before .before .before .before .before .before .before .loop in
     let s = now (a .s) in (
       omega arith,
-      under-turn (l .inv .1) (elementSlots s (a .depth) (l .place)) (listSlots s (a .depth) (a .count - (l .t + 1)) (c .after .result)) (element-filled s (a .depth) (l .place))
-          (c .before .before .before .before .before .before .before .lay-element .ensures) (list-rest (a .count) (l .t) s (a .depth) (l .place) _ (c .after .ensures) (c .before .before .before .before .before .before .before .before .before .before .loop-test .taken)),
+      under-turn (l .inv .1) (elementSlots s (a .depth) (l .place)) (listSlots s (a .depth) (a .count - (l .t + 1)) (c .after .result))
+          (element-filled s (a .depth) (l .place))
+          (c .before .before .before .before .before .before .before .lay-element .ensures)
+          (list-rest (a .count) (l .t) s (a .depth) (l .place) _ (c .after .ensures)
+          (c .before .before .before .before .before .before .before .before .before .before .loop-test .taken)),
     )
 
 lay-list-same-length-3 : (t : ℕ) → lay-list-lts.Need-same-length-3 (lay-list-claims t) (lay-list-at t) lay-list.Post lay-list-Inv-loop lay-list-μ-loop
@@ -199,16 +226,21 @@ lay-passes-loop-holds :
     lay-passes-Inv-loop
     lay-passes-μ-loop
 lay-passes-loop-holds t c =
-    let a = c .before .before .before .args in
-    (omega arith, under-way (a .from) _ _ _ _ (c .before .before .before .pre .1) (ap (λ (n : ℕ). copies n (listSlots (now (a .s)) (a .depth) (a .count) (a .at))) (sub-zero (a .n))))
+    let a = c .before .before .before .args in (
+      omega arith,
+      under-way (a .from) _ _ _ _ (c .before .before .before .pre .1)
+          (ap (λ (n : ℕ). copies n (listSlots (now (a .s)) (a .depth) (a .count) (a .at))) (sub-zero (a .n))),
+    )
 
-lay-passes-lay-list-requires : (t : ℕ) → lay-passes-lts.Need-lay-list-requires (lay-passes-claims t) (lay-passes-at t) lay-passes.Post lay-passes-Inv-loop lay-passes-μ-loop
+lay-passes-lay-list-requires : (t : ℕ)
+    → lay-passes-lts.Need-lay-list-requires (lay-passes-claims t) (lay-passes-at t) lay-passes.Post lay-passes-Inv-loop lay-passes-μ-loop
 lay-passes-lay-list-requires t c κs = (omega arith, c .before .before .before .loop .inv .1 .room)
 
 lay-passes-same-length : (t : ℕ) → lay-passes-lts.Need-same-length (lay-passes-claims t) (lay-passes-at t) lay-passes.Post lay-passes-Inv-loop lay-passes-μ-loop
 lay-passes-same-length t c = search needs
 
-lay-passes-same-length-2 : (t : ℕ) → lay-passes-lts.Need-same-length-2 (lay-passes-claims t) (lay-passes-at t) lay-passes.Post lay-passes-Inv-loop lay-passes-μ-loop
+lay-passes-same-length-2 : (t : ℕ)
+    → lay-passes-lts.Need-same-length-2 (lay-passes-claims t) (lay-passes-at t) lay-passes.Post lay-passes-Inv-loop lay-passes-μ-loop
 lay-passes-same-length-2 t c = search needs
 
 lay-passes-returns :
@@ -224,7 +256,9 @@ lay-passes-returns t c =
     let l = c .before .before .before .before .before .before .before .before .before .before .loop in
     let x = listSlots (now (a .s)) (a .depth) (a .count) (a .at) in
     under-idle (l .inv .1) x (copies (a .n - (l .t + 1)) x) (list-filled (now (a .s)) (a .depth) (a .count) (a .at))
-    (c .before .before .before .before .before .before .lay-list .ensures) (copies-rest (a .n) (l .t) x (c .before .before .before .before .before .before .before .before .before .loop-test .taken)) (copies-idle (a .n - (l .t + 1)) x) (c .if1 .taken)
+    (c .before .before .before .before .before .before .lay-list .ensures)
+    (copies-rest (a .n) (l .t) x (c .before .before .before .before .before .before .before .before .before .loop-test .taken))
+    (copies-idle (a .n - (l .t + 1)) x) (c .if1 .taken)
 
 lay-passes-add-t :
     (t : ℕ) →
@@ -260,13 +294,16 @@ lay-passes-loop-again t c =
     let x = listSlots (now (a .s)) (a .depth) (a .count) (a .at) in (
       omega arith,
       under-turn (l .inv .1) x (copies (a .n - (l .t + 1)) x) (list-filled (now (a .s)) (a .depth) (a .count) (a .at))
-          (c .before .before .before .before .before .before .lay-list .ensures) (copies-rest (a .n) (l .t) x (c .before .before .before .before .before .before .before .before .before .loop-test .taken)),
+          (c .before .before .before .before .before .before .lay-list .ensures)
+          (copies-rest (a .n) (l .t) x (c .before .before .before .before .before .before .before .before .before .loop-test .taken)),
     )
 
-lay-passes-same-length-3 : (t : ℕ) → lay-passes-lts.Need-same-length-3 (lay-passes-claims t) (lay-passes-at t) lay-passes.Post lay-passes-Inv-loop lay-passes-μ-loop
+lay-passes-same-length-3 : (t : ℕ)
+    → lay-passes-lts.Need-same-length-3 (lay-passes-claims t) (lay-passes-at t) lay-passes.Post lay-passes-Inv-loop lay-passes-μ-loop
 lay-passes-same-length-3 t c = search needs
 
-lay-passes-same-length-4 : (t : ℕ) → lay-passes-lts.Need-same-length-4 (lay-passes-claims t) (lay-passes-at t) lay-passes.Post lay-passes-Inv-loop lay-passes-μ-loop
+lay-passes-same-length-4 : (t : ℕ)
+    → lay-passes-lts.Need-same-length-4 (lay-passes-claims t) (lay-passes-at t) lay-passes.Post lay-passes-Inv-loop lay-passes-μ-loop
 lay-passes-same-length-4 t c = search needs
 
 lay-passes-returns-2 :

@@ -16,12 +16,14 @@ returns c =
 returns-2 : tie.Need-returns-2
 returns-2 c =
     let a = c .before .before .args in
-    lays-one (a .from) _ (record { channel = a .channel; octets = a .octets }) _ (now (a .channels)) (now (a .lengths)) (c .before .before .pre) (c .before .if1 .left) (omega arith) refl (omega arith)
+    lays-one (a .from) _ (record { channel = a .channel; octets = a .octets }) _ (now (a .channels)) (now (a .lengths)) (c .before .before .pre)
+    (c .before .if1 .left) (omega arith) refl (omega arith)
 
 returns-3 : tie.Need-returns-3
 returns-3 c =
     let a = c .before .before .args in
-    lays-one (a .from) _ (record { channel = a .channel; octets = a .octets }) _ (now (a .channels)) (now (a .lengths)) (c .before .before .pre) (c .before .if1 .left) (omega arith) refl (omega arith)
+    lays-one (a .from) _ (record { channel = a .channel; octets = a .octets }) _ (now (a .channels)) (now (a .lengths)) (c .before .before .pre)
+    (c .before .if1 .left) (omega arith) refl (omega arith)
 
 pub lay-slot-spec : {M : Type 1} → statement M
 lay-slot-spec =
