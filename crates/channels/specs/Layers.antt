@@ -5,22 +5,29 @@
 --   SendLent          what sending is lent to write to: the channels and the output
 --   sendingTests      what refuses to send a unit on a channel, in this order
 --   sending           how that ends: with its octets written, or a refusal
+--   SendsOn           .. as the function answers it and leaves what it is lent
 --   expectedBy r      the number that is expected next, by what became of a unit
 --   takingTests       what refuses to receive a unit on a channel, in this order
 --   taking            how that ends: with what becomes of it, or a refusal
+--   TakesOn           .. as the function answers it
 --
 -- Assumes nothing.
+use mathlib.Core.Path.{_≡_}
 use mathlib.Core.Bool.{Bool, cond, not}
 use mathlib.Core.List.{List, _∷_}
 use Prim.Native.Nat.{ℕ, _+_, _%_}
 use lib.ListN.{length}
+use denote.Ref.{now}
 use Rattle.octets.specs.Written.{written}
-use Rattle.calls.specs.Refusal.{Ended, leaving, refusing, Test, _when_, checked}
-use Rattle.adaptation.specs.AL2.{whole, sendTests, readTests, Receipt, handedUp, discarded, receiptOf}
+use Rattle.calls.specs.Refusal.{Ended, ended, leaving, refusing, Test, _when_, checked, lengthSays}
+use Rattle.calls.specs.Slices.{Slice}
+use Rattle.adaptation.specs.AL2.{whole, sendTests, unitOf, readTests, Receipt, handedUp, discarded, receiptOf, receivedSays}
 use Rattle.adaptation.specs.declared.al2.Number.{Number}
 use Rattle.adaptation.specs.declared.al2.Number.the-variants.{Numbered, Plain}
 use Rattle.channels.specs.declared.Channel.{Channel}
 use Rattle.channels.specs.declared.Channels.{Channels}
+use Rattle.channels.specs.declared.layers.Sent.{Sent}
+use Rattle.channels.specs.declared.layers.Taken.{Taken}
 use Rattle.channels.specs.Channels.{channelAt, placeOf, isIn, put, numbering}
 
 abbrev pub numberAs : Bool → Channel → Number
@@ -45,6 +52,11 @@ sending x n numbered u =
     checked (refusing x) (sendingTests x n numbered u)
     (leaving (length w) (record { channels = put (x .channels) p (risen numbered c); output = written (x .output) 0 w }))
 
+abbrev pub SendsOn : Channels → (n : ℕ) → (numbered : Bool) → (unit output : Slice) → Sent → Type 0
+SendsOn s n numbered unit output r =
+    ended (lengthSays (r .length)) (record { channels = r .channels; output = now (output .exit) })
+    ≡ sending (record { channels = s; output = now (output .entry) }) n numbered (now (unit .entry))
+
 abbrev pub expectedBy : Receipt → ℕ
 expectedBy (handedUp u missing expected) = expected
 expectedBy (discarded expected) = expected
@@ -58,3 +70,8 @@ taking s n numbered w =
     let c = channelAt s p in
     let r = receiptOf numbered w (c .expected) in
     checked (refusing s) (takingTests s n numbered w) (leaving r (put s p (numbering c (c .sent) (expectedBy r))))
+
+-- the unit that is handed up is a part of the whole w
+abbrev pub TakesOn : Channels → (n : ℕ) → (numbered : Bool) → (w : List ℕ) → Taken → Type 0
+TakesOn s n numbered w r =
+    ended (receivedSays (r .received) (unitOf numbered w) (channelAt s (placeOf s n) .expected)) (r .channels) ≡ taking s n numbered w

@@ -12,13 +12,11 @@ use adaptation::al2::Received;
 use calls::Length;
 ghost use mathlib.Core.Path.{_≡_};
 ghost use Prim.Native.Nat.{_<_};
-ghost use Rattle.calls.specs.Refusal.{ended, lengthSays};
 ghost use Rattle.adaptation.specs.AL1 as passing;
-ghost use Rattle.adaptation.specs.AL2.{unitOf, receivedSays};
 ghost use Rattle.adaptation.specs.Receiving.{Receives};
 ghost use Rattle.channels.specs.Channels as the;
-ghost use Rattle.channels.specs.Channels.{placeOf, channelAt, put};
-ghost use Rattle.channels.specs.Layers.{numberAs, risen, sending, taking};
+ghost use Rattle.channels.specs.Channels.{channelAt, put};
+ghost use Rattle.channels.specs.Layers.{numberAs, risen, SendsOn, TakesOn};
 ghost use Rattle.channels.specs.Parts.{partAt};
 
 // How many octets an AL2 unit was sent in, or document 01's refusal number; and the channels as the call leaves them.
@@ -68,8 +66,7 @@ fn unsent(s: Channels, k: u8) -> Sent
 
 // Puts a unit into the front of out, as AL2 sends it on a channel: refusals 5, 2, 3.
 pub fn send(s: Channels, number: ChannelNumber, numbered: bool, unit: &[u8], out: &mut [u8]) -> Sent
-    ensures { λ r. ⌜ ended (lengthSays (r .length)) (record { channels = r .channels; output = now (out .exit) })
-        ≡ sending (record { channels = s; output = now (out .entry) }) (number .0) numbered (now (unit .entry)) ⌝ }
+    ensures { λ r. ⌜ SendsOn s (number .0) numbered unit out r ⌝ }
 {
     let n = number.0;
     let p = place_of(s, n);
@@ -115,8 +112,7 @@ fn untaken(s: Channels, k: u8) -> Taken
 
 // Receives an AL2 unit on a channel: refusals 5, 2. The unit that is handed up is what al2's `unit` returns.
 pub fn take(s: Channels, number: ChannelNumber, numbered: bool, whole: &[u8]) -> Taken
-    ensures { λ r. ⌜ ended (receivedSays (r .received) (unitOf numbered (now (whole .entry))) (channelAt s (placeOf s (number .0)) .expected)) (r .channels)
-        ≡ taking s (number .0) numbered (now (whole .entry)) ⌝ }
+    ensures { λ r. ⌜ TakesOn s (number .0) numbered (now (whole .entry)) r ⌝ }
 {
     let n = number.0;
     let p = place_of(s, n);
@@ -188,8 +184,7 @@ pub fn al2_at(
     start: usize,
     length: usize,
 ) -> Taken
-    ensures { λ r. ⌜ ended (receivedSays (r .received) (unitOf numbered (partAt (now (output .entry)) start length)) (channelAt s (placeOf s (number .0)) .expected)) (r .channels)
-        ≡ taking s (number .0) numbered (partAt (now (output .entry)) start length) ⌝ }
+    ensures { λ r. ⌜ TakesOn s (number .0) numbered (partAt (now (output .entry)) start length) r ⌝ }
 {
     take(s, number, numbered, unit_at(output, start, length))
 }

@@ -7,7 +7,7 @@ use calls::Outcome;
 ghost use mathlib.Core.Path.{_≡_};
 ghost use Rattle.calls.specs.Refusal.{ended, outcomeSays};
 ghost use Rattle.channels.specs.Channels as the;
-ghost use Rattle.channels.specs.Channels.{freePlace, start, opened, closed, reset, posted};
+ghost use Rattle.channels.specs.Channels.{freePlace, start, opened, closed, reset, Posts};
 
 // How many channels may be open.
 pub const PLACES: usize = 16;
@@ -177,8 +177,7 @@ pub fn post(
     number: ChannelNumber,
     unit: &[u8],
 ) -> After
-    ensures { λ r. ⌜ ended (outcomeSays (r .outcome)) (record { channels = r .channels; octets = now (waiting .exit) })
-        ≡ posted s (now (waiting .entry)) (number .0) (now (unit .entry)) ⌝ }
+    ensures { λ r. ⌜ Posts s waiting (number .0) unit r ⌝ }
 {
     let t = unit.len();
     if t == 0 {

@@ -5,8 +5,9 @@
 --   within-laid        .. where the places are
 --   few-laid           there are no more pieces than places
 --   last-laid          the last place, as the code finds it
---   Kept s d           the delivery d has left as many places and octets held as there were, and each place's kind
---   taken              the pieces leave it so, and the last place holds at most 1,024 octets, where its channel is segmentable
+--   Formed s d         the delivery d has as many places as there are, and as many octets for what is held, and each channel's kind is that of s
+--   tookAll-formed     the pieces leave it so, and the last place holds at most 1,024 octets, where its channel is segmentable
+--   segmentable-place  a segmentable channel's place is one of the 16
 --   Accepted           what refusals 7 and 8 leave, and what the state's form says
 --   mark-near          .. then the mark is on one of the 16 places
 --   mark-exact         .. which holds as many octets as it says
@@ -32,8 +33,8 @@ use Rattle.channels.specs.Channels.{vacant, channelAt, holding, placeCount, all
 use Rattle.channels.proofs.Laws.{vacant-behind}
 use Rattle.multiplex.specs.Pieces.{paired, Piece, laid, lastPlace, total}
 use Rattle.multiplex.specs.Demultiplexer.{Delivery, took, tookAll, hasRoom, fits, nothing}
-use Rattle.multiplex.specs.Tally.{closes, Tells, Room, Exact, Small, Closable}
-use Rattle.multiplex.proofs.Pouring.{closed-tells}
+use Rattle.multiplex.specs.Tally.{closes, Tallies, RoomFor, Exact, InRange, Closable}
+use Rattle.multiplex.proofs.Pouring.{closed-tallies}
 use Rattle.multiplex.proofs.Tallying.{room-held, took-ind, took-channels, fits-split}
 
 -- ---- the places
@@ -65,7 +66,7 @@ last-laid (p ∷ q ∷ ps) (n ∷ m ∷ ls) e =
 
 -- ---- what pieces leave as it was
 
-pub record Kept (s : Channels) (d : Delivery) : Type 0 where
+pub record Formed (s : Channels) (d : Delivery) : Type 0 where
   pub held : length (d .held) ≡ allOctets
   pub places : length (d .channels .at) ≡ placeCount
   pub kind : (k : ℕ) → channelAt (d .channels) k .segmentable ≡ channelAt s k .segmentable
@@ -78,16 +79,16 @@ set-segmentable (x ∷ l) zero c (suc k) e = refl
 set-segmentable (x ∷ l) (suc p) c zero e = refl
 set-segmentable (x ∷ l) (suc p) c (suc k) e = set-segmentable l p c k e
 
-module _ (s : Channels) (d : Delivery) (w : Kept s d) (p : ℕ) (x : List ℕ) (near : p < placeCount) (room : hasRoom (d .channels) p (length x) ≡ true) where
+module _ (s : Channels) (d : Delivery) (w : Formed s d) (p : ℕ) (x : List ℕ) (near : p < placeCount) (room : hasRoom (d .channels) p (length x) ≡ true) where
   abbrev c : Channel
   c = channelAt (d .channels) p
 
   abbrev more : Channel
   more = holding c (c .held + length x)
 
-  took-kept : Kept s (took d p x)
-  took-kept =
-      took-ind d p x (Kept s)
+  took-formed : Formed s (took d p x)
+  took-formed =
+      took-ind d p x (Formed s)
       (λ e. record {
         held = written-length (d .held) (placeOctets * p + c .held) x (omega (arith, room-held c (length x) room e, w .held)) ∙ w .held;
         places = length-set (d .channels .at) p more ∙ w .places;
@@ -119,24 +120,27 @@ module _ (d : Delivery) (q : Piece) (l : List Piece) (xs : List ℕ) (f : fits (
   unfolding total
   rest-enough = omega (arith, length-drop (q .octets) xs)
 
-pub taken : (s : Channels) (d : Delivery) (l : List Piece) (xs : List ℕ) → fits (d .channels) l ≡ true → Placed l → total l ≤ length xs → Kept s d
-    → Kept s (tookAll d l xs) × (channelAt s (lastPlace l) .segmentable ≡ true → channelAt (tookAll d l xs .channels) (lastPlace l) .held ≤ placeOctets)
+pub tookAll-formed : (s : Channels) (d : Delivery) (l : List Piece) (xs : List ℕ) → fits (d .channels) l ≡ true → Placed l → total l ≤ length xs → Formed s d
+    → Formed s (tookAll d l xs) × (channelAt s (lastPlace l) .segmentable ≡ true → channelAt (tookAll d l xs .channels) (lastPlace l) .held ≤ placeOctets)
 unfolding Placed tookAll lastPlace
-taken s d [] xs f w h k = (k, λ g. rw (List·getD-eq-default (d .channels .at) vacant {n = placeCount} (omega (arith, k .places))) zero-le)
-taken s d (q ∷ []) xs f w h k =
+tookAll-formed s d [] xs f w h k = (k, λ g. rw (List·getD-eq-default (d .channels .at) vacant {n = placeCount} (omega (arith, k .places))) zero-le)
+tookAll-formed s d (q ∷ []) xs f w h k =
     let r = first-room d q [] xs f h in
-    (took-kept s d k (q .place) (x d q [] xs f h) (w .0) r, took-within s d k (q .place) (x d q [] xs f h) (w .0) r)
-taken s d (q ∷ r ∷ l) xs f w h k =
-    taken s (took d (q .place) (x d q (r ∷ l) xs f h)) (r ∷ l) (drop (q .octets) xs) (rest-fits d q (r ∷ l) xs f h) (w .1)
-    (rest-enough d q (r ∷ l) xs f h) (took-kept s d k (q .place) (x d q (r ∷ l) xs f h) (w .0) (first-room d q (r ∷ l) xs f h))
+    (took-formed s d k (q .place) (x d q [] xs f h) (w .0) r, took-within s d k (q .place) (x d q [] xs f h) (w .0) r)
+tookAll-formed s d (q ∷ r ∷ l) xs f w h k =
+    tookAll-formed s (took d (q .place) (x d q (r ∷ l) xs f h)) (r ∷ l) (drop (q .octets) xs) (rest-fits d q (r ∷ l) xs f h) (w .1)
+    (rest-enough d q (r ∷ l) xs f h) (took-formed s d k (q .place) (x d q (r ∷ l) xs f h) (w .0) (first-room d q (r ∷ l) xs f h))
 
 -- ---- refusal 7
 
-segmentable-place : (s : Channels) (p : ℕ) → length (s .at) ≡ placeCount → channelAt s p .segmentable ≡ true → Dec (p < placeCount) → p < placeCount
-segmentable-place s p e g (yes h) = h
-segmentable-place s p e g (no h) =
-    let v = vacant-behind s e p (omega arith) in
-    never (cc)
+pub segmentable-place : (s : Channels) (p : ℕ) → length (s .at) ≡ placeCount → channelAt s p .segmentable ≡ true → p < placeCount
+segmentable-place s p e g = by (decLt p placeCount)
+  where
+    by : Dec (p < placeCount) → p < placeCount
+    by (yes h) = h
+    by (no h) =
+        let v = vacant-behind s e p (omega arith) in
+        never (cc)
 
 -- ---- the whole payload
 
@@ -158,11 +162,11 @@ module _ {s : Channels} {h : List ℕ} {mark : Bool} {l : List Piece} {xs : List
   marked : channelAt s p .segmentable ≡ true
   marked = not-false (channelAt s p .segmentable) (rw m at (a .right))
 
-  all : Kept s d × (channelAt s p .segmentable ≡ true → channelAt (d .channels) p .held ≤ placeOctets)
-  all = taken s (nothing s h) l xs (a .fit) (a .placed) (a .enough) (record { held = a .whole; places = a .sixteen; kind = λ k. refl })
+  all : Formed s d × (channelAt s p .segmentable ≡ true → channelAt (d .channels) p .held ≤ placeOctets)
+  all = tookAll-formed s (nothing s h) l xs (a .fit) (a .placed) (a .enough) (record { held = a .whole; places = a .sixteen; kind = λ k. refl })
 
   pub mark-near : p < placeCount
-  mark-near = segmentable-place s p (a .sixteen) marked (decLt p placeCount)
+  mark-near = segmentable-place s p (a .sixteen) marked
 
   mark-held : channelAt (d .channels) p .held ≤ placeOctets
   mark-held = all .1 marked
@@ -172,10 +176,10 @@ module _ {s : Channels} {h : List ℕ} {mark : Bool} {l : List Piece} {xs : List
       length-take-le (channelAt (d .channels) p .held) (drop (placeOctets * p) (d .held))
       (omega (arith, mark-near, mark-held, length-drop (placeOctets * p) (d .held), all .0 .held))
 
-  pub mark-closable : {t : Tally} {o u h' o' u' : List ℕ} → Tells d t → Small t p → Room o u (closes d mark p) → length h' ≡ allOctets
+  pub mark-closable : {t : Tally} {o u h' o' u' : List ℕ} → Tallies d t → InRange t p → RoomFor o u (closes d mark p) → length h' ≡ allOctets
       → length o' ≡ length o → length u' ≡ length u → Closable t p h' o' u'
   mark-closable {t} v small room e f g =
-      let y = closed-tells d t p v mark-exact in
+      let y = closed-tallies d t p v mark-exact in
       let r = rw m at room in
       record {
         small = small;

@@ -4,9 +4,8 @@
 --   room-held                  what has room on a segmentable channel stays within 1,024
 --   took-ind                   what holds of octets joined, and of a finished unit, holds of octets taken
 --   counts t p n               the tally t with one more piece, as the loops count it
---   tells-numbers              whose numbers tell of a delivery, with its channels tells of it
---   tells-next                 .. tells of one more piece taken
---   took-channels              its channels are those of refusal 8's definition
+--   tallies-next               .. tells of one more piece taken
+--   took-channels              the channels with it are those of refusal 8's definition
 --   fits-met, fits-missed, fits-split, fits-end   `fits` by the room of the first piece, and of none
 --   tookAll-most               finished octets and units are at most those that came
 --   piece-at                   the pieces behind place j: the one there and those behind it
@@ -34,7 +33,7 @@ use Rattle.multiplex.specs.declared.demultiplexer.Tally.{Tally}
 use Rattle.channels.specs.Channels.{vacant, channelAt, put, placeOctets}
 use Rattle.multiplex.specs.Pieces.{Piece, piece, laid, total}
 use Rattle.multiplex.specs.Demultiplexer.{Delivery, joined, finished, took, tookAll, nothing, counted, roomIn, hasRoom, fits}
-use Rattle.multiplex.specs.Tally.{joins, atOnce, Tells, Room, InPlaces}
+use Rattle.multiplex.specs.Tally.{joins, atOnce, Tallies, RoomFor, InPlaces}
 use Rattle.multiplex.specs.Units.{listed}
 use Rattle.multiplex.proofs.Slotting.{paired-at}
 
@@ -67,9 +66,6 @@ counts t p n = record {
   units = t .units + atOnce (channelAt (t .channels) p) 1;
 }
 
-pub tells-numbers : {d : Delivery} {t : Tally} → Tells d t → Tells d (record { channels = d .channels; octets = t .octets; units = t .units })
-tells-numbers w = record { channels = refl; octets = w .octets; units = w .units; even = w .even }
-
 counted-is : (s : Channels) (p n : ℕ) → put s p (joins (channelAt s p) n) ≡ counted s p n
 counted-is s p n = by (channelAt s p .segmentable) refl
   where
@@ -84,8 +80,8 @@ module _ (d : Delivery) (p : ℕ) (x : List ℕ) where
   pub took-channels : took d p x .channels ≡ counted (d .channels) p (length x)
   took-channels = took-ind d p x (λ r. r .channels ≡ counted (d .channels) p (length x)) (λ e. rw e) (λ e. rw e)
 
-  pub tells-next : (t : Tally) → Tells d t → Tells (took d p x) (counts t p (length x))
-  tells-next t w = record {
+  pub tallies-next : (t : Tally) → Tallies d t → Tallies (took d p x) (counts t p (length x))
+  tallies-next t w = record {
     channels = rw (w .channels) (counted-is (d .channels) p (length x) ∙ sym took-channels);
     octets =
         took-ind d p x (λ r. counts t p (length x) .octets ≡ length (r .octets))
@@ -152,13 +148,13 @@ pub piece-at : {ps ls : List ℕ} {j : ℕ} → InPlaces ps ls → j < length ps
 piece-at {ps} {ls} {j} w h = paired-at piece ps ls j h (omega (arith, w .same))
 
 pub record Way (s : Channels) (h : List ℕ) (l : List Piece) (xs : List ℕ) (j : ℕ) (t : Tally) (far : Delivery) (rest : List ℕ) : Type 0 where
-  pub tells : Tells far t
+  pub tallies : Tallies far t
   pub onward : tookAll far (drop j l) rest ≡ tookAll (nothing s h) l xs
   pub enough : total (drop j l) ≤ length rest
 
 pub way-none : (s : Channels) (h : List ℕ) (l : List Piece) (xs : List ℕ) → total l ≤ length xs
     → Way s h l xs 0 (record { channels = s; octets = 0; units = 0 }) (nothing s h) xs
-way-none s h l xs k = record { tells = record { channels = refl; octets = refl; units = refl; even = refl }; onward = refl; enough = k }
+way-none s h l xs k = record { tallies = record { channels = refl; octets = refl; units = refl; even = refl }; onward = refl; enough = k }
 
 module _ {s : Channels} {h : List ℕ} {l : List Piece} {xs : List ℕ} {j : ℕ} {t : Tally} {far : Delivery} {rest : List ℕ}
     (w : Way s h l xs j t far rest) where
@@ -173,12 +169,12 @@ module _ {s : Channels} {h : List ℕ} {l : List Piece} {xs : List ℕ} {j : ℕ
     way-next x behind f g =
         let m : length x ≡ n = ap length (sym f) ∙ length-take-le n rest (omega (arith, way-within)) in
         record {
-          tells = subst (λ (k : ℕ). Tells (took far p x) (counts t p k)) m (tells-next far p x t (w .tells));
+          tallies = subst (λ (k : ℕ). Tallies (took far p x) (counts t p k)) m (tallies-next far p x t (w .tallies));
           onward = ap₂ (λ (y b : List ℕ). tookAll (took far p y) (drop (j + 1) l) b) (sym f) (sym g) ∙ rw e at (w .onward);
           enough = omega (arith, way-within, length-drop n rest, ap length g);
         }
 
-  pub way-room : (o u : List ℕ) → Room o u (tookAll (nothing s h) l xs) → Room o u far
+  pub way-room : (o u : List ℕ) → RoomFor o u (tookAll (nothing s h) l xs) → RoomFor o u far
   way-room o u k =
       let b = rw (w .onward) at (tookAll-least far (drop j l) rest) in
       record { output = le-trans (b .0) (k .output); units = le-trans (b .1) (k .units) }

@@ -6,9 +6,7 @@
 use mathlib.Core.Path.{_≡_, refl, sym, ap, ap₂, subst, _∙_}
 use mathlib.Core.Bool.{Bool, true, false, not, _&&_}
 use mathlib.Core.List.{List, [], _++_, flatten}
-use Prim.Native.Nat.{ℕ, _≤_, _<_}
-use native.Mathlib.Decide.{decLt}
-use native.Mathlib.Omega.{arith}
+use Prim.Native.Nat.{ℕ, _≤_}
 use borrow.Author.Tests.{not-false}
 use lib.ListN.{length}
 use Rattle.octets.specs.Tests.{never}
@@ -17,16 +15,17 @@ use Rattle.table.specs.Slots.{Slot, payloadSlots, octetsOf, channelsOf, numbers
 use Rattle.table.proofs.Laws.{payloadSlots-most}
 use Rattle.table.specs.Table.{entryOf}
 use Rattle.channels.specs.declared.Channels.{Channels}
-use Rattle.channels.specs.Channels.{placeOf, channelAt, heldOf, placeCount, allOpen}
+use Rattle.channels.specs.Channels.{placeOf, channelAt, heldOf, allOpen}
 use Rattle.multiplex.specs.Pieces.{Piece, placed, lastPlace}
 use Rattle.multiplex.specs.Demultiplexer.{DemuxLent, Delivery, nothing, fits, tookAll, delivery, writes, demultiplexTests, demultiplexed}
 use Rattle.multiplex.specs.Units.{UnitOn, unitsOn, unitsIn}
 use Rattle.channels.specs.Claims.{Orderly}
 use Rattle.multiplex.specs.Claims.{DemandMet, IdleFails, RefuserFails, goingTo, OctetsOnce, OrderKept}
 use Rattle.calls.proofs.Laws.{by-tests}
-use Rattle.channels.proofs.Laws.{place-seats, vacant-behind}
+use Rattle.channels.proofs.Laws.{place-seats}
 use Rattle.multiplex.proofs.Records.{tells-nothing, tells-read}
 use Rattle.multiplex.proofs.Keeping.{Holds, slots-hold, closed-holds, last-known}
+use Rattle.multiplex.proofs.Closing.{segmentable-place}
 use Rattle.multiplex.proofs.Running as running
 use Rattle.multiplex.proofs.Failing as failing
 
@@ -102,20 +101,13 @@ module _ (x y : DemuxLent) (mark : Bool) (l : List Slot) (xs : List ℕ) (k n : 
   all-taken : Holds s n all (tookAll (nothing s (x .held)) (placed s l) xs)
   all-taken = slots-hold l xs first (a .opened) (a .fitting) most
 
-  -- the closing mark is on a segmentable channel, so on an open one
-  inside : channelAt s (lastPlace (placed s l)) .segmentable ≡ true → Dec (lastPlace (placed s l) < placeCount) → lastPlace (placed s l) < placeCount
-  inside g (yes h) = h
-  inside g (no h) =
-      let v = vacant-behind s (o .full) (lastPlace (placed s l)) (omega arith) in
-      never (cc)
-
   payload-holds : Holds s n all (delivery s (x .held) mark (placed s l) xs)
   unfolding delivery
   payload-holds = by mark (a .marked)
     where
       by : (b : Bool) → (b && not (channelAt s (lastPlace (placed s l)) .segmentable)) ≡ false → Holds s n all (delivery s (x .held) b (placed s l) xs)
       by true e =
-          let h = inside (not-false (channelAt s (lastPlace (placed s l)) .segmentable) e) (decLt (lastPlace (placed s l)) placeCount) in
+          let h = segmentable-place s (lastPlace (placed s l)) (o .full) (not-false (channelAt s (lastPlace (placed s l)) .segmentable) e) in
           let m = last-known s l h in
           closed-holds all-taken (m .0) (lastPlace (placed s l)) (m .1) h
       by false e = all-taken

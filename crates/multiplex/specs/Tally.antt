@@ -2,21 +2,21 @@
 --
 --   Slice              a slice that a call is given, as it comes and as the call leaves it
 --   lent               what the demultiplexer is lent to write to
---   leaves             .. and how the call ends with it
+--   handsBack          .. and how the call ends with it
 --   joins c n          the channel c after n octets came to it
 --   atOnce c k         of k that come to c, how many are finished at once
 --   closes d mark p    the delivery d with what place p holds ended as a unit, where the mark is set
---   Tells d t          the tally t tells how far the delivery d has led
+--   Tallies d t        the tally t tells how far the delivery d has led
 --   Shows o u d ..     what is held, the output and the list of units show the delivery d, written over o and u
 --   Poured             .. and a tally tells it
---   Room o u d         o and u have room for it
+--   RoomFor o u d      o and u have room for it
 --   InPlaces ps ls     pieces of these places and lengths can be looked up
 --   Deliverable        .. and their octets are there, and so is what is held
---   Counts s l r       what the dry run finds out of the pieces l
+--   DryRun s l r       what the dry run finds out of the pieces l
 --   Puts, Takes        what the octets of one piece need to be written, and what they make of a delivery that is shown
 --   Pours, PouredBy    .. and those of all pieces, from the start
 --   Exact d p          place p holds as many octets as its channel says
---   Small t p          the place p is one, and the tally's numbers are small
+--   InRange t p        the place p is one, and the tally's numbers are small
 --   Closable, Finishes   what the closing mark needs, where the unit is written, and what it makes of a delivery that is shown
 --
 -- Assumes nothing.
@@ -47,8 +47,8 @@ Slice = Both (RefT (List ℕ)) (RefT (List ℕ))
 abbrev pub lent : Channels → (held output units : Slice) → DemuxLent
 lent s held output units = record { channels = s; held = now (held .entry); output = now (output .entry); units = now (units .entry) }
 
-abbrev pub leaves : Delivered → (held output units : Slice) → Ended ℕ DemuxLent
-leaves r held output units =
+abbrev pub handsBack : Delivered → (held output units : Slice) → Ended ℕ DemuxLent
+handsBack r held output units =
     ended (finishedSays (r .finished)) (record { channels = r .channels; held = now (held .exit); output = now (output .exit); units = now (units .exit) })
 
 -- ---- how far
@@ -62,7 +62,7 @@ atOnce c k = cond (c .segmentable) 0 k
 abbrev pub closes : Delivery → (mark : Bool) → (p : ℕ) → Delivery
 closes d mark p = cond mark (closed d p) d
 
-pub record Tells (d : Delivery) (t : Tally) : Type 0 where
+pub record Tallies (d : Delivery) (t : Tally) : Type 0 where
   pub channels : t .channels ≡ d .channels
   pub octets : t .octets ≡ length (d .octets)
   pub units : t .units ≡ d .count
@@ -74,10 +74,10 @@ pub record Shows (o u : List ℕ) (d : Delivery) (h o' u' : List ℕ) : Type 0 w
   pub units : u' ≡ written u 0 (d .units)
 
 pub record Poured (o u : List ℕ) (d : Delivery) (t : Tally) (h o' u' : List ℕ) : Type 0 where
-  pub tells : Tells d t
+  pub tallies : Tallies d t
   pub shows : Shows o u d h o' u'
 
-pub record Room (o u : List ℕ) (d : Delivery) : Type 0 where
+pub record RoomFor (o u : List ℕ) (d : Delivery) : Type 0 where
   pub output : length (d .octets) ≤ length o
   pub units : length (d .units) ≤ length u
 
@@ -95,9 +95,9 @@ pub record Deliverable (ps ls xs h : List ℕ) : Type 0 where
   pub whole : length h ≡ allOctets
 
 -- the dry run is given neither the payload nor what is held: it tells of all
-pub record Counts (s : Channels) (l : List Piece) (r : Counted) : Type 0 where
+pub record DryRun (s : Channels) (l : List Piece) (r : Counted) : Type 0 where
   pub fit : r .fits ≡ fits s l
-  pub tells : r .fits ≡ true → (h xs : List ℕ) → total l ≤ length xs → Tells (tookAll (nothing s h) l xs) (r .tally)
+  pub tallies : r .fits ≡ true → (h xs : List ℕ) → total l ≤ length xs → Tallies (tookAll (nothing s h) l xs) (r .tally)
 
 pub record Puts (c : Channel) (p octets count : ℕ) (h o u x : List ℕ) : Type 0 where
   pub near : p < placeCount
@@ -110,14 +110,14 @@ pub record Puts (c : Channel) (p octets count : ℕ) (h o u x : List ℕ) : Type
   pub whole : length h ≡ allOctets
 
 pub record Takes (c : Channel) (p octets count : ℕ) (x : List ℕ) (held output units : Slice) : Type 0 where
-  pub more : {o u : List ℕ} {d : Delivery} → channelAt (d .channels) p ≡ c → Tells d (record { channels = d .channels; octets = octets; units = count })
-      → Room o u d → Shows o u d (now (held .entry)) (now (output .entry)) (now (units .entry))
+  pub more : {o u : List ℕ} {d : Delivery} {s : Channels} → channelAt s p ≡ c → Tallies d (record { channels = s; octets = octets; units = count })
+      → RoomFor o u d → Shows o u d (now (held .entry)) (now (output .entry)) (now (units .entry))
       → Shows o u (took d p x) (now (held .exit)) (now (output .exit)) (now (units .exit))
 
 pub record Pours (s : Channels) (h ps ls xs o u : List ℕ) : Type 0 where
   pub given : Deliverable ps ls xs h
   pub fit : fits s (laid ps ls) ≡ true
-  pub room : Room o u (tookAll (nothing s h) (laid ps ls) xs)
+  pub room : RoomFor o u (tookAll (nothing s h) (laid ps ls) xs)
 
 abbrev pub PouredBy : Channels → (held places lengths payload output units : Slice) → Tally → Type 0
 PouredBy s held places lengths payload output units t =
@@ -130,18 +130,18 @@ PouredBy s held places lengths payload output units t =
 abbrev pub Exact : Delivery → (p : ℕ) → Type 0
 Exact d p = length (heldOf (d .channels) (d .held) p) ≡ channelAt (d .channels) p .held
 
-pub record Small (t : Tally) (p : ℕ) : Type 0 where
+pub record InRange (t : Tally) (p : ℕ) : Type 0 where
   pub near : p < placeCount
   pub octets : t .octets < 65536
   pub units : t .units < 65536
 
 pub record Closable (t : Tally) (p : ℕ) (h o u : List ℕ) : Type 0 where
-  pub small : Small t p
+  pub small : InRange t p
   pub within : channelAt (t .channels) p .held ≤ placeOctets
   pub whole : length h ≡ allOctets
   pub output : t .octets + channelAt (t .channels) p .held ≤ length o
   pub units : 3 * (t .units + 1) ≤ length u
 
 pub record Finishes (mark : Bool) (p : ℕ) (t : Tally) (held output units : Slice) (t₁ : Tally) : Type 0 where
-  pub more : {o u : List ℕ} {d : Delivery} → Room o u d → Poured o u d t (now (held .entry)) (now (output .entry)) (now (units .entry))
+  pub more : {o u : List ℕ} {d : Delivery} → RoomFor o u d → Poured o u d t (now (held .entry)) (now (output .entry)) (now (units .entry))
       → Poured o u (closes d mark p) t₁ (now (held .entry)) (now (output .exit)) (now (units .exit))

@@ -19,8 +19,8 @@ ghost use Rattle.table.specs.Table.{highestCode, longestPayload, entryOf};
 ghost use Rattle.channels.specs.Channels.{placeCount, allOctets, channelAt};
 ghost use Rattle.multiplex.specs.Pieces.{laid};
 ghost use Rattle.multiplex.specs.Demultiplexer.{Delivery, roomIn, delivered, sorted, demultiplexed, finishedSays};
-ghost use Rattle.multiplex.specs.Tally.{joins, atOnce, closes, Tells, InPlaces, Deliverable, Counts, Puts, Takes, Pours, PouredBy};
-ghost use Rattle.multiplex.specs.Tally.{lent, leaves, Exact, Small, Closable, Finishes};
+ghost use Rattle.multiplex.specs.Tally.{joins, atOnce, closes, Tallies, InPlaces, Deliverable, DryRun, Puts, Takes, Pours, PouredBy};
+ghost use Rattle.multiplex.specs.Tally.{lent, handsBack, Exact, InRange, Closable, Finishes};
 ghost use Rattle.multiplex.specs.Units.{listed};
 
 // How many units are finished, or document 01's refusal number.
@@ -88,7 +88,7 @@ fn at_once(c: Channel, k: usize) -> usize
     if c.segmentable { 0 } else { k }
 }
 
-// What the dry run tells.
+// What the dry run tallies.
 fn told(fits: bool, channels: Channels, octets: usize, units: usize) -> Counted
     ensures { λ r. ⌜ r ≡ record { fits = fits; tally = record { channels = channels; octets = octets; units = units } } ⌝ }
 {
@@ -103,7 +103,7 @@ fn told(fits: bool, channels: Channels, octets: usize, units: usize) -> Counted
 // The dry run: every piece, by value.
 fn count_all(s: Channels, places: &[u16], lengths: &[u16]) -> Counted
     requires { ⌜ InPlaces (now places) (now lengths) ⌝ }
-    ensures { λ r. ⌜ Counts s (laid (now (places .entry)) (now (lengths .entry))) r ⌝ }
+    ensures { λ r. ⌜ DryRun s (laid (now (places .entry)) (now (lengths .entry))) r ⌝ }
 {
     let mut cur = s;
     let mut octets = 0;
@@ -197,8 +197,8 @@ fn pour(
 
 // Ends the unit that place p holds, where the mark is set, by value.
 fn close(t: Tally, mark: bool, p: usize) -> Tally
-    requires { ⌜ (mark ≡ true → Small t p) ⌝ }
-    ensures { λ r. ⌜ ((d : Delivery) → Tells d t → (mark ≡ true → Exact d p) → Tells (closes d mark p) r) ⌝ }
+    requires { ⌜ (mark ≡ true → InRange t p) ⌝ }
+    ensures { λ r. ⌜ ((d : Delivery) → Tallies d t → (mark ≡ true → Exact d p) → Tallies (closes d mark p) r) ⌝ }
 {
     if mark {
         let mut s = t.channels;
@@ -279,7 +279,7 @@ fn deliver(
     units: &mut [u16],
 ) -> Delivered
     requires { ⌜ Deliverable (now places) (now lengths) (now payload) (now held) ⌝ }
-    ensures { λ r. ⌜ leaves r held output units
+    ensures { λ r. ⌜ handsBack r held output units
         ≡ delivered (lent s held output units) mark (laid (now (places .entry)) (now (lengths .entry))) (now (payload .entry)) ⌝ }
 {
     let last = last_place(places);
@@ -317,7 +317,7 @@ fn sort(
     units: &mut [u16],
 ) -> Delivered
     requires { ⌜ (length (now payload) ≤ longestPayload) × (code .0 ≤ highestCode) × (length (now held) ≡ allOctets) ⌝ }
-    ensures { λ r. ⌜ leaves r held output units ≡ sorted (lent s held output units)
+    ensures { λ r. ⌜ handsBack r held output units ≡ sorted (lent s held output units)
         mark (payloadSlots (entryOf (now (table .entry)) (code .0)) (length (now (payload .entry)))) (now (payload .entry)) ⌝ }
 {
     let mut places = [0u16; LONGEST_PAYLOAD];

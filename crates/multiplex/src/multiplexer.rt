@@ -13,13 +13,12 @@ ghost use mathlib.Core.Path.{_≡_};
 ghost use Prim.Native.Nat.{_-_, _≤_};
 ghost use lib.ListN.{length, take};
 ghost use Rattle.octets.specs.Written.{written};
-ghost use Rattle.calls.specs.Refusal.{ended};
 ghost use Rattle.channels.specs.Channels as the;
-ghost use Rattle.multiplex.specs.Pieces.{laid, total};
+ghost use Rattle.multiplex.specs.Pieces.{laid};
 ghost use Rattle.table.specs.Slots.{payloadSlots};
 ghost use Rattle.table.specs.Table.{highestCode, longestPayload, entryOf};
-ghost use Rattle.multiplex.specs.Multiplexer.{walked, gathered, packed, multiplexed, madeSays};
-ghost use Rattle.multiplex.specs.Walks.{turned, slotted, Sendable, WalkIs};
+ghost use Rattle.multiplex.specs.Multiplexer.{walked, gathered, packed, multiplexed};
+ghost use Rattle.multiplex.specs.Walks.{turned, slotted, WalkIs, Gatherable, makes, leavesMade};
 
 // A payload's octets and closing mark, or document 01's refusal number.
 pub enum Made {
@@ -154,8 +153,9 @@ fn gather(
     lengths: &[u16],
     payload: &mut [u8],
 )
-    requires { ⌜ (length (now waiting) ≡ the.allOctets) × (n ≤ length (now places)) × (n ≤ length (now lengths)) × Sendable s (laid (take n (now places)) (take n (now lengths))) × (total (laid (take n (now places)) (take n (now lengths))) ≤ length (now payload)) ⌝ }
-    ensures { λ _. ⌜ now (payload .exit) ≡ written (now (payload .entry)) 0 (gathered s (now (waiting .entry)) (laid (take n (now (places .entry))) (take n (now (lengths .entry))))) ⌝ }
+    requires { ⌜ Gatherable s n (now waiting) (now places) (now lengths) (now payload) ⌝ }
+    ensures { λ _. ⌜ now (payload .exit) ≡ written (now (payload .entry)) 0
+        (gathered s (now (waiting .entry)) (laid (take n (now (places .entry))) (take n (now (lengths .entry))))) ⌝ }
 {
     let mut cur = s;
     let mut at = 0;
@@ -189,8 +189,7 @@ fn pack(
     payload: &mut [u8],
 ) -> Multiplexed
     requires { ⌜ (room ≤ longestPayload) × (code .0 ≤ highestCode) × (room ≤ length (now payload)) ⌝ }
-    ensures { λ r. ⌜ ended (madeSays (r .made)) (record { channels = r .channels; payload = now (payload .exit) })
-        ≡ packed (record { channels = s; payload = now (payload .entry) }) (now (waiting .entry)) (walked s (payloadSlots (entryOf (now (table .entry)) (code .0)) room)) ⌝ }
+    ensures { λ r. ⌜ leavesMade r payload ≡ packed (makes s payload) (now (waiting .entry)) (walked s (payloadSlots (entryOf (now (table .entry)) (code .0)) room)) ⌝ }
 {
     let mut places = [0u16; LONGEST_PAYLOAD];
     let mut lengths = [0u16; LONGEST_PAYLOAD];
@@ -221,8 +220,7 @@ pub fn multiplex(
     room: usize,
     payload: &mut [u8],
 ) -> Multiplexed
-    ensures { λ r. ⌜ ended (madeSays (r .made)) (record { channels = r .channels; payload = now (payload .exit) })
-        ≡ multiplexed (record { channels = s; payload = now (payload .entry) }) (now (waiting .entry)) (now (table .entry)) (code .0) room ⌝ }
+    ensures { λ r. ⌜ leavesMade r payload ≡ multiplexed (makes s payload) (now (waiting .entry)) (now (table .entry)) (code .0) room ⌝ }
 {
     if LONGEST_PAYLOAD < room {
         return refused(s, 2);

@@ -3,13 +3,16 @@
 --   Room from channels lengths      there is a place for each octet that is left
 --   Lays from new to ..             the slots new are laid down: how many there are now, which octets of the payload are left,
 --                                   and what the two lists, before and after, hold
+--   LaysInto from new to ..         .. of two lists that a call is lent
 --
 -- Assumes nothing.
 use mathlib.Core.Path.{_≡_}
 use mathlib.Core.List.{List}
 use Prim.Native.Nat.{ℕ, _+_, _-_, _≤_}
 use lib.ListN.{length}
+use denote.Ref.{now}
 use Rattle.octets.specs.Written.{written}
+use Rattle.calls.specs.Slices.{Slice}
 use Rattle.table.specs.declared.walk.Laid.{Laid}
 use Rattle.table.specs.Slots.{Slot, octetsOf, numbersOf, lengthsOf}
 
@@ -22,3 +25,6 @@ pub record Lays (from : Laid) (new : List Slot) (to : Laid) (channels₀ lengths
   pub left : to .left ≡ from .left - octetsOf new
   pub channels : channels₁ ≡ written channels₀ (from .count) (numbersOf new)
   pub lengths : lengths₁ ≡ written lengths₀ (from .count) (lengthsOf new)
+
+abbrev pub LaysInto : Laid → List Slot → Laid → (channels lengths : Slice) → Type 0
+LaysInto from new to channels lengths = Lays from new to (now (channels .entry)) (now (lengths .entry)) (now (channels .exit)) (now (lengths .exit))

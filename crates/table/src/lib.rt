@@ -11,7 +11,7 @@ ghost use Rattle.calls.specs.Refusal.{ended, outcomeSays};
 ghost use Rattle.table.specs.Form.{longestEntry};
 ghost use Rattle.table.specs.Table.{highestCode, longestPayload, entryOf, isDefined, replaced};
 ghost use Rattle.table.specs.Slots as slotted;
-ghost use Rattle.table.specs.Lays.{Lays};
+ghost use Rattle.table.specs.Lays.{LaysInto};
 
 // A multiplex code: which entry of the table a payload is laid out by. It is no channel number.
 pub struct Code(pub u32);
@@ -59,7 +59,7 @@ pub fn payload_slots(
     lengths: &mut [u16; LONGEST_PAYLOAD],
 ) -> Laid
     requires { ⌜ (n ≤ longestPayload) × (code .0 ≤ highestCode) ⌝ }
-    ensures { λ r. ⌜ Lays (record { count = 0; left = n }) (slotted.payloadSlots (entryOf (now (table .entry)) (code .0)) n) r (now (channels .entry)) (now (lengths .entry)) (now (channels .exit)) (now (lengths .exit)) ⌝ }
+    ensures { λ r. ⌜ LaysInto (record { count = 0; left = n }) (slotted.payloadSlots (entryOf (now (table .entry)) (code .0)) n) r channels lengths ⌝ }
 {
     let c = code.0;
     if c == 0 {

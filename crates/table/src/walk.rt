@@ -6,7 +6,7 @@ ghost use mathlib.Core.List.{[], _∷_};
 ghost use Prim.Native.Nat.{_+_, _≤_};
 ghost use lib.ListN.{length, getD};
 ghost use Rattle.table.specs.Slots.{passes, copies, skip, elementSlots, listSlots, cut, payloadSlots};
-ghost use Rattle.table.specs.Lays.{Room, Lays};
+ghost use Rattle.table.specs.Lays.{Room, LaysInto};
 
 // The passes of what repeats until closing: as many as the longest payload has octets.
 pub const ENDLESS: u16 = 255;
@@ -57,7 +57,7 @@ fn lay_slot(
     from: Laid,
 ) -> Laid
     requires { ⌜ Room from (now channels) (now lengths) ⌝ }
-    ensures { λ r. ⌜ Lays from (cut (from .left) (record { channel = channel; octets = octets } ∷ [])) r (now (channels .entry)) (now (lengths .entry)) (now (channels .exit)) (now (lengths .exit)) ⌝ }
+    ensures { λ r. ⌜ LaysInto from (cut (from .left) (record { channel = channel; octets = octets } ∷ [])) r channels lengths ⌝ }
 {
     let left = from.left;
     if left == 0 {
@@ -85,7 +85,7 @@ fn lay_element(
     from: Laid,
 ) -> Laid
     requires { ⌜ Room from (now channels) (now lengths) ⌝ }
-    ensures { λ r. ⌜ Lays from (cut (from .left) (elementSlots (now (s .entry)) depth at)) r (now (channels .entry)) (now (lengths .entry)) (now (channels .exit)) (now (lengths .exit)) ⌝ }
+    ensures { λ r. ⌜ LaysInto from (cut (from .left) (elementSlots (now (s .entry)) depth at)) r channels lengths ⌝ }
 {
     let repeat = number(s, at, 0);
     let n = times(repeat);
@@ -112,7 +112,7 @@ fn lay_passes(
     from: Laid,
 ) -> Laid
     requires { ⌜ Room from (now channels) (now lengths) ⌝ }
-    ensures { λ r. ⌜ Lays from (cut (from .left) (copies n (listSlots (now (s .entry)) depth count at))) r (now (channels .entry)) (now (lengths .entry)) (now (channels .exit)) (now (lengths .exit)) ⌝ }
+    ensures { λ r. ⌜ LaysInto from (cut (from .left) (copies n (listSlots (now (s .entry)) depth count at))) r channels lengths ⌝ }
 {
     let mut laid = from;
     let mut t = 0;
@@ -139,7 +139,7 @@ fn lay_list(
     from: Laid,
 ) -> Laid
     requires { ⌜ Room from (now channels) (now lengths) ⌝ }
-    ensures { λ r. ⌜ Lays from (cut (from .left) (listSlots (now (s .entry)) depth count at)) r (now (channels .entry)) (now (lengths .entry)) (now (channels .exit)) (now (lengths .exit)) ⌝ }
+    ensures { λ r. ⌜ LaysInto from (cut (from .left) (listSlots (now (s .entry)) depth count at)) r channels lengths ⌝ }
 {
     let mut laid = from;
     let mut place = at;
@@ -159,7 +159,7 @@ fn lay_list(
 // The slots of a payload of n octets under entry s.
 pub fn lay(s: &[u16], n: usize, channels: &mut [u16], lengths: &mut [u16]) -> Laid
     requires { ⌜ (n ≤ length (now channels)) × (n ≤ length (now lengths)) ⌝ }
-    ensures { λ r. ⌜ Lays (record { count = 0; left = n }) (payloadSlots (now (s .entry)) n) r (now (channels .entry)) (now (lengths .entry)) (now (channels .exit)) (now (lengths .exit)) ⌝ }
+    ensures { λ r. ⌜ LaysInto (record { count = 0; left = n }) (payloadSlots (now (s .entry)) n) r channels lengths ⌝ }
 {
     let count = number(s, 0, 0);
     let from = Laid { count: 0, left: n };

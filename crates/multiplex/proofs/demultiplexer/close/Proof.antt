@@ -1,7 +1,7 @@
 -- `demultiplexer::close` meets its contract. Assumes nothing.
 use borrow.Author.Needs.{needs}
 use native.Mathlib.Omega.{arith}
-use Rattle.multiplex.proofs.Pouring.{closed-tells}
+use Rattle.multiplex.proofs.Pouring.{closed-tallies}
 use Rattle.multiplex.proofs.demultiplexer.close.Statement.{statement}
 use Rattle.multiplex.proofs.demultiplexer.close.Tie as tie
 
@@ -9,7 +9,7 @@ returns : tie.Need-returns
 returns c =
     let a = c .before .before .before .before .before .before .args in
     let m = c .before .before .before .before .before .if1 .taken in
-    λ d w e. rw m (closed-tells d (a .t) (a .p) w (e m))
+    λ d w e. rw m (closed-tallies d (a .t) (a .p) w (e m))
 
 pub close-spec : {M : Type 1} → statement M
 close-spec =

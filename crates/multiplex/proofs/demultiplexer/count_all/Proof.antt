@@ -87,7 +87,7 @@ returns c =
     let i = c .before .before .before .before .before .before in
     let missed = fits-missed (i .before .loop .cur) (place i) (more i) (here i) in
     let full = sym (c .before .before .has-room .ensures) ∙ c .before .if1 .left in
-    rw (c .told .ensures) (record { fit = sym (i .before .loop .inv .0 ∙ missed full); tells = λ e. absurd (true≢false (sym e)) })
+    rw (c .told .ensures) (record { fit = sym (i .before .loop .inv .0 ∙ missed full); tallies = λ e. absurd (true≢false (sym e)) })
 
 returns-2 : tie.Need-returns-2 Inv-loop μ-loop
 returns-2 c =
@@ -96,7 +96,7 @@ returns-2 c =
     let end = paired-end piece (now (a .places)) (now (a .lengths)) (o .j) (c .before .loop-test .left) in
     rw (c .told2 .ensures) (record {
       fit = sym (o .inv .0 ∙ fits-end (o .cur) end);
-      tells = λ e h xs k. let w = o .inv .1 h xs k in rw (way-all (w .2) end) at (w .2 .tells);
+      tallies = λ e h xs k. let w = o .inv .1 h xs k in rw (way-all (w .2) end) at (w .2 .tallies);
     })
 
 pub count-all-spec : {M : Type 1} → statement M

@@ -13,7 +13,7 @@ use Rattle.channels.specs.Channels.{channelAt}
 use Rattle.multiplex.specs.declared.demultiplexer.Tally.{Tally}
 use Rattle.multiplex.specs.Pieces.{Piece, laid, lastPlace}
 use Rattle.multiplex.specs.Demultiplexer.{Delivery, DemuxLent, fits, nothing, tookAll, delivery, tooSmall, delivered}
-use Rattle.multiplex.specs.Tally.{closes, Tells, Room, Exact, Small, Closable}
+use Rattle.multiplex.specs.Tally.{closes, Tallies, RoomFor, Exact, InRange, Closable}
 use Rattle.multiplex.proofs.Tallying.{tookAll-most}
 use Rattle.multiplex.proofs.Pouring.{closes-least, leaving-shown}
 use Rattle.multiplex.proofs.Closing.{within-laid, few-laid, last-laid, Accepted, mark-near, mark-exact, mark-closable}
@@ -60,8 +60,8 @@ module _ (c : tie.Then2) where
   abbrev whole : Delivery
   whole = closes all (mark w) (lastPlace (l w))
 
-  tells : Tells all (c .before .count-all .result .tally)
-  tells = c .before .count-all .ensures .tells (c .if2 .taken) (h w) (xs w) (from w .pre .enough)
+  tallies : Tallies all (c .before .count-all .result .tally)
+  tallies = c .before .count-all .ensures .tallies (c .if2 .taken) (h w) (xs w) (from w .pre .enough)
 
   fit : fits (from w .args .s) (l w) ≡ true
   fit = sym (c .before .count-all .ensures .fit) ∙ c .if2 .taken
@@ -85,7 +85,7 @@ module _ (c : tie.Then2) where
       let k = few-laid (now (from w .args .places)) (now (from w .args .lengths)) in
       (omega (arith, m .0, from w .pre .enough, from w .pre .short), omega (arith, m .1, k, from w .pre .pieces .few))
 
-  small : {t : Tally} → Tells all t → mark w ≡ true → Small t (lastPlace (l w))
+  small : {t : Tally} → Tallies all t → mark w ≡ true → InRange t (lastPlace (l w))
   small v m = record {
     near = mark-near accepted m;
     octets = omega (arith, v .octets, few .0);
@@ -103,14 +103,14 @@ module _ (c : tie.After-close) where
   abbrev k : tie.Then2
   k = c .before .before
 
-  close-tells : Tells (whole k) (c .close .result)
-  close-tells = (rw (last-is (w k)) at (c .close .ensures)) (all k) (tells k) (exact k)
+  close-tallies : Tallies (whole k) (c .close .result)
+  close-tallies = (rw (last-is (w k)) at (c .close .ensures)) (all k) (tallies k) (exact k)
 
   close-units : 3 * c .close .result .units ≡ length (whole k .units)
-  close-units = omega (arith, close-tells .units, close-tells .even)
+  close-units = omega (arith, close-tallies .units, close-tallies .even)
 
   close-most : c .close .result .units ≤ 256
-  close-most = omega (arith, close-tells .units, closes-least (all k) (mark (w k)) (lastPlace (l (w k))) .2, few k .1)
+  close-most = omega (arith, close-tallies .units, closes-least (all k) (mark (w k)) (lastPlace (l (w k))) .2, few k .1)
 
 -- ---- what is lent has room for them
 
@@ -124,13 +124,13 @@ module _ (c : tie.Else4) where
   abbrev u : List ℕ
   u = now (from (w i) .args .units)
 
-  room : Room o u (whole i)
+  room : RoomFor o u (whole i)
   room = record {
-    output = omega (arith, close-tells (c .before .before .before .before) .octets, c .before .before .if3 .left);
+    output = omega (arith, close-tallies (c .before .before .before .before) .octets, c .before .before .if3 .left);
     units = omega (arith, close-units (c .before .before .before .before), c .if4 .left);
   }
 
-  room-all : Room o u (all i)
+  room-all : RoomFor o u (all i)
   room-all =
       let m = closes-least (all i) (mark (w i)) (lastPlace (l (w i))) in
       record { output = omega (arith, m .0, room .output); units = omega (arith, m .1, room .units) }
@@ -144,7 +144,7 @@ module _ (c : tie.After-pour) where
   closable m =
       let f = from (w (i e)) in
       let kept = c .pour .kept .1 in
-      let v = c .pour .ensures .tells in
+      let v = c .pour .ensures .tallies in
       mark-closable (accepted (i e)) m v (small (i e) v m) (room e) (kept .0 ∙ f .pre .whole) (kept .1 .1 .1 .1 .0) (kept .1 .1 .1 .1 .1 .0)
 
 returns : tie.Need-returns
@@ -153,20 +153,20 @@ returns c =
     rw (c .refused .ensures) (sym (delivered-mark (lent k) (mark k) (l k) (xs k) (sym (wrong-is k) ∙ c .before .if1 .taken)))
 
 close-requires : tie.Need-close-requires
-close-requires c κs m = rw (last-is (w (c .before))) (small (c .before) (tells (c .before)) m)
+close-requires c κs m = rw (last-is (w (c .before))) (small (c .before) (tallies (c .before)) m)
 
 returns-2 : tie.Need-returns-2
 returns-2 c =
     let k = c .before .before .before .before .before in
     let a = from (w k) .args in
-    let lack : length (now (a .output)) < length (whole k .octets) = omega (arith, close-tells (c .before .before .before) .octets, c .before .if3 .taken) in
+    let lack : length (now (a .output)) < length (whole k .octets) = omega (arith, close-tallies (c .before .before .before) .octets, c .before .if3 .taken) in
     rw (c .refused2 .ensures) (sym (lacking k (small-octets (whole k) (now (a .output)) (now (a .units)) lack)))
 
 returns-3 : tie.Need-returns-3
 returns-3 c =
     let e = c .before .before .before .before .before in
     let a = from (w (k e)) .args in
-    let enough : length (whole (k e) .octets) ≤ length (now (a .output)) = omega (arith, close-tells e .octets, c .before .before .before .if3 .left) in
+    let enough : length (whole (k e) .octets) ≤ length (now (a .output)) = omega (arith, close-tallies e .octets, c .before .before .before .if3 .left) in
     let lack : length (now (a .units)) < length (whole (k e) .units) = omega (arith, close-units e, c .before .if4 .taken) in
     rw (c .refused3 .ensures) (sym (lacking (k e) (small-units (whole (k e)) (now (a .output)) (now (a .units)) enough lack)))
 

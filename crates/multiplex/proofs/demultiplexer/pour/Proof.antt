@@ -15,9 +15,9 @@ use Rattle.multiplex.specs.declared.demultiplexer.Tally.{Tally}
 use Rattle.channels.specs.Channels.{channelAt, placeCount}
 use Rattle.multiplex.specs.Pieces.{Piece, piece, laid}
 use Rattle.multiplex.specs.Demultiplexer.{Delivery, nothing, took, roomIn, fits}
-use Rattle.multiplex.specs.Tally.{Shows, Room}
+use Rattle.multiplex.specs.Tally.{Shows, RoomFor}
 use Rattle.multiplex.proofs.Slotting.{paired-end}
-use Rattle.multiplex.proofs.Tallying.{at-once-most, piece-at, counts, tells-numbers, fits-met, fits-split}
+use Rattle.multiplex.proofs.Tallying.{at-once-most, piece-at, counts, fits-met, fits-split}
 use Rattle.multiplex.proofs.Tallying.{Way, way-none, way-within, way-next, way-room, way-all}
 use Rattle.multiplex.proofs.Pouring.{part-exact, part-length}
 use Rattle.multiplex.proofs.demultiplexer.pour.Statement.{statement}
@@ -100,7 +100,7 @@ module _ (c : tie.In-loop Inv-loop μ-loop) where
   next =
       way-next (inv .way) place more here _ _ (sym (part-exact xs at more)) (drop-drop more at xs)
 
-  next-room : Room (now (from .args .output)) (now (from .args .units)) further
+  next-room : RoomFor (now (from .args .output)) (now (from .args .units)) further
   next-room = way-room next (now (from .args .output)) (now (from .args .units)) (from .pre .room)
 
 loop-holds : tie.Need-loop-holds Inv-loop μ-loop
@@ -137,8 +137,8 @@ put-requires c κs =
       room = rw e (room i);
       octets-small = search needs;
       count-small = search needs;
-      output = rw e (omega (arith, next i .tells .octets, next-room i .output, inv i .same-output));
-      units = omega (arith, next i .tells .units, next i .tells .even, next-room i .units, inv i .same-units);
+      output = rw e (omega (arith, next i .tallies .octets, next-room i .output, inv i .same-output));
+      units = omega (arith, next i .tallies .units, next i .tallies .even, next-room i .units, inv i .same-units);
       whole = inv i .same-held ∙ from i .pre .given .whole;
     }
 
@@ -169,14 +169,13 @@ loop-again c =
     let a = from i .args in
     let wrote = c .before .before .before .before .before .before .before .before .before .put in
     let kept = wrote .kept .1 .1 .1 .1 in
-    let there : channelAt (inv i .far .channels) (place i) ≡ on i = ap (λ (s : Channels). channelAt s (place i)) (sym (w .tells .channels)) in
     let so-far = way-room w (now (a .output)) (now (a .units)) (from i .pre .room) in
     rw (c .before .before .join .ensures, c .before .at-once .ensures, c .at-once2 .ensures) (
       search needs,
       record {
         far = further i;
         way = next i;
-        shows = wrote .ensures .more there (tells-numbers (w .tells)) so-far (inv i .shows);
+        shows = wrote .ensures .more refl (w .tallies) so-far (inv i .shows);
         fit = sym (fits-met (t i .channels) (place i) (more i) (here i) (room i)) ∙ inv i .fit;
         within = ends-within i;
         octets-most = omega (arith, at-once-most (on i) (more i), inv i .octets-most);
@@ -194,7 +193,7 @@ returns c =
     let end = paired-end piece (now (a .places)) (now (a .lengths)) (o .j) (c .loop-test .left) in
     let w = o .inv .1 .way in
     let d = way-all w end in
-    record { tells = rw d at (w .tells); shows = rw d at (o .inv .1 .shows) }
+    record { tallies = rw d at (w .tallies); shows = rw d at (o .inv .1 .shows) }
 
 pub pour-spec : {M : Type 1} → statement M
 pour-spec =
