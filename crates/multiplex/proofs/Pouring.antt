@@ -18,12 +18,13 @@ use lib.ListN.{length, take, drop, length-append, length-drop}
 use lib.Seq.{length-take-le}
 use denote.Ref.{now}
 use Rattle.octets.specs.Written.{written, written-next}
+use Rattle.calls.specs.Slices.{Slice}
 use Rattle.calls.specs.Refusal.{leaving}
 use Rattle.channels.specs.declared.Channel.{Channel}
 use Rattle.multiplex.specs.declared.demultiplexer.Tally.{Tally}
 use Rattle.channels.specs.Channels.{channelAt, put, holding, heldOf, placeOctets}
 use Rattle.multiplex.specs.Demultiplexer.{Delivery, DemuxLent, finished, closed, writes}
-use Rattle.multiplex.specs.Tally.{Slice, closes, Tallies, Shows, RoomFor, Takes, Poured, Exact, Finishes}
+use Rattle.multiplex.specs.Tally.{closes, Tallies, Shows, RoomFor, Takes, Poured, Exact, Finishes}
 use Rattle.multiplex.specs.Units.{listed}
 
 module _ (xs : List ℕ) (at n : ℕ) where

@@ -7,7 +7,8 @@
 --   tallies-next               .. tells of one more piece taken
 --   took-channels              the channels with it are those of refusal 8's definition
 --   fits-met, fits-missed, fits-split, fits-end   `fits` by the room of the first piece, and of none
---   tookAll-most               finished octets and units are at most those that came
+--   Grows d r n k              the delivery r has what d has finished, and at most n octets and k units more
+--   tookAll-grows              .. at most the octets and pieces that came
 --   piece-at                   the pieces behind place j: the one there and those behind it
 --   Way                        what the first j pieces lead to, the octets behind them, and the whole by those
 --   way-none, way-next, way-all   .. at the start, after one more piece, and after all
@@ -66,6 +67,12 @@ counts t p n = record {
   units = t .units + atOnce (channelAt (t .channels) p) 1;
 }
 
+pub record Grows (d r : Delivery) (n k : ℕ) : Type 0 where
+  pub octets-least : length (d .octets) ≤ length (r .octets)
+  pub units-least : length (d .units) ≤ length (r .units)
+  pub octets-most : length (r .octets) ≤ length (d .octets) + n
+  pub count-most : r .count ≤ d .count + k
+
 counted-is : (s : Channels) (p n : ℕ) → put s p (joins (channelAt s p) n) ≡ counted s p n
 counted-is s p n = by (channelAt s p .segmentable) refl
   where
@@ -92,15 +99,14 @@ module _ (d : Delivery) (p : ℕ) (x : List ℕ) where
     even = took-ind d p x (λ r. length (r .units) ≡ 3 * r .count) (λ e. w .even) (λ e. length-append (d .units) units ∙ omega (arith, w .even));
   }
 
-  took-least : (length (d .octets) ≤ length (took d p x .octets)) × (length (d .units) ≤ length (took d p x .units))
-  took-least =
-      took-ind d p x (λ r. (length (d .octets) ≤ length (r .octets)) × (length (d .units) ≤ length (r .units))) (λ e. (le-refl _, le-refl _))
-      (λ e. (omega (arith, length-append (d .octets) x), omega (arith, length-append (d .units) units)))
-
-  took-most : (length (took d p x .octets) ≤ length (d .octets) + length x) × (took d p x .count ≤ d .count + 1)
-  took-most =
-      took-ind d p x (λ r. (length (r .octets) ≤ length (d .octets) + length x) × (r .count ≤ d .count + 1)) (λ e. (omega arith, omega arith))
-      (λ e. (omega (arith, length-append (d .octets) x), le-refl _))
+  took-grows : Grows d (took d p x) (length x) 1
+  took-grows =
+      took-ind d p x (λ r. Grows d r (length x) 1)
+      (λ e. record { octets-least = le-refl _; units-least = le-refl _; octets-most = omega arith; count-most = omega arith })
+      (λ e.
+      let a = length-append (d .octets) x in
+      let b = length-append (d .units) units in
+      record { octets-least = omega arith; units-least = omega arith; octets-most = omega arith; count-most = le-refl _ })
 
 -- ---- refusal 8
 
@@ -123,23 +129,14 @@ fits-end s e = rw e
 
 -- ---- all pieces
 
-tookAll-least : (d : Delivery) (l : List Piece) (xs : List ℕ)
-    → (length (d .octets) ≤ length (tookAll d l xs .octets)) × (length (d .units) ≤ length (tookAll d l xs .units))
-unfolding tookAll
-tookAll-least d [] xs = (le-refl _, le-refl _)
-tookAll-least d (q ∷ l) xs =
-    let a = took-least d (q .place) (take (q .octets) xs) in
-    let b = tookAll-least (took d (q .place) (take (q .octets) xs)) l (drop (q .octets) xs) in
-    (le-trans (a .0) (b .0), le-trans (a .1) (b .1))
-
-pub tookAll-most : (d : Delivery) (l : List Piece) (xs : List ℕ) → total l ≤ length xs
-    → (length (tookAll d l xs .octets) ≤ length (d .octets) + total l) × (tookAll d l xs .count ≤ d .count + length l)
+pub tookAll-grows : (d : Delivery) (l : List Piece) (xs : List ℕ) → total l ≤ length xs → Grows d (tookAll d l xs) (total l) (length l)
 unfolding tookAll total
-tookAll-most d [] xs h = (omega arith, omega arith)
-tookAll-most d (q ∷ l) xs h =
-    let a = took-most d (q .place) (take (q .octets) xs) in
-    let b = tookAll-most (took d (q .place) (take (q .octets) xs)) l (drop (q .octets) xs) (omega (arith, length-drop (q .octets) xs)) in
-    (omega (arith, a .0, b .0, length-take-le (q .octets) xs (omega arith)), omega (arith, a .1, b .1))
+tookAll-grows d [] xs h = record { octets-least = le-refl _; units-least = le-refl _; octets-most = omega arith; count-most = omega arith }
+tookAll-grows d (q ∷ l) xs h =
+    let n = length-take-le (q .octets) xs (omega arith) in
+    let a = took-grows d (q .place) (take (q .octets) xs) in
+    let b = tookAll-grows (took d (q .place) (take (q .octets) xs)) l (drop (q .octets) xs) (omega (arith, length-drop (q .octets) xs)) in
+    record { octets-least = omega arith; units-least = omega arith; octets-most = omega arith; count-most = omega arith }
 
 -- ---- the way
 
@@ -176,8 +173,8 @@ module _ {s : Channels} {h : List ℕ} {l : List Piece} {xs : List ℕ} {j : ℕ
 
   pub way-room : (o u : List ℕ) → RoomFor o u (tookAll (nothing s h) l xs) → RoomFor o u far
   way-room o u k =
-      let b = rw (w .onward) at (tookAll-least far (drop j l) rest) in
-      record { output = le-trans (b .0) (k .output); units = le-trans (b .1) (k .units) }
+      let b = rw (w .onward) at (tookAll-grows far (drop j l) rest (w .enough)) in
+      record { output = le-trans (b .octets-least) (k .output); units = le-trans (b .units-least) (k .units) }
 
   pub way-all : drop j l ≡ [] → far ≡ tookAll (nothing s h) l xs
   unfolding tookAll

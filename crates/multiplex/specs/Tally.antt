@@ -1,8 +1,8 @@
 -- The delivery as the demultiplexer's inner functions tell it to each other: first by value, and then as it is written.
 --
---   Slice              a slice that a call is given, as it comes and as the call leaves it
 --   lent               what the demultiplexer is lent to write to
 --   handsBack          .. and how the call ends with it
+--   slotsFor           the slots of the payload that it is given
 --   joins c n          the channel c after n octets came to it
 --   atOnce c k         of k that come to c, how many are finished at once
 --   closes d mark p    the delivery d with what place p holds ended as a unit, where the mark is set
@@ -25,11 +25,12 @@ use mathlib.Core.Bool.{Bool, true, cond}
 use mathlib.Core.List.{List}
 use Prim.Native.Nat.{ℕ, _+_, _*_, _≤_, _<_}
 use lib.ListN.{length, getD}
-use denote.Ref.{RefT, now}
-use denote.Triple.Both.{Both}
+use denote.Ref.{now}
 use Rattle.octets.specs.Written.{written}
 use Rattle.calls.specs.Refusal.{Ended, ended}
-use Rattle.table.specs.Table.{longestPayload}
+use Rattle.calls.specs.Slices.{Slice}
+use Rattle.table.specs.Slots.{Slot, payloadSlots}
+use Rattle.table.specs.Table.{longestPayload, entryOf}
 use Rattle.channels.specs.declared.Channel.{Channel}
 use Rattle.channels.specs.declared.Channels.{Channels}
 use Rattle.channels.specs.Channels.{placeCount, placeOctets, allOctets, channelAt, holding, heldOf}
@@ -41,15 +42,15 @@ use Rattle.multiplex.specs.Demultiplexer.{Delivery, DemuxLent, took, too
 
 -- ---- a call's slices
 
-abbrev pub Slice : Type 0
-Slice = Both (RefT (List ℕ)) (RefT (List ℕ))
-
 abbrev pub lent : Channels → (held output units : Slice) → DemuxLent
 lent s held output units = record { channels = s; held = now (held .entry); output = now (output .entry); units = now (units .entry) }
 
 abbrev pub handsBack : Delivered → (held output units : Slice) → Ended ℕ DemuxLent
 handsBack r held output units =
     ended (finishedSays (r .finished)) (record { channels = r .channels; held = now (held .exit); output = now (output .exit); units = now (units .exit) })
+
+abbrev pub slotsFor : (table : Slice) → (code : ℕ) → (payload : Slice) → List Slot
+slotsFor table code payload = payloadSlots (entryOf (now (table .entry)) code) (length (now (payload .entry)))
 
 -- ---- how far
 
@@ -68,6 +69,7 @@ pub record Tallies (d : Delivery) (t : Tally) : Type 0 where
   pub units : t .units ≡ d .count
   pub even : length (d .units) ≡ 3 * d .count
 
+-- o and u as they were lent; h, o' and u' as they are now
 pub record Shows (o u : List ℕ) (d : Delivery) (h o' u' : List ℕ) : Type 0 where
   pub held : h ≡ d .held
   pub output : o' ≡ written o 0 (d .octets)
@@ -109,6 +111,7 @@ pub record Puts (c : Channel) (p octets count : ℕ) (h o u x : List ℕ) : Type
   pub units : 3 * (count + atOnce c 1) ≤ length u
   pub whole : length h ≡ allOctets
 
+-- whatever delivery is shown when a piece comes, it is shown with the piece when the octets are written
 pub record Takes (c : Channel) (p octets count : ℕ) (x : List ℕ) (held output units : Slice) : Type 0 where
   pub more : {o u : List ℕ} {d : Delivery} {s : Channels} → channelAt s p ≡ c → Tallies d (record { channels = s; octets = octets; units = count })
       → RoomFor o u d → Shows o u d (now (held .entry)) (now (output .entry)) (now (units .entry))

@@ -13,14 +13,12 @@ ghost use mathlib.Core.Bool.{true, not, _&&_};
 ghost use Prim.Native.Nat.{_+_, _-_, _≤_, _<_};
 ghost use lib.ListN.{length, getD};
 ghost use Rattle.octets.specs.Written.{written};
-ghost use Rattle.calls.specs.Refusal.{ended};
-ghost use Rattle.table.specs.Slots.{payloadSlots};
-ghost use Rattle.table.specs.Table.{highestCode, longestPayload, entryOf};
+ghost use Rattle.table.specs.Table.{highestCode, longestPayload};
 ghost use Rattle.channels.specs.Channels.{placeCount, allOctets, channelAt};
 ghost use Rattle.multiplex.specs.Pieces.{laid};
-ghost use Rattle.multiplex.specs.Demultiplexer.{Delivery, roomIn, delivered, sorted, demultiplexed, finishedSays};
+ghost use Rattle.multiplex.specs.Demultiplexer.{Delivery, roomIn, delivered, sorted, demultiplexed};
 ghost use Rattle.multiplex.specs.Tally.{joins, atOnce, closes, Tallies, InPlaces, Deliverable, DryRun, Puts, Takes, Pours, PouredBy};
-ghost use Rattle.multiplex.specs.Tally.{lent, handsBack, Exact, InRange, Closable, Finishes};
+ghost use Rattle.multiplex.specs.Tally.{lent, handsBack, slotsFor, Exact, InRange, Closable, Finishes};
 ghost use Rattle.multiplex.specs.Units.{listed};
 
 // How many units are finished, or document 01's refusal number.
@@ -317,8 +315,8 @@ fn sort(
     units: &mut [u16],
 ) -> Delivered
     requires { ⌜ (length (now payload) ≤ longestPayload) × (code .0 ≤ highestCode) × (length (now held) ≡ allOctets) ⌝ }
-    ensures { λ r. ⌜ handsBack r held output units ≡ sorted (lent s held output units)
-        mark (payloadSlots (entryOf (now (table .entry)) (code .0)) (length (now (payload .entry)))) (now (payload .entry)) ⌝ }
+    ensures { λ r. ⌜ handsBack r held output units
+        ≡ sorted (lent s held output units) mark (slotsFor table (code .0) payload) (now (payload .entry)) ⌝ }
 {
     let mut places = [0u16; LONGEST_PAYLOAD];
     let mut lengths = [0u16; LONGEST_PAYLOAD];
@@ -354,9 +352,8 @@ pub fn demultiplex(
     output: &mut [u8],
     units: &mut [u16],
 ) -> Delivered
-    ensures { λ r. ⌜ ended (finishedSays (r .finished)) (record { channels = r .channels; held = now (held .exit); output = now (output .exit); units = now (units .exit) })
-        ≡ demultiplexed (record { channels = s; held = now (held .entry); output = now (output .entry); units = now (units .entry) })
-        (now (table .entry)) (code .0) mark (now (payload .entry)) ⌝ }
+    ensures { λ r. ⌜ handsBack r held output units
+        ≡ demultiplexed (lent s held output units) (now (table .entry)) (code .0) mark (now (payload .entry)) ⌝ }
 {
     if LONGEST_PAYLOAD < payload.len() {
         return refused(s, 2);

@@ -14,7 +14,7 @@ use Rattle.multiplex.specs.declared.demultiplexer.Tally.{Tally}
 use Rattle.multiplex.specs.Pieces.{Piece, laid, lastPlace}
 use Rattle.multiplex.specs.Demultiplexer.{Delivery, DemuxLent, fits, nothing, tookAll, delivery, tooSmall, delivered}
 use Rattle.multiplex.specs.Tally.{closes, Tallies, RoomFor, Exact, InRange, Closable}
-use Rattle.multiplex.proofs.Tallying.{tookAll-most}
+use Rattle.multiplex.proofs.Tallying.{tookAll-grows}
 use Rattle.multiplex.proofs.Pouring.{closes-least, leaving-shown}
 use Rattle.multiplex.proofs.Closing.{within-laid, few-laid, last-laid, Accepted, mark-near, mark-exact, mark-closable}
 use Rattle.multiplex.proofs.Refusing.{small-octets, small-units, small-not, delivered-mark, delivered-full, delivered-small, delivered-all}
@@ -81,9 +81,9 @@ module _ (c : tie.Then2) where
 
   few : (length (all .octets) ≤ longestPayload) × (all .count ≤ longestPayload)
   few =
-      let m = tookAll-most (nothing (from w .args .s) (h w)) (l w) (xs w) (from w .pre .enough) in
+      let m = tookAll-grows (nothing (from w .args .s) (h w)) (l w) (xs w) (from w .pre .enough) in
       let k = few-laid (now (from w .args .places)) (now (from w .args .lengths)) in
-      (omega (arith, m .0, from w .pre .enough, from w .pre .short), omega (arith, m .1, k, from w .pre .pieces .few))
+      (omega (arith, m .octets-most, from w .pre .enough, from w .pre .short), omega (arith, m .count-most, k, from w .pre .pieces .few))
 
   small : {t : Tally} → Tallies all t → mark w ≡ true → InRange t (lastPlace (l w))
   small v m = record {
