@@ -21,5 +21,6 @@ pub small :
     × (sentLength 47 16 2 ≡ told 53)
     × (sentLength 47 16 101 ≡ told 251)
     × (sentLength 47 16 104 ≡ refused 2)
-unfolding isOdd bitsOf bits number octetsOf sum lowered divided remainder generator plain preset checkBits checkOf eight sixteen widthOf isSetting isSendable sentLength
+unfolding isOdd bitsOf bits number octetsOf sum lowered divided remainder generator plain preset checkBits
+    checkOf eight sixteen widthOf isSetting isSendable sentLength
 small = (refl, refl, refl, refl, refl)

@@ -96,8 +96,8 @@ module _ (n e : ℕ) (w : List ℕ) (setting : isSetting n e ≡ true) (isOne : 
       let both = receivedUnique n e w before after (written before 0 c) r _ h (receives before room c near b (length u) bs ls) in
       let t : length u ≤ length w = omega (arith, ls) in (
         both .0 ∙ ap (λ (i : ℕ). al1m.Unit (record { badge = b; changed = i; length = length u })) ks,
-        ap
-            (λ (l : List ℕ). take (length u) (cond (isCorrected b) l w)) (both .1) ∙ chosen (isCorrected b) (front before room c (length u) (near .long) t) ∙ us,
+        ap (λ (l : List ℕ). take (length u) (cond (isCorrected b) l w)) (both .1)
+            ∙ chosen (isCorrected b) (front before room c (length u) (near .long) t) ∙ us,
       )
     where
       chosen : (t : Bool) → take (length u) (written before 0 c) ≡ take (length u) c → take (length u) (cond t (written before 0 c) w)
@@ -168,7 +168,9 @@ w8 = 0x10 ∷ 0x80 ∷ 0xAF ∷ []
 
 -- each row is worked out by antt; A7 goes through all words that differ in one octet
 pub small : Small
-unfolding isOdd bitsOf bits number octetsOf sum lowered divided remainder check.generator plain preset checkBits checkOf agrees eight sixteen none widthOf isSetting isSendable sentLength isWord distance isCode isZeroAt noneAt noneNear horner times powers logs many headAt elementAt listAt isEntry copies skip inTurn elementSlots listSlots slots cut payloadSlots channelsOf
+unfolding isOdd bitsOf bits number octetsOf sum lowered divided remainder check.generator plain preset checkBits checkOf agrees
+    eight sixteen none widthOf isSetting isSendable sentLength isWord distance isCode isZeroAt noneAt noneNear horner times powers
+    logs many headAt elementAt listAt isEntry copies skip inTurn elementSlots listSlots slots cut payloadSlots channelsOf
 small = (
   refl,
   generator-two,

@@ -44,11 +44,13 @@ abbrev fresh : World
 fresh = begin [] (blank allOctets) (blank allOctets) []
 
 one-sent : whollySent (run (λ j. demultiplexed) fresh once) 0 ≡ (1 ∷ []) ∷ []
-unfolding run step calledBy start placeOf first posted multiplexed walked payloadSlots cut slots listSlots inTurn elementSlots entryOf isDefined total unitsOn withoutLast
+unfolding run step calledBy start placeOf first posted multiplexed walked payloadSlots cut slots listSlots inTurn elementSlots
+    entryOf isDefined total unitsOn withoutLast
 one-sent = refl
 
 two-sent : whollySent (run idle fresh twice) 0 ≡ (1 ∷ []) ∷ (1 ∷ []) ∷ []
-unfolding run step calledBy start placeOf first posted multiplexed walked payloadSlots cut slots listSlots inTurn elementSlots entryOf isDefined total unitsOn withoutLast
+unfolding run step calledBy start placeOf first posted multiplexed walked payloadSlots cut slots listSlots inTurn elementSlots
+    entryOf isDefined total unitsOn withoutLast
 two-sent = refl
 
 no-more : run idle fresh twice .delivered ≡ run (λ j. demultiplexed) fresh once .delivered

@@ -191,7 +191,8 @@ module _ (s u : List ℕ) (alike : Alike s u) where
         rw (z, p) r
     turns-alike (suc n) k at left a l h e r = go (λ x y b q. turns-alike n k x y a l b q r) (elementAt s d at left 1) refl e
       where
-        go : ((x y : ℕ) → y ≤ mostElements → many (λ p b. elementAt s d p b 1) n x y ≡ Next a l → inTurn (elementSlots u d) (skip u d) (n + k) x ≡ inTurn (elementSlots s d) (skip s d) (n + k) x)
+        go : ((x y : ℕ) → y ≤ mostElements → many (λ p b. elementAt s d p b 1) n x y ≡ Next a l
+            → inTurn (elementSlots u d) (skip u d) (n + k) x ≡ inTurn (elementSlots s d) (skip s d) (n + k) x)
             → (o : Read) → elementAt s d at left 1 ≡ o → andThen o (many (λ p b. elementAt s d p b 1) n) ≡ Next a l
             → inTurn (elementSlots u d) (skip u d) (suc n + k) at ≡ inTurn (elementSlots s d) (skip s d) (suc n + k) at
         go rest Bad p q = never (cc)

@@ -48,8 +48,8 @@ returns-3 c = record { first = coding-refused _ _ _ _ _ (rw (c .before .k .given
 returns-4 : tie.Need-returns-4
 returns-4 c =
     let a = c .before .before .before .before .before .before .before .before .before .before .before .before .before .before .before .args in
-    let told =
-    rw (c .before .before .before .before .before .before .n .given .1) at (c .before .before .before .before .before .before .before .before .sent-length .ensures) in (
+    let n = c .before .before .before .before .before .before in
+    let told = rw (n .n .given .1) at (n .before .before .sent-length .ensures) in (
       coding-allowed _ _ _ _ told _ (c .before .before .before .before .if1 .left),
       sent-at (a .width) (a .e) _ _ (now (a .unit)) (now (a .sent)) _
           (kind-asked _ _ (known (c .before .before .before .before .before .before .before .before .before .before))) (coding-all _ _ _ _ told .1)

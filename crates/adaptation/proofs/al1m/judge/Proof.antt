@@ -23,20 +23,21 @@ returns c =
 
 is-sealed-requires : tie.Need-is-sealed-requires
 is-sealed-requires c κs =
-    let pre = c .before .before .before .before .before .before .before .before .before .before .before .before .pre in
-    let k : kindOf (c .before .before .before .before .before .before .before .before .before .before .before .before .args .w) .octets ≤ length (now (c .before .before .before .before .before .before .before .before .before .before .before .before .args .received)) - 2 * c .before .before .before .before .before .before .before .before .before .before .before .before .args .e =
-    omega (arith, pre) in
-    rw (c .front .ensures)
-    (fits-front _ _ (c .before .before .before .before .before .before .before .repair .last .1 .1 .0)
-    (omega (arith, c .before .before .before .before .before .before .before .repair .kept .1 .1 .0, pre)) k)
+    let r = c .before .before .before .before .before .before .before in
+    let from = r .before .before .before .before .before in
+    let a = from .args in
+    let k : kindOf (a .w) .octets ≤ length (now (a .received)) - 2 * a .e = omega (arith, from .pre) in
+    rw (c .front .ensures) (fits-front _ _ (r .repair .last .1 .1 .0) (omega (arith, r .repair .kept .1 .1 .0, from .pre)) k)
 
 returns-2 : tie.Need-returns-2
 returns-2 c =
-    let o = c .before .before .before .before .before .before .before .before .before .before .before .before .octets-of in
-    let κ = kindOf (c .before .before .before .before .before .before .before .before .before .before .before .before .before .before .before .args .w) in
+    let found = c .before .before .before .before .before .before in
+    let r = found .before .before .before .before in
+    let o = r .before .before .octets-of in
+    let κ = kindOf (r .before .before .before .before .before .args .w) in
     record {
-      reach = Found (c .before .before .before .before .before .before .changed .given .0 .0);
-      repaired = rw (c .before .before .before .before .before .before .changed .given .1) at (c .before .before .before .before .before .before .before .before .before .before .repair .ensures);
+      reach = Found (found .changed .given .0 .0);
+      repaired = rw (found .changed .given .1) at (r .repair .ensures);
       badge-is = c .badge-of .ensures
           ∙ (rw (c .before .is-bare .ensures κ (o .ensures), c .before .before .is-sealed .ensures, c .before .before .before .front .ensures));
       changed-is = refl;

@@ -13,8 +13,8 @@ use Rattle.adaptation.proofs.al1m.put.Tie as tie
 
 slice-aggregate-encode : tie.Need-slice-aggregate-encode
 slice-aggregate-encode c =
-    sym (length-take-le _ _
-    (omega (arith, c .before .before .before .seal .kept .0, c .before .octets-of .ensures, c .before .before .before .before .before .before .before .before .before .before .pre)))
+    let s = c .before .before .before in
+    sym (length-take-le _ _ (omega (arith, s .seal .kept .0, c .before .octets-of .ensures, s .before .before .before .before .before .before .before .pre)))
 
 returns : tie.Need-returns
 returns c =

@@ -95,7 +95,8 @@ loop-again c =
     let i = v .before .before .before .before in (
       search needs,
       rw (c .leave .ensures)
-          (gathers-next _ _ _ _ _ _ _ _ _ (here i) (i .before .before .before .before .before .before .pre .0) _ (rw (v .waits .ensures)) _ (w .write .ensures)),
+          (gathers-next _ _ _ _ _ _ _ _ _ (here i) (i .before .before .before .before .before .before .pre .0)
+          _ (rw (v .waits .ensures)) _ (w .write .ensures)),
     )
 
 returns : tie.Need-returns Inv-loop μ-loop

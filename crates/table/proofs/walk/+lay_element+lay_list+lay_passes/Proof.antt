@@ -61,8 +61,16 @@ lay-passes-below t =
     and 3 lay-passes-kinds.ps (falls 3 lay-passes-kinds.ps _<_ μ-lay-passes t) lay-passes.Pre
 
 abbrev lay-element-claims : ℕ → lay-element-lts.Claims
-lay-element-claims t =
-    (number-reads.Asked, number-reads.Learnt, times-reads.Asked, times-reads.Learnt, lay-slot-reads.Asked, lay-slot-reads.Learnt, lay-passes-below t, lay-passes.Post)
+lay-element-claims t = (
+  number-reads.Asked,
+  number-reads.Learnt,
+  times-reads.Asked,
+  times-reads.Learnt,
+  lay-slot-reads.Asked,
+  lay-slot-reads.Learnt,
+  lay-passes-below t,
+  lay-passes.Post,
+)
 
 abbrev lay-list-claims : ℕ → lay-list-lts.Claims
 lay-list-claims t = (lay-element-below t, lay-element.Post, after-reads.Asked, after-reads.Learnt)
