@@ -28,7 +28,7 @@ pub fn first(unit: &[u8; 128], n: usize) -> &[u8] {
     octets::front(unit, n)
 }
 
-// The unit with what its layer adds, at the front of out; and the channels behind it.
+// The unit with what its layer adds, at the front of out; and the channels as the call leaves them.
 fn code(s: Channels, channel: u16, unit: &[u8], out: &mut [u8; LONGEST_WORD]) -> Sent {
     if channel == plan::DATA {
         return layers::send(s, ChannelNumber(channel), true, unit, out);

@@ -4,7 +4,7 @@
 --                     and with an octet; and there is a last one where it has the closing mark
 --   neither           neither test holds
 --   waits-some        a slot that is not blocked: an octet waits
---   goes-whole        the walk goes on behind it: it is filled
+--   goes-whole        the walk goes on after it: it is filled
 --   walk-agrees       every walk agrees
 --
 -- Assumes nothing.

@@ -1,8 +1,8 @@
--- A walk's pieces, one after another, from the sender to the receiver: the ends match behind it, and the receiver refuses none of it.
+-- A walk's pieces, one after another, from the sender to the receiver: the ends match after it, and the receiver refuses none of it.
 --
 --   carried           what the receiver makes of pieces and their octets, from a state in the midst of a payload
 --   Step              one piece taken: it fits, and adds at most its octets and one unit
---   Carried           a walk carried over: sound behind it; every held unit fits; at most the octets of a place more than its own are finished,
+--   Carried           a walk carried over: sound after it; every held unit fits; at most the octets of a place more than its own are finished,
 --                     and at most a unit for each piece; and the closing mark comes on a segmentable channel
 --   walk-carried      so is every walk that reaches open channels only
 --

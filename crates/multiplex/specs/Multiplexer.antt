@@ -2,7 +2,7 @@
 --
 --   isBlocked c n     the walk stops before a slot of n octets of channel c: nothing waits, or c is not segmentable and its unit is
 --                     longer. (A slot is cut to the room left, so one comparison serves the slot and the room.)
---   goesOn c n        the walk goes on behind it: the slot is filled, and a segmentable unit is not at its end
+--   goesOn c n        the walk goes on after it: the slot is filled, and a segmentable unit is not at its end
 --   moved c n         how many octets the slot takes
 --   left s p n        the channels after n waiting octets of place p were sent
 --   Walk              what a walk gives: the pieces that are sent, the closing mark, whether every channel reached is open, and the
@@ -70,7 +70,7 @@ sending q r = record { pieces = q ∷ r .pieces; mark = r .mark; allOpen = r .al
 abbrev pub ending : Piece → Channels → Bool → Walk
 ending q s mark = record { pieces = q ∷ []; mark = mark; allOpen = true; channels = s }
 
--- the slot of n octets at place p, with `rest` the walk behind it
+-- the slot of n octets at place p, with `rest` the walk after it
 abbrev pub visit : Channels → ℕ → ℕ → (Channels → Walk) → Walk
 visit s p n rest =
     cond (isBlocked (channelAt s p) n) (stopped s true)

@@ -32,7 +32,7 @@ pub struct Multiplexed {
     pub channels: Channels,
 }
 
-// What becomes of a slot: the walk stops before it; or it takes so many octets, and the walk goes on behind it or ends there.
+// What becomes of a slot: the walk stops before it; or it takes so many octets, and the walk goes on after it or ends there.
 enum Turn {
     Stop,
     On(usize),

@@ -1,4 +1,4 @@
--- The search decides; else AL2's own sending, and the number that rises behind it. Assumes nothing.
+-- The search decides; else AL2's own sending, and the number, which then rises. Assumes nothing.
 use borrow.Author.Needs.{needs}
 use Rattle.channels.proofs.Layering.{sending-closed, sending-refused, sending-sent}
 use Rattle.channels.proofs.layers.send.Statement.{statement}
