@@ -1,6 +1,6 @@
 -- What is claimed of AL1M, over every unit, word and setting; proofs/Theorems.antt proves each claim.
 --
---   isFaulty b            badge 2 or 3
+--   isFaulty x            badge 2 or 3
 --   SentIsHandedUp        a sent unit of which at most e octets changed, length and settings unchanged, is handed up as sent, with the
 --                         true number of changed octets, and never with badge 2 or 3
 --   Faultless             what a badge that is not at fault is given to
@@ -43,50 +43,50 @@ isFaulty Unchecked = false
 
 abbrev pub SentIsHandedUp : Type 0
 SentIsHandedUp =
-    (n e m : ℕ) (u room whole w before after : List ℕ) (r : Received) → Sends n e u room (sent.Octets m) whole
-    → length w ≡ m → distance w (take m whole) ≤ e → m ≤ length before → Receives n e w before r after
-    → (b : Badge) × (r ≡ Unit (record { badge = b; changed = distance w (take m whole); length = length u })) × (handedUnit b w after (length u)
-    ≡ u) × (isFaulty b ≡ false)
+    (b e m : ℕ) (u room whole w before after : List ℕ) (r : Received) → Sends b e u room (sent.Octets m) whole
+    → length w ≡ m → distance w (take m whole) ≤ e → m ≤ length before → Receives b e w before r after
+    → (x : Badge) × (r ≡ Unit (record { badge = x; changed = distance w (take m whole); length = length u }))
+    × (handedUnit x w after (length u) ≡ u) × (isFaulty x ≡ false)
 
 -- what such a badge is given to
-pub record Faultless (n e : ℕ) (w after c : List ℕ) (j : Judgement) : Type 0 where
+pub record Faultless (b e : ℕ) (w after c : List ℕ) (j : Judgement) : Type 0 where
   pub within : Within e w c
-  pub agreeing : agrees (kindAt n) (take (length w - 2 * e) c) ≡ true
+  pub agreeing : agrees (kindAt b) (take (length w - 2 * e) c) ≡ true
   pub changed : j .changed ≡ distance w c
   pub unit : handedUnit (j .badge) w after (j .length) ≡ take (j .length) c
 
 abbrev pub FaultlessIsCodeWord : Type 0
 FaultlessIsCodeWord =
-    (n e : ℕ) (w before after : List ℕ) (j : Judgement) → Receives n e w before (Unit j) after → isFaulty (j .badge) ≡ false
-    → (c : List ℕ) × Faultless n e w after c j
+    (b e : ℕ) (w before after : List ℕ) (j : Judgement) → Receives b e w before (Unit j) after → isFaulty (j .badge) ≡ false
+    → (c : List ℕ) × Faultless b e w after c j
 
 abbrev pub OutOfReachExactly : Type 0
 OutOfReachExactly =
-    (n e : ℕ) (w before after : List ℕ) (j : Judgement) → Receives n e w before (Unit j) after
+    (b e : ℕ) (w before after : List ℕ) (j : Judgement) → Receives b e w before (Unit j) after
     → (j .badge ≡ OutOfReach ↔ ((c : List ℕ) → Within e w c → ⊥)) × (j .badge ≡ OutOfReach → (j .changed ≡ 0) × (after ≡ before))
 
 abbrev pub CheckFailedExactly : Type 0
 CheckFailedExactly =
-    (n e : ℕ) (w before after : List ℕ) (j : Judgement) → Receives n e w before (Unit j) after
-    → j .badge ≡ CheckFailed ↔ ((c : List ℕ) × Within e w c × (agrees (kindAt n) (take (length w - 2 * e) c) ≡ false))
+    (b e : ℕ) (w before after : List ℕ) (j : Judgement) → Receives b e w before (Unit j) after
+    → j .badge ≡ CheckFailed ↔ ((c : List ℕ) × Within e w c × (agrees (kindAt b) (take (length w - 2 * e) c) ≡ false))
 
 abbrev pub UncheckedExactly : Type 0
 UncheckedExactly =
-    (n e : ℕ) (w before after : List ℕ) (j : Judgement) → Octets w → Receives n e w before (Unit j) after
-    → j .badge ≡ Unchecked ↔ (isBare (kindAt n) e ≡ true)
+    (b e : ℕ) (w before after : List ℕ) (j : Judgement) → Octets w → Receives b e w before (Unit j) after
+    → j .badge ≡ Unchecked ↔ (isBare (kindAt b) e ≡ true)
 
 abbrev pub NoCheckAgrees : Type 0
 NoCheckAgrees = (w : List ℕ) → agrees none w ≡ true
 
 abbrev pub EncodedUnique : Type 0
 EncodedUnique =
-    (n e : ℕ) (u before after left : List ℕ) (r q : Length) → Sends n e u before r after → Sends n e u before q left → (r ≡ q) × (after ≡ left)
+    (b e : ℕ) (u before after left : List ℕ) (r q : Length) → Sends b e u before r after → Sends b e u before q left → (r ≡ q) × (after ≡ left)
 
 abbrev pub ReceivedUnique : Type 0
 ReceivedUnique =
-    (n e : ℕ) (w before after left : List ℕ) (r q : Received) → Receives n e w before r after → Receives n e w before q left → (r ≡ q) × (after ≡ left)
+    (b e : ℕ) (w before after left : List ℕ) (r q : Received) → Receives b e w before r after → Receives b e w before q left → (r ≡ q) × (after ≡ left)
 
 abbrev pub RefusalLeaves : Type 0
 RefusalLeaves =
-    ((n e k : ℕ) (u before after : List ℕ) → Sends n e u before (sent.Refused k) after → after ≡ before)
-    × ((n e k : ℕ) (w before after : List ℕ) → Receives n e w before (Refused k) after → after ≡ before)
+    ((b e k : ℕ) (u before after : List ℕ) → Sends b e u before (sent.Refused k) after → after ≡ before)
+    × ((b e k : ℕ) (w before after : List ℕ) → Receives b e w before (Refused k) after → after ≡ before)

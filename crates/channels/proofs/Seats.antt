@@ -16,6 +16,7 @@
 --   vacant-behind      there is no channel behind the last place
 --   put-there          what was put at a place
 --   put-elsewhere      .. changes no other
+--   number-seats       seats alike: the channel at channel n's place has number n at either end
 --
 -- Assumes nothing.
 use mathlib.Core.Path.{_≡_, refl, sym, ap, _∙_}
@@ -126,6 +127,11 @@ module _ (s : Channels) (full : length (s .at) ≡ placeCount) where
 
   pub put-there : (p : ℕ) (c : Channel) → p < placeCount → channelAt (put s p c) p ≡ c
   put-there p c h = getD-set-same (s .at) p c vacant (rw full h)
+
+pub number-seats : (s r : Channels) → seats r ≡ seats s → length (s .at) ≡ placeCount → (n p : ℕ) → placeOf s n ≡ p → p < placeCount
+    → channelAt r p .number ≡ n
+number-seats s r e full n p place inside =
+    ap (λ (z : Seat). z .number) (seat-at r s e p) ∙ ap (λ (q : ℕ). channelAt s q .number) (sym place) ∙ place-number s full n (rw place inside)
 
 pub put-elsewhere : (s : Channels) (p q : ℕ) (c : Channel) → q ≢ p → channelAt (put s p c) q ≡ channelAt s q
 put-elsewhere s p q c h = getD-set-other (s .at) p q c vacant h

@@ -17,7 +17,7 @@ use lib.ListN.{length, getD}
 use Rattle.algebra.specs.Series.{_⊞_, _⊡_, none, unit, sh}
 use Rattle.algebra.specs.Power.{rising}
 use Rattle.algebra.specs.Polynomial.{monomial, polynomial, root, rooted}
-use Rattle.field.specs.Octet.{sum, product}
+use Rattle.field.specs.Octet.{sum, product, order}
 use Rattle.field.specs.Octet.Laws.{sum-xor, product-zero, product-one}
 use Rattle.field.specs.Octet.Table.{powers, powers-at}
 use Rattle.codeword.specs.Element.{elements, element, octet, α}
@@ -35,7 +35,7 @@ coefficient zero zero = 1
 coefficient zero (suc k) = 0
 coefficient (suc n) k = bitXor (shifted (coefficient n) k) (times (getD powers (suc n) 0) (coefficient n k))
 
-pub rooted-worked : (n : ℕ) → n < 255 → (k : ℕ) → octet (rooted elements n (rising elements α) k) ≡ coefficient n k
+pub rooted-worked : (n : ℕ) → n < order → (k : ℕ) → octet (rooted elements n (rising elements α) k) ≡ coefficient n k
 unfolding rooted root rising coefficient _⊞_ _⊡_ unit sh
 rooted-worked zero h zero = octet-one
 rooted-worked zero h (suc k) = octet-nil

@@ -13,7 +13,7 @@ use Prim.Native.Nat.{ℕ, zero, suc, _+_, _%_, _<_}
 use native.Mathlib.Omega.{arith}
 use lib.Bits.{bitXor}
 use lib.ListN.{getD}
-use Rattle.field.specs.Octet.{sum, product}
+use Rattle.field.specs.Octet.{sum, product, order}
 use Rattle.field.specs.Octet as field
 use Rattle.field.specs.Octet.Laws.{sum-xor, zero-product, product-zero, power-add, power-wrap}
 use Rattle.field.specs.Octet.Table.{powers, logs, powers-at, power-logs}
@@ -24,7 +24,7 @@ use Rattle.codeword.specs.Places.{value}
 use Rattle.codeword.proofs.Laws.{value-snoc}
 
 abbrev pub added : ℕ → ℕ → ℕ
-added i j = getD powers ((i + j) % 255) 0
+added i j = getD powers ((i + j) % order) 0
 
 unfoldable pub times : ℕ → ℕ → ℕ
 times zero b = 0
@@ -39,7 +39,7 @@ product-times (suc a) (suc b) h k =
     let i = getD logs (suc a) 0 in
     let j = getD logs (suc b) 0 in
     sym
-    (powers-at ((i + j) % 255) (omega arith) ∙ power-wrap (i + j) ∙ power-add field.α i j
+    (powers-at ((i + j) % order) (omega arith) ∙ power-wrap (i + j) ∙ power-add field.α i j
     ∙ ap₂ product (power-logs (suc a) (omega arith) h) (power-logs (suc b) (omega arith) k))
 
 unfoldable pub horner : ℕ → ℕ → List ℕ → ℕ

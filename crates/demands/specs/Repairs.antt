@@ -24,8 +24,8 @@ use Rattle.adaptation.specs.declared.al1m.Judgement.{Judgement}
 use Rattle.adaptation.specs.declared.al1m.Received.{Received}
 use Rattle.adaptation.specs.declared.al1m.Received.the-variants as al1m
 
--- a check of n bits and e repairs, the word w, what was lent for the repair before and after, and what is told
-module _ (n e : ℕ) (w before after : List ℕ) (j : Judgement) where
+-- a check of b bits and e repairs, the word w, what was lent for the repair before and after, and what is told
+module _ (b e : ℕ) (w before after : List ℕ) (j : Judgement) where
   pub record Repairs : Type 0 where
     -- a repaired word is found exactly when some code word of that length differs from it in at most e octets
     pub found : (j .badge ≡ OutOfReach → ⊥) ↔ ((c : List ℕ) × Within e w c)
@@ -34,14 +34,14 @@ module _ (n e : ℕ) (w before after : List ℕ) (j : Judgement) where
     -- never a second one
     pub once : (c d : List ℕ) → Within e w c → Within e w d → c ≡ d
     -- a badge that is not at fault is given to the unit of that code word alone, where its check agrees
-    pub faultless : isFaulty (j .badge) ≡ false → (c : List ℕ) × Faultless n e w after c j
+    pub faultless : isFaulty (j .badge) ≡ false → (c : List ℕ) × Faultless b e w after c j
     -- a word out of reach is badged so and never corrected
     pub lost : ((c : List ℕ) → Within e w c → ⊥) → (j .badge ≡ OutOfReach) × (j .changed ≡ 0) × (after ≡ before)
 
 pub record Demand3 : Type 0 where
-  pub repairs : (n e : ℕ) (w before after : List ℕ) (j : Judgement) → Receives n e w before (al1m.Unit j) after → Repairs n e w before after j
+  pub repairs : (b e : ℕ) (w before after : List ℕ) (j : Judgement) → Receives b e w before (al1m.Unit j) after → Repairs b e w before after j
   -- a unit of which at most e octets changed is handed up as sent with the true count
-  pub asSent : (n e m : ℕ) (u room sent w before after : List ℕ) (r : Received) → Sends n e u room (sends.Octets m) sent
-      → length w ≡ m → distance w (take m sent) ≤ e → m ≤ length before → Receives n e w before r after
-      → (b : Badge) × (r ≡ al1m.Unit (record { badge = b; changed = distance w (take m sent); length = length u })) × (handedUnit b w after (length u)
-      ≡ u) × (isFaulty b ≡ false)
+  pub asSent : (b e m : ℕ) (u room sent w before after : List ℕ) (r : Received) → Sends b e u room (sends.Octets m) sent
+      → length w ≡ m → distance w (take m sent) ≤ e → m ≤ length before → Receives b e w before r after
+      → (x : Badge) × (r ≡ al1m.Unit (record { badge = x; changed = distance w (take m sent); length = length u }))
+      × (handedUnit x w after (length u) ≡ u) × (isFaulty x ≡ false)

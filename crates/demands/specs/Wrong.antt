@@ -29,14 +29,14 @@ pub record Receiver : Type 0 where
   pub leaves : (width e : ℕ) → (word lent : List ℕ) → List ℕ
 
 abbrev pub Keeps : Receiver → Type 0
-Keeps R = (n e : ℕ) (w before : List ℕ) → Receives n e w before (R .answer n e w before) (R .leaves n e w before)
+Keeps R = (b e : ℕ) (w before : List ℕ) → Receives b e w before (R .answer b e w before) (R .leaves b e w before)
 
 -- P holds of every unit that R hands up
 abbrev pub Always : Receiver → ((e : ℕ) → (word lent after : List ℕ) → Judgement → Type 0) → Type 0
-Always R P = (n e : ℕ) (w before : List ℕ) (j : Judgement) → R .answer n e w before ≡ Unit j → P e w before (R .leaves n e w before) j
+Always R P = (b e : ℕ) (w before : List ℕ) (j : Judgement) → R .answer b e w before ≡ Unit j → P e w before (R .leaves b e w before) j
 
 abbrev pub RefusesAll : Receiver → Type 0
-RefusesAll R = (n e : ℕ) (w before : List ℕ) → (k : ℕ) × (R .answer n e w before ≡ Refused k)
+RefusesAll R = (b e : ℕ) (w before : List ℕ) → (k : ℕ) × (R .answer b e w before ≡ Refused k)
 
 abbrev pub FindsNothing : Receiver → Type 0
 FindsNothing R = Always R (λ e w before after j. j .badge ≡ OutOfReach)

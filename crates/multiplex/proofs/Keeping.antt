@@ -28,7 +28,7 @@ use Rattle.multiplex.specs.Demultiplexer.{Delivery, finished, joined, to
 use Rattle.multiplex.specs.Units.{UnitOn, unitsOn}
 use Rattle.channels.specs.Claims.{Orderly}
 use Rattle.multiplex.specs.Claims.{goingTo}
-use Rattle.channels.proofs.Laws.{Seat, seats, seats-put, seat-at, seats-length, place-number, place-unique, put-there, put-elsewhere, heldAt}
+use Rattle.channels.proofs.Laws.{Seat, seats, seats-put, seat-at, seats-length, place-number, place-unique, put-there, put-elsewhere, heldAt, number-seats}
 use Rattle.channels.proofs.Laws.{held-grown, held-else, orderly-joined, orderly-emptied}
 use Rattle.multiplex.proofs.Records.{unitOn, Tells, tells-finished, on-this, on-other}
 
@@ -71,9 +71,7 @@ module _ {s : Channels} {n : ℕ} {u : List ℕ} {r : Delivery} (o : Holds s n u
   full = sym (seats-length (r .channels) s (o .alike)) ∙ o .orderly .full
 
   number-there : there .number ≡ m
-  number-there =
-      ap (λ (z : Seat). z .number) (seat-at (r .channels) s (o .alike) p) ∙ ap (λ (q : ℕ). channelAt s q .number) (sym place)
-      ∙ place-number s full m (rw place inside)
+  number-there = number-seats s (r .channels) (o .alike) full m p place inside
 
   -- another channel has another place
   off : m ≢ n → placeOf s n ≢ p

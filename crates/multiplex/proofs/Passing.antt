@@ -33,7 +33,7 @@ use Rattle.multiplex.specs.Demultiplexer.{Delivery, finished, joined, cl
 use Rattle.multiplex.specs.Multiplexer.{left}
 use Rattle.multiplex.specs.Units.{UnitOn, unitsOn}
 use Rattle.channels.specs.Claims.{Orderly}
-use Rattle.channels.proofs.Laws.{seats, Seat, seats-put, seat-at, place-number, place-unique, put-there, put-elsewhere, heldAt, filled-room}
+use Rattle.channels.proofs.Laws.{seats, Seat, seats-put, seat-at, place-number, place-unique, put-there, put-elsewhere, heldAt, filled-room, number-seats}
 use Rattle.channels.proofs.Laws.{held-grown, held-else}
 use Rattle.octets.specs.Parts.{part-next}
 use Rattle.multiplex.proofs.Records.{unitOn, Tells, tells-finished, on-this, on-other}
@@ -73,9 +73,7 @@ module _ {s : Channels} {w : List ℕ} {r : Channels} {h : List ℕ} {sent got :
   alike-there = sym (ap (λ (z : Seat). z .segmentable) (seat-at s r (m .alike) p))
 
   number-there : there .number ≡ n
-  number-there =
-      sym (ap (λ (z : Seat). z .number) (seat-at s r (m .alike) p))
-      ∙ ap (λ (q : ℕ). channelAt s q .number) (sym place) ∙ place-number s (m .full) n (rw place inside)
+  number-there = number-seats s r (sym (m .alike)) (m .full) n p place inside
 
   log-here : (k : ℕ) → placeOf s k ≡ p → unitsOn k sent ≡ unitsOn k got ++ way here w there h p
   log-here k e = rw e at (m .log k)
