@@ -3,6 +3,7 @@
 --   told-refused       a call is not answered and refused
 --   by-test            what holds of both ends of a test holds of what it decides
 --   by-tests           what holds of every refusal, and of the end that is reached where no test holds, holds of the call
+--   both-tests         .. and so of two calls that are refused by one list of tests
 --   checked-through    what is made of a call's end is made of each refusal and of the other end
 --   checked-leaves     a refusal leaves what was lent as it came
 --   checked-keeps      what holds of what was lent, and of what an accepted call leaves, holds of what a call leaves
@@ -44,6 +45,12 @@ by-test P false f g = g refl
 pub by-tests : {A : Type 0} (P : A → Type 0) (f : ℕ → A) (l : List Test) (e : A) → ((k : ℕ) → P (f k)) → (None l → P e) → P (checked f l e)
 by-tests P f [] e r a = a tt
 by-tests P f ((k when b) ∷ l) e r a = by-test P b (λ h. r k) (λ h. by-tests P f l e r (λ n. a (h, n)))
+
+pub both-tests : {A B : Type 0} (P : A → B → Type 0) (f : ℕ → A) (g : ℕ → B) (l : List Test) (a : A) (b : B)
+    → ((k : ℕ) → P (f k) (g k)) → (None l → P a b) → P (checked f l a) (checked g l b)
+both-tests P f g [] a b r h = h tt
+both-tests P f g ((k when true) ∷ l) a b r h = r k
+both-tests P f g ((k when false) ∷ l) a b r h = both-tests P f g l a b r (λ n. h (refl, n))
 
 pub checked-through : {R S : Type 0} (g : R → S) (f : ℕ → R) (l : List Test) (e : R) → g (checked f l e) ≡ checked (λ k. g (f k)) l (g e)
 checked-through g f [] e = refl

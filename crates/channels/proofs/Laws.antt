@@ -1,16 +1,17 @@
 -- What the crates above take from the channels' proofs, and nothing else.
 --
---   first-found, first-set, first-put, Seat, seat, seats, place-seats, free-seats, seat-at, seats-put, seats-length, place-number,
---   place-unique, vacant-behind, put-there, put-elsewhere, number-seats       places, and what the two ends have alike (Seats)
+--   Seat, seat, seats, place-seats, free-seats, seat-at, seats-put, seats-length, place-number,
+--   place-unique, vacant-behind, put-there, put-elsewhere, segmentable-place, place-new, place-old, place-not-free, number-seats   places, and what the two ends have alike (Seats)
 --   sought-place, in-placed                                     numbers replaced by places (Placing)
 --   heldAt, orderly-put, filled-room, held-grown, held-else, orderly-joined, orderly-emptied   what a place holds (Holding)
---   waits-put, bounded-put, start-bounded, keeps-bounds         the bounds (Bounds)
+--   waits-put, bounded-put                                      the bounds (Bounds)
+--   startBounded, callsKeepBounds                               what every call keeps (Theorems)
 --   afterUnique, postUnique, sendUnique, takeUnique             one answer (Theorems)
 --
 -- Assumes nothing.
-pub use Rattle.channels.proofs.Seats.{first-found, first-set, first-put, Seat, seat, seats, place-seats, free-seats, seat-at, seats-put}
-pub use Rattle.channels.proofs.Seats.{seats-length, place-number, place-unique, vacant-behind, put-there, put-elsewhere, number-seats}
+pub use Rattle.channels.proofs.Seats.{Seat, seat, seats, place-seats, free-seats, seat-at, seats-put}
+pub use Rattle.channels.proofs.Seats.{seats-length, place-number, place-unique, vacant-behind, put-there, put-elsewhere, segmentable-place, place-new, place-old, place-not-free, number-seats}
 pub use Rattle.channels.proofs.Placing.{sought-place, in-placed}
 pub use Rattle.channels.proofs.Holding.{heldAt, orderly-put, filled-room, held-grown, held-else, orderly-joined, orderly-emptied}
-pub use Rattle.channels.proofs.Bounds.{waits-put, bounded-put, start-bounded, keeps-bounds}
-pub use Rattle.channels.proofs.Theorems.{afterUnique, postUnique, sendUnique, takeUnique}
+pub use Rattle.channels.proofs.Bounds.{waits-put, bounded-put}
+pub use Rattle.channels.proofs.Theorems.{startBounded, callsKeepBounds, afterUnique, postUnique, sendUnique, takeUnique}

@@ -16,6 +16,11 @@
 --   vacant-behind      there is no channel behind the last place
 --   put-there          what was put at a place
 --   put-elsewhere      .. changes no other
+--   segmentable-place  a segmentable channel is at one of the places
+--   free-is            no channel is open at a free place
+--   place-new          a channel opened at a free place has that place
+--   place-old          .. and every other keeps its own
+--   place-not-free     .. which was not the free one
 --   number-seats       seats alike: the channel at channel n's place has number n at either end
 --
 -- Assumes nothing.
@@ -25,7 +30,9 @@ use mathlib.Core.Bool.{Bool, true, false, cond, not}
 use mathlib.Core.List.{List, [], _∷_, map}
 use Prim.Native.Nat.{ℕ, zero, suc, _≤_, _<_}
 use native.Mathlib.Nat.{not-suc-le-zero, le-of-suc-le-suc}
-use borrow.Author.Tests.{eqb-true}
+use native.Mathlib.Decide.{decLt}
+use native.Mathlib.Omega.{arith}
+use borrow.Author.Tests.{eqb-true, eq-eqb, ne-eqb, not-true}
 use lib.Dec.{eqb}
 use lib.ListN.{length, getD, set, List·getD-map, List·getD-eq-default}
 use lib.Seq.{map-set-same, getD-set-same, getD-set-other}
@@ -33,7 +40,7 @@ use Rattle.octets.specs.Tests.{never}
 use Rattle.channels.specs.declared.Channel.{Channel}
 use Rattle.channels.specs.declared.Channels.{Channels}
 use Rattle.channels.specs.Search.{first}
-use Rattle.channels.specs.Channels.{placeCount, vacant, isChannel, placeOf, freePlace, channelAt, put}
+use Rattle.channels.specs.Channels.{placeCount, vacant, fresh, isChannel, isFree, placeOf, freePlace, channelAt, put}
 
 pub record Seat : Type 0 where
   pub taken : Bool
@@ -127,6 +134,40 @@ module _ (s : Channels) (full : length (s .at) ≡ placeCount) where
 
   pub put-there : (p : ℕ) (c : Channel) → p < placeCount → channelAt (put s p c) p ≡ c
   put-there p c h = getD-set-same (s .at) p c vacant (rw full h)
+
+pub segmentable-place : (s : Channels) (p : ℕ) → length (s .at) ≡ placeCount → channelAt s p .segmentable ≡ true → p < placeCount
+segmentable-place s p e g = by (decLt p placeCount)
+  where
+    by : Dec (p < placeCount) → p < placeCount
+    by (yes h) = h
+    by (no h) =
+        let v = vacant-behind s e p (omega arith) in
+        never (cc)
+
+-- ---- a channel opened at the free place p
+
+module _ (s : Channels) (full : length (s .at) ≡ placeCount) (p : ℕ) (place : freePlace s ≡ p) (inside : p < placeCount) where
+  pub free-is : channelAt s p .«open» ≡ false
+  unfolding freePlace
+  free-is =
+      not-true (channelAt s p .«open»)
+      (ap (λ (q : ℕ). isFree (channelAt s q)) (sym place) ∙ first-found isFree vacant (s .at) (rw (full, place) inside))
+
+  pub place-new : (n : ℕ) (g : Bool) → placeCount ≤ placeOf s n → placeOf (put s p (fresh n g)) n ≡ p
+  unfolding placeOf
+  place-new n g unknown = first-put (isChannel n) (s .at) p (fresh n g) (rw full unknown) (rw full inside) (eq-eqb n n refl)
+
+  pub place-old : (n : ℕ) (g : Bool) (k : ℕ) → n ≢ k → placeOf (put s p (fresh n g)) k ≡ placeOf s k
+  unfolding placeOf
+  place-old n g k f = first-set (isChannel k) (s .at) p (fresh n g) vacant (rw (ne-eqb n k f, free-is))
+
+  pub place-not-free : (k : ℕ) → placeOf s k ≢ p
+  unfolding placeOf
+  place-not-free k e =
+      let z : isChannel k (channelAt s p) ≡ true =
+      ap (λ (q : ℕ). isChannel k (channelAt s q)) (sym e) ∙ first-found (isChannel k) vacant (s .at) (rw (full, e) inside) in
+      let f : false ≡ true = rw free-is at z in
+      never (cc)
 
 pub number-seats : (s r : Channels) → seats r ≡ seats s → length (s .at) ≡ placeCount → (n p : ℕ) → placeOf s n ≡ p → p < placeCount
     → channelAt r p .number ≡ n

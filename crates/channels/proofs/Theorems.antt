@@ -1,5 +1,6 @@
--- The claims of specs/Claims.antt. (StartBounded and KeepsBounds are proved in Bounds.)
+-- The claims of specs/Claims.antt.
 --
+--   startBounded, callsKeepBounds                     what every call keeps
 --   afterUnique, postUnique, sendUnique, takeUnique   any two answers are equal
 --
 -- Assumes nothing.
@@ -15,7 +16,14 @@ use Rattle.channels.specs.declared.Channels.{Channels}
 use Rattle.channels.specs.declared.After.{After}
 use Rattle.channels.specs.Channels.{Post, placeOf, channelAt, posted}
 use Rattle.channels.specs.Layers.{SendLent, sending}
-use Rattle.channels.specs.Claims.{AfterUnique, PostUnique, SendUnique, TakeUnique}
+use Rattle.channels.specs.Claims.{StartBounded, CallsKeepBounds, AfterUnique, PostUnique, SendUnique, TakeUnique}
+use Rattle.channels.proofs.Bounds.{start-bounded, keeps-bounds}
+
+pub startBounded : StartBounded
+startBounded = start-bounded
+
+pub callsKeepBounds : CallsKeepBounds
+callsKeepBounds = keeps-bounds
 
 after : Outcome → Channels → After
 after o s = record { outcome = o; channels = s }
@@ -35,10 +43,10 @@ postUnique s w n u v t a b p q =
     (ap₂ after (e .0) (ap (λ (x : Post). x .channels) (e .1)), ap (λ (x : Post). x .octets) (e .1))
 
 pub sendUnique : SendUnique
-sendUnique x n numbered u v t a b p q =
+sendUnique s out n numbered u v t a b p q =
     let f =
     lengths-once (a .length) (b .length) (record { channels = a .channels; output = v }) (record { channels = b .channels; output = t })
-    (sending x n numbered u) p q in
+    (sending (record { channels = s; output = out }) n numbered u) p q in
     (ap₂ (λ (r : Length) (y : SendLent). record { length = r; channels = y .channels }) (f .0) (f .1), ap (λ (y : SendLent). y .output) (f .1))
 
 pub takeUnique : TakeUnique

@@ -25,7 +25,7 @@
 --   opened, closed, reset   how these calls end
 --   Post              what posting leaves: the channels, and the octets that wait
 --   posted            how posting ends
---   Posts             .. as the function answers it and leaves what it is lent
+--   Posts             .. as the function answers, and leaves the octets that wait
 --
 -- Assumes nothing.
 use mathlib.Core.Path.{_≡_}
@@ -34,10 +34,8 @@ use mathlib.Core.List.{List, [], _∷_}
 use Prim.Native.Nat.{ℕ, _+_, _*_, _-_, min}
 use lib.Dec.{leb, ltb, eqb}
 use lib.ListN.{length, getD, set, take, drop, replicate}
-use denote.Ref.{now}
 use Rattle.octets.specs.Written.{written}
 use Rattle.calls.specs.Refusal.{Ended, ended, leaving, refusing, Test, _when_, checked, outcomeSays}
-use Rattle.calls.specs.Slices.{Slice}
 use Rattle.adaptation.specs.Handed.{isUnit}
 use Rattle.channels.specs.declared.After.{After}
 use Rattle.channels.specs.declared.Channel.{Channel}
@@ -154,7 +152,5 @@ posted s w n u =
       octets = written w (placeOctets * placeOf s n + (placeOctets - length u)) u;
     }))
 
-abbrev pub Posts : Channels → (waiting : Slice) → (n : ℕ) → (unit : Slice) → After → Type 0
-Posts s waiting n unit r =
-    ended (outcomeSays (r .outcome)) (record { channels = r .channels; octets = now (waiting .exit) })
-    ≡ posted s (now (waiting .entry)) n (now (unit .entry))
+abbrev pub Posts : Channels → List ℕ → (n : ℕ) → (unit : List ℕ) → After → List ℕ → Type 0
+Posts s w n u r v = ended (outcomeSays (r .outcome)) (record { channels = r .channels; octets = v }) ≡ posted s w n u

@@ -3,7 +3,8 @@
 --   Orderly s h       arrays of their lengths; no place holds more octets than it has, and only a segmentable channel holds any
 --   Bounded s h w     .. and none has more waiting than it has octets
 --   StartBounded      so it is at first, whatever the arrays hold
---   KeepsBounds       .. and after each call on channels
+--   KeepsBounds       .. and after each call on channels in the state s, h, w
+--   CallsKeepBounds   .. so every call keeps the bounds
 --   AfterUnique       any two answers that the promise of opening, closing or resetting allows are equal, the channels included
 --   PostUnique        .. of posting, with the octets that wait
 --   SendUnique        .. of sending by AL2, with the output
@@ -15,14 +16,13 @@ use mathlib.Core.Bool.{Bool, false}
 use mathlib.Core.List.{List}
 use Prim.Native.Nat.{ℕ, _≤_}
 use lib.ListN.{length}
-use Rattle.calls.specs.Refusal.{Ended, ended, outcomeSays, lengthSays}
-use Rattle.adaptation.specs.AL2.{unitOf, receivedSays}
+use Rattle.calls.specs.Refusal.{Ended, ended, outcomeSays}
 use Rattle.channels.specs.declared.Channels.{Channels}
 use Rattle.channels.specs.declared.After.{After}
 use Rattle.channels.specs.declared.layers.Sent.{Sent}
 use Rattle.channels.specs.declared.layers.Taken.{Taken}
-use Rattle.channels.specs.Channels.{placeCount, placeOctets, allOctets, start, placeOf, channelAt, opened, closed, reset, posted}
-use Rattle.channels.specs.Layers.{SendLent, sending, taking}
+use Rattle.channels.specs.Channels.{placeCount, placeOctets, allOctets, start, channelAt, opened, closed, reset, posted, Posts}
+use Rattle.channels.specs.Layers.{sending, SendsOn, taking, TakesOn}
 
 pub record Orderly (s : Channels) (h : List ℕ) : Type 0 where
   pub full : length (s .at) ≡ placeCount
@@ -46,6 +46,9 @@ pub record KeepsBounds (s : Channels) (h w : List ℕ) : Type 0 where
   pub sending : (n : ℕ) (numbered : Bool) (u out : List ℕ) → Bounded (sending (record { channels = s; output = out }) n numbered u .left .channels) h w
   pub taking : (n : ℕ) (numbered : Bool) (x : List ℕ) → Bounded (taking s n numbered x .left) h w
 
+abbrev pub CallsKeepBounds : Type 0
+CallsKeepBounds = (s : Channels) (h w : List ℕ) → Bounded s h w → KeepsBounds s h w
+
 -- ---- any two answers are equal
 
 abbrev pub AfterUnique : Type 0
@@ -56,21 +59,13 @@ AfterUnique =
 abbrev pub PostUnique : Type 0
 PostUnique =
     (s : Channels) (w : List ℕ) (n : ℕ) (u v t : List ℕ) (a b : After)
-    → ended (outcomeSays (a .outcome)) (record { channels = a .channels; octets = v }) ≡ posted s w n u
-    → ended (outcomeSays (b .outcome)) (record { channels = b .channels; octets = t }) ≡ posted s w n u
-    → (a ≡ b) × (v ≡ t)
+    → Posts s w n u a v → Posts s w n u b t → (a ≡ b) × (v ≡ t)
 
 abbrev pub SendUnique : Type 0
 SendUnique =
-    (x : SendLent) (n : ℕ) (numbered : Bool) (u v t : List ℕ) (a b : Sent)
-    → ended (lengthSays (a .length)) (record { channels = a .channels; output = v }) ≡ sending x n numbered u
-    → ended (lengthSays (b .length)) (record { channels = b .channels; output = t }) ≡ sending x n numbered u
-    → (a ≡ b) × (v ≡ t)
+    (s : Channels) (out : List ℕ) (n : ℕ) (numbered : Bool) (u v t : List ℕ) (a b : Sent)
+    → SendsOn s n numbered u out a v → SendsOn s n numbered u out b t → (a ≡ b) × (v ≡ t)
 
 abbrev pub TakeUnique : Type 0
 TakeUnique =
-    (s : Channels) (n : ℕ) (numbered : Bool) (w : List ℕ) (a b : Taken)
-    → let e = channelAt s (placeOf s n) .expected in
-    ended (receivedSays (a .received) (unitOf numbered w) e) (a .channels) ≡ taking s n numbered w
-    → ended (receivedSays (b .received) (unitOf numbered w) e) (b .channels) ≡ taking s n numbered w
-    → a ≡ b
+    (s : Channels) (n : ℕ) (numbered : Bool) (w : List ℕ) (a b : Taken) → TakesOn s n numbered w a → TakesOn s n numbered w b → a ≡ b

@@ -5,7 +5,7 @@
 --   SendLent          what sending is lent to write to: the channels and the output
 --   sendingTests      what refuses to send a unit on a channel, in this order
 --   sending           how that ends: with its octets written, or a refusal
---   SendsOn           .. as the function answers it and leaves what it is lent
+--   SendsOn           .. as the function answers, and leaves the output
 --   expectedBy r      the number that is expected next, by what became of a unit
 --   takingTests       what refuses to receive a unit on a channel, in this order
 --   taking            how that ends: with what becomes of it, or a refusal
@@ -17,10 +17,8 @@ use mathlib.Core.Bool.{Bool, cond, not}
 use mathlib.Core.List.{List, _∷_}
 use Prim.Native.Nat.{ℕ, _+_, _%_}
 use lib.ListN.{length}
-use denote.Ref.{now}
 use Rattle.octets.specs.Written.{written}
 use Rattle.calls.specs.Refusal.{Ended, ended, leaving, refusing, Test, _when_, checked, lengthSays}
-use Rattle.calls.specs.Slices.{Slice}
 use Rattle.adaptation.specs.AL2.{whole, sendTests, unitOf, readTests, Receipt, handedUp, discarded, receiptOf, receivedSays}
 use Rattle.adaptation.specs.declared.al2.Number.{Number}
 use Rattle.adaptation.specs.declared.al2.Number.the-variants.{Numbered, Plain}
@@ -52,10 +50,9 @@ sending x n numbered u =
     checked (refusing x) (sendingTests x n numbered u)
     (leaving (length w) (record { channels = put (x .channels) p (risen numbered c); output = written (x .output) 0 w }))
 
-abbrev pub SendsOn : Channels → (n : ℕ) → (numbered : Bool) → (unit output : Slice) → Sent → Type 0
-SendsOn s n numbered unit output r =
-    ended (lengthSays (r .length)) (record { channels = r .channels; output = now (output .exit) })
-    ≡ sending (record { channels = s; output = now (output .entry) }) n numbered (now (unit .entry))
+abbrev pub SendsOn : Channels → (n : ℕ) → (numbered : Bool) → (unit output : List ℕ) → Sent → List ℕ → Type 0
+SendsOn s n numbered u out r v =
+    ended (lengthSays (r .length)) (record { channels = r .channels; output = v }) ≡ sending (record { channels = s; output = out }) n numbered u
 
 abbrev pub expectedBy : Receipt → ℕ
 expectedBy (handedUp u missing expected) = expected

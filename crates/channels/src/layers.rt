@@ -66,7 +66,7 @@ fn unsent(s: Channels, k: u8) -> Sent
 
 // Puts a unit into the front of out, as AL2 sends it on a channel: refusals 5, 2, 3.
 pub fn send(s: Channels, number: ChannelNumber, numbered: bool, unit: &[u8], out: &mut [u8]) -> Sent
-    ensures { λ r. ⌜ SendsOn s (number .0) numbered unit out r ⌝ }
+    ensures { λ r. ⌜ SendsOn s (number .0) numbered (now (unit .entry)) (now (out .entry)) r (now (out .exit)) ⌝ }
 {
     let n = number.0;
     let p = place_of(s, n);

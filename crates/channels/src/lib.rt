@@ -177,7 +177,7 @@ pub fn post(
     number: ChannelNumber,
     unit: &[u8],
 ) -> After
-    ensures { λ r. ⌜ Posts s waiting (number .0) unit r ⌝ }
+    ensures { λ r. ⌜ Posts s (now (waiting .entry)) (number .0) (now (unit .entry)) r (now (waiting .exit)) ⌝ }
 {
     let t = unit.len();
     if t == 0 {

@@ -3,6 +3,7 @@ pub mod Testing
 pub mod Generating
 pub mod Vectors
 pub mod First
+pub mod Ordered
 pub mod Reached
 pub mod Refuted
 pub mod Demands

@@ -1,5 +1,6 @@
 pub mod Small
 pub mod Answers
+pub mod Orders
 pub mod Repairs
 pub mod Wrong
 pub mod Demands

@@ -20,7 +20,7 @@ use Rattle.channels.specs.declared.Channel.{Channel}
 use Rattle.channels.specs.declared.Channels.{Channels}
 use Rattle.channels.specs.Channels.{placeCount, placeOctets, placeOf, isIn, channelAt}
 use Rattle.channels.specs.Claims.{Orderly, Bounded, KeepsBounds}
-use Rattle.channels.proofs.Laws.{waits-put, bounded-put, start-bounded, keeps-bounds}
+use Rattle.channels.proofs.Laws.{waits-put, bounded-put, startBounded, callsKeepBounds}
 use Rattle.multiplex.specs.Pieces.{Piece, placed, lastPlace}
 use Rattle.multiplex.specs.Demultiplexer as demux
 use Rattle.multiplex.specs.Demultiplexer.{Delivery}
@@ -123,7 +123,7 @@ unfolding calledBy
 sound-after x c h = by c
   where
     keeps : KeepsBounds (x .channels) (x .held) (x .waiting)
-    keeps = keeps-bounds (x .channels) (x .held) (x .waiting) (h .bounded)
+    keeps = callsKeepBounds (x .channels) (x .held) (x .waiting) (h .bounded)
 
     by : (c : Call) → Sound (calledBy demux.demultiplexed x c .left)
     by (calls.opening n g) = record { bounded = keeps .opening n g; entries = h .entries }
@@ -151,4 +151,4 @@ sound-led [] x h = h
 sound-led (c ∷ cs) x h = sound-led cs (called x c .left) (sound-after x c h)
 
 pub always-sound : AlwaysSound
-always-sound h w eh ew cs = sound-led cs (begun h w) (record { bounded = start-bounded h w eh ew; entries = refl })
+always-sound h w eh ew cs = sound-led cs (begun h w) (record { bounded = startBounded h w eh ew; entries = refl })

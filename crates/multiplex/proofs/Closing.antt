@@ -7,7 +7,6 @@
 --   last-laid          the last place, as the code finds it
 --   Formed s d         the delivery d has as many places as there are, and as many octets for what is held, and each channel's kind is that of s
 --   tookAll-formed     the pieces leave it so, and the last place holds at most 1,024 octets, where its channel is segmentable
---   segmentable-place  a segmentable channel's place is one of the 16
 --   Accepted           what refusals 7 and 8 leave, and what the state's form says
 --   mark-near          .. then the mark is on one of the 16 places
 --   mark-exact         .. which holds as many octets as it says
@@ -30,7 +29,7 @@ use Rattle.channels.specs.declared.Channel.{Channel}
 use Rattle.channels.specs.declared.Channels.{Channels}
 use Rattle.multiplex.specs.declared.demultiplexer.Tally.{Tally}
 use Rattle.channels.specs.Channels.{vacant, channelAt, holding, placeCount, allOctets, placeOctets}
-use Rattle.channels.proofs.Laws.{vacant-behind}
+use Rattle.channels.proofs.Laws.{vacant-behind, segmentable-place}
 use Rattle.multiplex.specs.Pieces.{paired, Piece, laid, lastPlace, total}
 use Rattle.multiplex.specs.Demultiplexer.{Delivery, took, tookAll, hasRoom, fits, nothing}
 use Rattle.multiplex.specs.Tally.{closes, Tallies, RoomFor, Exact, InRange, Closable}
@@ -130,17 +129,6 @@ tookAll-formed s d (q ∷ []) xs f w h k =
 tookAll-formed s d (q ∷ r ∷ l) xs f w h k =
     tookAll-formed s (took d (q .place) (x d q (r ∷ l) xs f h)) (r ∷ l) (drop (q .octets) xs) (rest-fits d q (r ∷ l) xs f h) (w .1)
     (rest-enough d q (r ∷ l) xs f h) (took-formed s d k (q .place) (x d q (r ∷ l) xs f h) (w .0) (first-room d q (r ∷ l) xs f h))
-
--- ---- refusal 7
-
-pub segmentable-place : (s : Channels) (p : ℕ) → length (s .at) ≡ placeCount → channelAt s p .segmentable ≡ true → p < placeCount
-segmentable-place s p e g = by (decLt p placeCount)
-  where
-    by : Dec (p < placeCount) → p < placeCount
-    by (yes h) = h
-    by (no h) =
-        let v = vacant-behind s e p (omega arith) in
-        never (cc)
 
 -- ---- the whole payload
 

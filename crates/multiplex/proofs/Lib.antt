@@ -20,6 +20,8 @@ pub mod Closing
 pub mod Refusing
 pub mod Sorting
 pub mod Unique
+pub mod Calling
+pub mod Listing
 pub mod Theorems
 pub mod Bounds
 pub mod Laws

@@ -17,7 +17,7 @@ use Rattle.octets.specs.Tests.{never}
 use Rattle.channels.specs.declared.Channels.{Channels}
 use Rattle.channels.specs.Channels.{vacant, fresh, start, isChannel, isFree, placeOf, freePlace, channelAt, put, placeCount, allOctets}
 use Rattle.multiplex.specs.Units.{UnitOn, unitsOn}
-use Rattle.channels.proofs.Laws.{Seat, seat, first-found, first-set, first-put, vacant-behind, put-there, put-elsewhere}
+use Rattle.channels.proofs.Laws.{Seat, seat, vacant-behind, put-there, put-elsewhere, place-new, place-old, place-not-free}
 use Rattle.multiplex.proofs.Matching.{way, Twin, Matched, full-there}
 
 map-set : {A B : Type 0} (f : A → B) (l : List A) (i : ℕ) (a : A) → map f (set l i a) ≡ set (map f l) i (f a)
@@ -30,28 +30,17 @@ twin-fresh n g = record { bounded = omega arith; ended = λ e. refl; whole = λ 
 
 module _ {s : Channels} {w : List ℕ} {r : Channels} {h : List ℕ} {sent got : List UnitOn} (m : Matched s w r h sent got) (n : ℕ) (g : Bool)
     (p : ℕ) (place : freePlace s ≡ p) (inside : p < placeCount) (unknown : placeCount ≤ placeOf s n) where
-  is-free : channelAt s p .«open» ≡ false
-  unfolding freePlace
-  is-free =
-      not-true (channelAt s p .«open»)
-      (ap (λ (q : ℕ). isFree (channelAt s q)) (sym place) ∙ first-found isFree vacant (s .at) (rw (m .full, place) inside))
+  abbrev next : Channels
+  next = put s p (fresh n g)
 
-  place-new : placeOf (put s p (fresh n g)) n ≡ p
-  unfolding placeOf
-  place-new =
-      first-put (isChannel n) (s .at) p (fresh n g) (rw (m .full) unknown) (rw (m .full) inside) (eq-eqb n n refl)
+  new : placeOf next n ≡ p
+  new = place-new s (m .full) p place inside n g unknown
 
-  place-old : (k : ℕ) → n ≢ k → placeOf (put s p (fresh n g)) k ≡ placeOf s k
-  unfolding placeOf
-  place-old k f = first-set (isChannel k) (s .at) p (fresh n g) vacant (rw (ne-eqb n k f, is-free))
+  old : (k : ℕ) → n ≢ k → placeOf next k ≡ placeOf s k
+  old = place-old s (m .full) p place inside n g
 
   not-there : (k : ℕ) → placeOf s k ≢ p
-  unfolding placeOf
-  not-there k e =
-      let z : isChannel k (channelAt s p) ≡ true =
-      ap (λ (q : ℕ). isChannel k (channelAt s q)) (sym e) ∙ first-found (isChannel k) vacant (s .at) (rw (m .full, e) inside) in
-      let f : false ≡ true = rw is-free at z in
-      never (cc)
+  not-there = place-not-free s (m .full) p place inside
 
   twins : (q : ℕ) → Dec (q ≡ p) → Twin (channelAt (put s p (fresh n g)) q) (channelAt (put r p (fresh n g)) q)
   twins q (yes e) = rw (e, put-there s (m .full) p (fresh n g) inside, put-there r (full-there m) p (fresh n g) inside) (twin-fresh n g)
@@ -66,9 +55,9 @@ module _ {s : Channels} {w : List ℕ} {r : Channels} {h : List ℕ} {sent got :
       → unitsOn k sent
       ≡ unitsOn k got ++ way (channelAt (put s p (fresh n g)) (placeOf (put s p (fresh n g)) k)) w
       (channelAt (put r p (fresh n g)) (placeOf (put s p (fresh n g)) k)) h (placeOf (put s p (fresh n g)) k)
-  logs k (yes e) = rw (← e, place-new, put-there s (m .full) p (fresh n g) inside) log-new
+  logs k (yes e) = rw (← e, new, put-there s (m .full) p (fresh n g) inside) log-new
   logs k (no f) =
-      rw (place-old k f, put-elsewhere s p (placeOf s k) (fresh n g) (not-there k), put-elsewhere r p (placeOf s k) (fresh n g) (not-there k)) (m .log k)
+      rw (old k f, put-elsewhere s p (placeOf s k) (fresh n g) (not-there k), put-elsewhere r p (placeOf s k) (fresh n g) (not-there k)) (m .log k)
 
   pub opened-matched : Matched (put s p (fresh n g)) w (put r p (fresh n g)) h sent got
   opened-matched = record {

@@ -1,7 +1,7 @@
 -- What a delivery has written, as the units that its records tell of.
 --
 --   unitOn n u        unit u on channel n
---   allOctets l       the octets of the units l, one behind another
+--   unitOctets l       the octets of the units l, one behind another
 --   records k l       the records of the units l, whose octets stand from k on: channel, start and length of each
 --   Tells r l         the delivery r has finished the units l
 --   tells-nothing     at first none
@@ -25,43 +25,43 @@ use lib.Seq.{take-append-seam, drop-append-seam, drop-drop}
 use Rattle.octets.specs.Written.{written}
 use Rattle.channels.specs.declared.Channels.{Channels}
 use Rattle.multiplex.specs.Demultiplexer.{Delivery, nothing, finished}
-use Rattle.multiplex.specs.Units.{UnitOn, unitsOn, unitsIn}
+use Rattle.multiplex.specs.Units.{UnitOn, unitsOn, listed, unitsIn}
 
 abbrev pub unitOn : ℕ → List ℕ → UnitOn
 unitOn n u = record { channel = n; octets = u }
 
-abbrev pub allOctets : List UnitOn → List ℕ
-allOctets [] = []
-allOctets (u ∷ l) = u .octets ++ allOctets l
+abbrev pub unitOctets : List UnitOn → List ℕ
+unitOctets [] = []
+unitOctets (u ∷ l) = u .octets ++ unitOctets l
 
 abbrev pub records : ℕ → List UnitOn → List ℕ
 records k [] = []
-records k (u ∷ l) = u .channel ∷ k ∷ length (u .octets) ∷ records (k + length (u .octets)) l
+records k (u ∷ l) = listed (u .channel) k (length (u .octets)) ++ records (k + length (u .octets)) l
 
 pub record Tells (r : Delivery) (l : List UnitOn) : Type 0 where
-  pub octets : r .octets ≡ allOctets l
+  pub octets : r .octets ≡ unitOctets l
   pub units : r .units ≡ records 0 l
   pub count : r .count ≡ length l
 
 pub tells-nothing : (s : Channels) (h : List ℕ) → Tells (nothing s h) []
 tells-nothing s h = record { octets = refl; units = refl; count = refl }
 
-all-append : (l m : List UnitOn) → allOctets (l ++ m) ≡ allOctets l ++ allOctets m
+all-append : (l m : List UnitOn) → unitOctets (l ++ m) ≡ unitOctets l ++ unitOctets m
 all-append [] m = refl
-all-append (u ∷ l) m = ap (λ (x : List ℕ). u .octets ++ x) (all-append l m) ∙ sym (append-assoc (u .octets) (allOctets l) (allOctets m))
+all-append (u ∷ l) m = ap (λ (x : List ℕ). u .octets ++ x) (all-append l m) ∙ sym (append-assoc (u .octets) (unitOctets l) (unitOctets m))
 
 records-snoc : (l : List UnitOn) (k n : ℕ) (u : List ℕ)
-    → records k (l ++ unitOn n u ∷ []) ≡ records k l ++ n ∷ (k + length (allOctets l)) ∷ length u ∷ []
+    → records k (l ++ unitOn n u ∷ []) ≡ records k l ++ listed n (k + length (unitOctets l)) (length u)
 records-snoc [] k n u = let e : k + 0 ≡ k = omega arith in rw e
 records-snoc (v ∷ l) k n u =
-    let e : k + length (v .octets) + length (allOctets l) ≡ k + length (v .octets ++ allOctets l) = omega (arith, length-append (v .octets) (allOctets l)) in
+    let e : k + length (v .octets) + length (unitOctets l) ≡ k + length (v .octets ++ unitOctets l) = omega (arith, length-append (v .octets) (unitOctets l)) in
     ap (λ (x : List ℕ). v .channel ∷ k ∷ length (v .octets) ∷ x) (records-snoc l (k + length (v .octets)) n u ∙ rw e)
 
 pub tells-finished : (r : Delivery) (l : List UnitOn) (n : ℕ) (u : List ℕ) → Tells r l → Tells (finished r n u) (l ++ unitOn n u ∷ [])
 tells-finished r l n u t = record {
-  octets = ap (λ (x : List ℕ). x ++ u) (t .octets) ∙ ap (λ (x : List ℕ). allOctets l ++ x) (sym (append-nil u)) ∙ sym (all-append l (unitOn n u ∷ []));
+  octets = ap (λ (x : List ℕ). x ++ u) (t .octets) ∙ ap (λ (x : List ℕ). unitOctets l ++ x) (sym (append-nil u)) ∙ sym (all-append l (unitOn n u ∷ []));
   units = ap₂ (λ (x y : List ℕ). x ++ n ∷ length y ∷ length u ∷ []) (t .units) (t .octets)
-      ∙ sym (records-snoc l 0 n u ∙ rw (zero-add (length (allOctets l))));
+      ∙ sym (records-snoc l 0 n u ∙ rw (zero-add (length (unitOctets l))));
   count = omega (arith, t .count, length-append l (unitOn n u ∷ []));
 }
 
@@ -71,21 +71,21 @@ records-length (u ∷ l) k = omega (arith, records-length l (k + length (u .octe
 
 -- ---- reading
 
-read-records : (l : List UnitOn) (k : ℕ) (out more rest : List ℕ) → drop k out ≡ allOctets l ++ more → unitsIn out (records k l ++ rest) (length l) ≡ l
+read-records : (l : List UnitOn) (k : ℕ) (out more rest : List ℕ) → drop k out ≡ unitOctets l ++ more → unitsIn out (records k l ++ rest) (length l) ≡ l
 unfolding unitsIn
 read-records [] k out more rest e = refl
 read-records (u ∷ l) k out more rest e =
-    let f : drop k out ≡ u .octets ++ (allOctets l ++ more) = e ∙ append-assoc (u .octets) (allOctets l) more in
+    let f : drop k out ≡ u .octets ++ (unitOctets l ++ more) = e ∙ append-assoc (u .octets) (unitOctets l) more in
     ap₂ (λ (x : List ℕ) (m : List UnitOn). unitOn (u .channel) x ∷ m)
-    (ap (take (length (u .octets))) f ∙ take-append-seam (u .octets) (allOctets l ++ more))
+    (ap (take (length (u .octets))) f ∙ take-append-seam (u .octets) (unitOctets l ++ more))
     (read-records l (k + length (u .octets)) out more rest
-    (sym (drop-drop (length (u .octets)) k out) ∙ ap (drop (length (u .octets))) f ∙ drop-append-seam (u .octets) (allOctets l ++ more)))
+    (sym (drop-drop (length (u .octets)) k out) ∙ ap (drop (length (u .octets))) f ∙ drop-append-seam (u .octets) (unitOctets l ++ more)))
 
 pub tells-read : (r : Delivery) (l : List UnitOn) (output units : List ℕ) → Tells r l
     → unitsIn (written output 0 (r .octets)) (written units 0 (r .units)) (r .count) ≡ l
 tells-read r l output units t =
     rw (t .octets, t .units, t .count)
-    (read-records l 0 (written output 0 (allOctets l)) (drop (0 + length (allOctets l)) output) (drop (0 + length (records 0 l)) units) refl)
+    (read-records l 0 (written output 0 (unitOctets l)) (drop (0 + length (unitOctets l)) output) (drop (0 + length (records 0 l)) units) refl)
 
 -- ---- by channels
 

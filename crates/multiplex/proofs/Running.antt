@@ -23,7 +23,7 @@ use Rattle.calls.specs.Refusal.{Ended, ended, leaving, refusing}
 use Rattle.table.specs.Slots.{payloadSlots}
 use Rattle.table.specs.Table.{entryOf, isDefined, replaced, longestPayload}
 use Rattle.channels.specs.declared.Channels.{Channels}
-use Rattle.channels.specs.Channels.{placeOf, freePlace, channelAt, put, fresh, isIn, opened, postTests, posted, Post, waiting, placeCount, placeOctets}
+use Rattle.channels.specs.Channels.{placeOf, freePlace, channelAt, put, fresh, isIn, opened, postTests, posted, Post, waiting, placeCount, placeOctets, openTests}
 use Rattle.multiplex.specs.Pieces.{total}
 use Rattle.multiplex.specs.Demultiplexer.{DemuxLent, demultiplexed}
 use Rattle.multiplex.specs.Multiplexer.{MuxLent, Payload, Walk, walked, gathered, multiplexTests, multiplexed}
@@ -34,7 +34,7 @@ use Rattle.multiplex.specs.Runs.{run, isWaiting, Delivers, Demand2}
 use Rattle.channels.proofs.Laws.{free-seats, place-seats}
 use Rattle.multiplex.proofs.Matching.{Matched, posted-matched}
 use Rattle.multiplex.proofs.Opening.{opened-matched, start-matched}
-use Rattle.calls.proofs.Laws.{by-tests}
+use Rattle.calls.proofs.Laws.{by-tests, both-tests}
 use Rattle.adaptation.specs.Handed.{isUnit}
 use Rattle.multiplex.proofs.Accepting.{accepted, carried-over, payload-front}
 
@@ -52,14 +52,9 @@ module _ (s r : Channels) (w h : List ℕ) (sent got : List UnitOn) (m : Matched
   pub opening-kept : Opened (opened s n g) (opened r n g)
   unfolding opened
   opening-kept =
-      rw (← (place-seats s r (m .alike) n), ← (free-seats s r (m .alike))) (by (ltb (placeOf s n) placeCount) (leb placeCount (freePlace s)) refl refl)
-    where
-      by : (a b : Bool) → ltb (placeOf s n) placeCount ≡ a → leb placeCount (freePlace s) ≡ b
-          → Opened (cond a (refusing s 13) (cond b (refusing s 12) (leaving tt (put s (freePlace s) (fresh n g)))))
-          (cond a (refusing r 13) (cond b (refusing r 12) (leaving tt (put r (freePlace s) (fresh n g)))))
-      by true b e f = m
-      by false true e f = m
-      by false false e f = opened-matched m n g (freePlace s) refl (leb-false placeCount (freePlace s) f) (ltb-false (placeOf s n) placeCount e)
+      rw (← (place-seats s r (m .alike) n), ← (free-seats s r (m .alike)))
+      (both-tests Opened (refusing s) (refusing r) (openTests s n) _ _ (λ k. m)
+      (λ none. opened-matched m n g (freePlace s) refl (leb-false placeCount (freePlace s) (none .1 .0)) (ltb-false (placeOf s n) placeCount (none .0))))
 
 -- ---- posting
 

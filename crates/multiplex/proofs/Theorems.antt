@@ -1,12 +1,13 @@
 -- The claims of specs/Claims.antt, proved.
 --
---   demand-met, idle-fails, refuser-fails, octets-once, order-kept   the claims
+--   demand-met, idle-fails, refuser-fails, calls-refuse, list-read, octets-once, order-kept   the claims
 --
 -- Assumes nothing.
 use mathlib.Core.Path.{_≡_, refl, sym, ap, ap₂, subst, _∙_}
 use mathlib.Core.Bool.{Bool, true, false, not, _&&_}
 use mathlib.Core.List.{List, [], _++_, flatten}
-use Prim.Native.Nat.{ℕ, _≤_}
+use Prim.Native.Nat.{ℕ, _≤_, _<_}
+use native.Mathlib.Omega.{arith}
 use borrow.Author.Tests.{not-false}
 use lib.ListN.{length}
 use Rattle.octets.specs.Tests.{never}
@@ -20,14 +21,15 @@ use Rattle.multiplex.specs.Pieces.{Piece, placed, lastPlace}
 use Rattle.multiplex.specs.Demultiplexer.{DemuxLent, Delivery, nothing, fits, tookAll, delivery, writes, demultiplexTests, demultiplexed}
 use Rattle.multiplex.specs.Units.{UnitOn, unitsOn, unitsIn}
 use Rattle.channels.specs.Claims.{Orderly}
-use Rattle.multiplex.specs.Claims.{DemandMet, IdleFails, RefuserFails, goingTo, OctetsOnce, OrderKept}
-use Rattle.calls.proofs.Laws.{by-tests}
-use Rattle.channels.proofs.Laws.{place-seats}
+use Rattle.multiplex.specs.Claims.{DemandMet, IdleFails, RefuserFails, CallsRefuse, ListRead, goingTo, OctetsOnce, OrderKept}
+use Rattle.calls.proofs.Laws.{by-tests, told-refused}
+use Rattle.channels.proofs.Laws.{place-seats, segmentable-place}
 use Rattle.multiplex.proofs.Records.{tells-nothing, tells-read}
 use Rattle.multiplex.proofs.Keeping.{Holds, slots-hold, closed-holds, last-known}
-use Rattle.multiplex.proofs.Closing.{segmentable-place}
 use Rattle.multiplex.proofs.Running as running
 use Rattle.multiplex.proofs.Failing as failing
+use Rattle.multiplex.proofs.Calling as calling
+use Rattle.multiplex.proofs.Listing as listing
 
 pub demand-met : DemandMet
 demand-met = running.demand-met
@@ -38,15 +40,16 @@ idle-fails = failing.idle-fails
 pub refuser-fails : RefuserFails
 refuser-fails = failing.refuser-fails
 
+pub calls-refuse : CallsRefuse
+calls-refuse = calling.calls-refuse
+
+pub list-read : ListRead
+list-read = listing.list-read
+
 -- ---- an accepted payload
 
-not-refused : {A : Type 0} (x y : DemuxLent) (i k : ℕ) → _≡_ {A = Ended ℕ DemuxLent} (refusing x i) (leaving k y) → A
-not-refused x y i k e =
-    let f : _≡_ {A = Told ℕ} (refused i) (told k) = ap (λ (z : Ended ℕ DemuxLent). z .answer) e in
-    never (cc)
-
 -- what was accepted met none of the refusals, and leaves its delivery
-record Accepted (x y : DemuxLent) (mark : Bool) (l : List Slot) (xs : List ℕ) (k : ℕ) : Type 0 where
+record Unrefused (x y : DemuxLent) (mark : Bool) (l : List Slot) (xs : List ℕ) (k : ℕ) : Type 0 where
   opened : allOpen (x .channels) (numbersOf l) ≡ true
   marked : (mark && not (channelAt (x .channels) (lastPlace (placed (x .channels) l)) .segmentable)) ≡ false
   fitting : fits (x .channels) (placed (x .channels) l) ≡ true
@@ -54,7 +57,7 @@ record Accepted (x y : DemuxLent) (mark : Bool) (l : List Slot) (xs : List ℕ) 
   left : writes (delivery (x .channels) (x .held) mark (placed (x .channels) l) xs) (x .output) (x .units) ≡ y
 
 is-accepted : (x y : DemuxLent) (t : List ℕ) (c : ℕ) (mark : Bool) (xs : List ℕ) (k : ℕ) → demultiplexed x t c mark xs ≡ leaving k y
-    → Accepted x y mark (payloadSlots (entryOf t c) (length xs)) xs k
+    → Unrefused x y mark (payloadSlots (entryOf t c) (length xs)) xs k
 unfolding demultiplexed
 is-accepted x y t c mark xs k =
     by-tests Ends (refusing x) (demultiplexTests x t c mark xs) (leaving (d .count) (writes d (x .output) (x .units))) (refuses x) (λ rest e.
@@ -78,16 +81,16 @@ is-accepted x y t c mark xs k =
     d = delivery (x .channels) (x .held) mark ps xs
 
     Ends : Ended ℕ DemuxLent → Type 0
-    Ends r = r ≡ leaving k y → Accepted x y mark l xs k
+    Ends r = r ≡ leaving k y → Unrefused x y mark l xs k
 
     refuses : (z : DemuxLent) (i : ℕ) → Ends (refusing z i)
-    refuses z i = not-refused z y i k
+    refuses z i e = told-refused (ap (λ (r : Ended ℕ DemuxLent). r .answer) e) refl
 
     same-told : (a b : ℕ) → _≡_ {A = Told ℕ} (told a) (told b) → a ≡ b
     same-told a b e = cc
 
 module _ (x y : DemuxLent) (mark : Bool) (l : List Slot) (xs : List ℕ) (k n : ℕ) (o : Orderly (x .channels) (x .held)) (most : octetsOf l ≤ length xs)
-    (a : Accepted x y mark l xs k) where
+    (a : Unrefused x y mark l xs k) where
   abbrev s : Channels
   s = x .channels
 

@@ -9,6 +9,7 @@
 --   Demultiplexer    what may stand for the demultiplexer
 --   calledBy D x c   how the call c ends in state x, where D is the demultiplexer
 --   called x c       .. where it is ours
+--   testsOf x c      what refuses the call c in state x
 --   led x cs         the state after one call behind another; a refused one leaves it
 --   begun h w        the state at first, with any octets in its arrays
 --   Sound x          the channels keep their bounds, and the table its length
@@ -20,15 +21,15 @@ use mathlib.Core.Bool.{Bool}
 use mathlib.Core.List.{List, [], _∷_}
 use Prim.Native.Nat.{ℕ}
 use lib.ListN.{length, replicate}
-use Rattle.calls.specs.Refusal.{Told, refused, told, Ended, ended}
+use Rattle.calls.specs.Refusal.{Told, refused, told, Ended, ended, Test}
 use Rattle.adaptation.specs.AL2.{Receipt}
-use Rattle.table.specs.Table.{tableNumbers, replaced}
+use Rattle.table.specs.Table.{tableNumbers, replaceTests, replaced}
 use Rattle.channels.specs.declared.Channels.{Channels}
-use Rattle.channels.specs.Channels.{allOctets, start, opened, closed, reset, posted}
+use Rattle.channels.specs.Channels.{allOctets, start, openTests, closeTests, resetTests, postTests, opened, closed, reset, posted}
 use Rattle.channels.specs.Layers as layers
 use Rattle.channels.specs.Claims.{Bounded}
-use Rattle.multiplex.specs.Demultiplexer.{DemuxLent, demultiplexed}
-use Rattle.multiplex.specs.Multiplexer.{Payload, multiplexed}
+use Rattle.multiplex.specs.Demultiplexer.{DemuxLent, demultiplexTests, demultiplexed}
+use Rattle.multiplex.specs.Multiplexer.{Payload, multiplexTests, multiplexed}
 
 pub record Link : Type 0 where
   pub channels : Channels
@@ -89,6 +90,18 @@ calledBy D x (taking n numbered w) =
 
 abbrev pub called : Link → Call → Ended Answer Link
 called = calledBy demultiplexed
+
+abbrev pub testsOf : Link → Call → List Test
+testsOf x (opening n g) = openTests (x .channels) n
+testsOf x (closing n) = closeTests (x .channels) n
+testsOf x (resetting n) = resetTests (x .channels) n
+testsOf x (posting n u) = postTests (x .channels) n u
+testsOf x (replacing c s) = replaceTests c s
+testsOf x (demultiplexing c mark xs output units) =
+    demultiplexTests (record { channels = x .channels; held = x .held; output = output; units = units }) (x .table) c mark xs
+testsOf x (multiplexing c room payload) = multiplexTests (record { channels = x .channels; payload = payload }) (x .table) c room
+testsOf x (sending n numbered u output) = layers.sendingTests (record { channels = x .channels; output = output }) n numbered u
+testsOf x (taking n numbered w) = layers.takingTests (x .channels) n numbered w
 
 unfoldable pub led : Link → List Call → Link
 led x [] = x

@@ -3,6 +3,8 @@
 --   DemandMet          the demultiplexer meets demand 2
 --   IdleFails          one that serves the first payload and afterwards moves no octet does not
 --   RefuserFails       one that refuses everything does not
+--   CallsRefuse        every call, in any state, is refused by the first of its tests that holds, exactly then, and then leaves the state
+--   ListRead           unit j of the list, as it is read, is unit j of those that the list tells of
 --   goingTo n ns xs    of the octets xs, whose channels are ns, those of channel n
 --   OctetsOnce         after an accepted payload each of its octets is in a finished unit or held, once, in order: on each channel what was
 --                      held and what came is what the finished units have and what is held then
@@ -12,16 +14,17 @@
 use mathlib.Core.Path.{_≡_}
 use mathlib.Core.Bool.{Bool, cond}
 use mathlib.Core.List.{List, [], _∷_, _++_, flatten}
-use Prim.Native.Nat.{ℕ}
+use Prim.Native.Nat.{ℕ, _*_, _≤_, _<_}
 use lib.Dec.{eqb}
-use lib.ListN.{length}
-use Rattle.calls.specs.Refusal.{leaving}
+use lib.ListN.{length, getD}
+use Rattle.calls.specs.Refusal.{leaving, Refuses}
 use Rattle.table.specs.Slots.{payloadSlots, channelsOf}
 use Rattle.table.specs.Table.{entryOf}
 use Rattle.channels.specs.Channels.{placeOf, heldOf}
 use Rattle.channels.specs.Claims.{Orderly}
 use Rattle.multiplex.specs.Demultiplexer.{DemuxLent, demultiplexed}
-use Rattle.multiplex.specs.Units.{unitsOn, unitsIn}
+use Rattle.multiplex.specs.Units.{UnitOn, unitsOn, unitAt, unitIn, unitsIn}
+use Rattle.multiplex.specs.Calls.{Link, Call, called, testsOf}
 use Rattle.multiplex.specs.Runs.{Demand2, idle, refuser}
 
 abbrev pub DemandMet : Type 0
@@ -32,6 +35,13 @@ IdleFails = Demand2 idle → ⊥
 
 abbrev pub RefuserFails : Type 0
 RefuserFails = (k : ℕ) → Demand2 (refuser k) → ⊥
+
+abbrev pub CallsRefuse : Type 0
+CallsRefuse = (x : Link) (c : Call) → Refuses (called x c) (testsOf x c) x
+
+abbrev pub ListRead : Type 0
+ListRead =
+    (output units : List ℕ) (k j : ℕ) (d : UnitOn) → j < k → 3 * k ≤ length units → getD (unitsIn output units k) j d ≡ unitIn output (unitAt units j)
 
 -- ---- one payload
 

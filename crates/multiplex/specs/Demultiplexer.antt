@@ -23,6 +23,8 @@
 --   delivered, sorted  how the call ends, where only the last of these, and the last two, are looked at
 --   demultiplexed      how the call ends: with the number of finished units, or a refusal
 --   finishedSays       what an answer says
+--   lent               what the demultiplexer is lent to write to
+--   handsBack          .. and how the call ends with it
 --
 -- Assumes nothing.
 use mathlib.Core.Bool.{Bool, true, cond, not, _&&_, _||_}
@@ -30,16 +32,20 @@ use mathlib.Core.List.{List, [], _∷_, _++_}
 use Prim.Native.Nat.{ℕ, _+_, _*_}
 use lib.Dec.{leb, ltb}
 use lib.ListN.{length, take, drop}
+use denote.Ref.{now}
 use Rattle.octets.specs.Written.{written}
-use Rattle.calls.specs.Refusal.{Told, refused, told, Ended, leaving, refusing, Test, _when_, checked}
+use Rattle.calls.specs.Refusal.{Told, refused, told, Ended, ended, leaving, refusing, Test, _when_, checked}
+use Rattle.calls.specs.Slices.{Slice}
 use Rattle.table.specs.Slots.{Slot, payloadSlots, octetsOf, numbersOf}
 use Rattle.table.specs.Table.{longestPayload, entryOf, isDefined}
 use Rattle.channels.specs.declared.Channel.{Channel}
 use Rattle.channels.specs.declared.Channels.{Channels}
+use Rattle.multiplex.specs.declared.demultiplexer.Delivered.{Delivered}
 use Rattle.multiplex.specs.declared.demultiplexer.Finished.{Finished}
 use Rattle.multiplex.specs.declared.demultiplexer.Finished.the-variants.{Units, Refused}
 use Rattle.channels.specs.Channels.{placeOctets, allOpen, channelAt, put, holding, heldOf}
 use Rattle.multiplex.specs.Pieces.{Piece, placed, lastPlace}
+use Rattle.multiplex.specs.Units.{listed}
 
 pub record Delivery : Type 0 where
   pub channels : Channels
@@ -53,7 +59,7 @@ finished r n u = record {
   channels = r .channels;
   held = r .held;
   octets = r .octets ++ u;
-  units = r .units ++ n ∷ length (r .octets) ∷ length u ∷ [];
+  units = r .units ++ listed n (length (r .octets)) (length u);
   count = r .count + 1;
 }
 
@@ -165,3 +171,12 @@ demultiplexed x t c mark xs =
 abbrev pub finishedSays : Finished → Told ℕ
 finishedSays (Units n) = told n
 finishedSays (Refused k) = refused k
+
+-- ---- a call's slices
+
+abbrev pub lent : Channels → (held output units : Slice) → DemuxLent
+lent s held output units = record { channels = s; held = now (held .entry); output = now (output .entry); units = now (units .entry) }
+
+abbrev pub handsBack : Delivered → (held output units : Slice) → Ended ℕ DemuxLent
+handsBack r held output units =
+    ended (finishedSays (r .finished)) (record { channels = r .channels; held = now (held .exit); output = now (output .exit); units = now (units .exit) })

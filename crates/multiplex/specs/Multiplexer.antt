@@ -21,6 +21,8 @@
 --   packed            how the call ends, where only the walk is looked at
 --   multiplexed       how the call ends
 --   madeSays          what an answer says
+--   makes             what the multiplexer is lent to write to
+--   leavesMade        .. and how the call ends with it
 --
 -- Assumes nothing.
 use mathlib.Core.Bool.{Bool, true, false, cond, not, _&&_, _||_}
@@ -28,13 +30,16 @@ use mathlib.Core.List.{List, [], _∷_, _++_}
 use Prim.Native.Nat.{ℕ, _-_, min}
 use lib.Dec.{ltb, eqb}
 use lib.ListN.{length, take}
+use denote.Ref.{now}
 use Rattle.octets.specs.Written.{written}
-use Rattle.calls.specs.Refusal.{Told, refused, told, Ended, leaving, refusing, Test, _when_, checked}
+use Rattle.calls.specs.Refusal.{Told, refused, told, Ended, ended, leaving, refusing, Test, _when_, checked}
+use Rattle.calls.specs.Slices.{Slice}
 use Rattle.table.specs.Slots.{Slot, payloadSlots}
 use Rattle.table.specs.Table.{longestPayload, entryOf, isDefined}
 use Rattle.channels.specs.declared.Channel.{Channel}
 use Rattle.channels.specs.declared.Channels.{Channels}
 use Rattle.multiplex.specs.declared.multiplexer.Made.{Made}
+use Rattle.multiplex.specs.declared.multiplexer.Multiplexed.{Multiplexed}
 use Rattle.multiplex.specs.declared.multiplexer.Made.the-variants as made
 use Rattle.channels.specs.Channels.{channelAt, put, placeOf, isIn, waits, waiting, waitingOf}
 use Rattle.multiplex.specs.Pieces.{Piece, piece, total}
@@ -120,3 +125,11 @@ multiplexed x w t c room =
 abbrev pub madeSays : Made → Told Payload
 madeSays (made.Payload n mark) = told (record { octets = n; mark = mark })
 madeSays (made.Refused k) = refused k
+
+-- ---- a call's slices
+
+abbrev pub makes : Channels → (payload : Slice) → MuxLent
+makes s payload = record { channels = s; payload = now (payload .entry) }
+
+abbrev pub leavesMade : Multiplexed → (payload : Slice) → Ended Payload MuxLent
+leavesMade r payload = ended (madeSays (r .made)) (record { channels = r .channels; payload = now (payload .exit) })

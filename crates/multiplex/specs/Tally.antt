@@ -1,7 +1,5 @@
 -- The delivery as the demultiplexer's inner functions tell it to each other: first by value, and then as it is written.
 --
---   lent               what the demultiplexer is lent to write to
---   handsBack          .. and how the call ends with it
 --   slotsFor           the slots of the payload that it is given
 --   joins c n          the channel c after n octets came to it
 --   atOnce c k         of k that come to c, how many are finished at once
@@ -41,13 +39,6 @@ use Rattle.multiplex.specs.Pieces.{Piece, laid, total}
 use Rattle.multiplex.specs.Demultiplexer.{Delivery, DemuxLent, took, tookAll, closed, nothing, roomIn, fits, finishedSays}
 
 -- ---- a call's slices
-
-abbrev pub lent : Channels → (held output units : Slice) → DemuxLent
-lent s held output units = record { channels = s; held = now (held .entry); output = now (output .entry); units = now (units .entry) }
-
-abbrev pub handsBack : Delivered → (held output units : Slice) → Ended ℕ DemuxLent
-handsBack r held output units =
-    ended (finishedSays (r .finished)) (record { channels = r .channels; held = now (held .exit); output = now (output .exit); units = now (units .exit) })
 
 abbrev pub slotsFor : (table : Slice) → (code : ℕ) → (payload : Slice) → List Slot
 slotsFor table code payload = payloadSlots (entryOf (now (table .entry)) code) (length (now (payload .entry)))

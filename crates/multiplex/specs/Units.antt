@@ -4,6 +4,7 @@
 --   unitsOn n l        the units of l that are on channel n, in order
 --   listed n a b       what is noted of a unit: its channel, start and length
 --   unitAt l j         what the list l has of unit j, counted from 0
+--   unitIn o l         the unit that the list tells of, as it stands in the output o
 --   unitsIn            the units that a call's list tells of, as they stand in its output
 --   enoughOutput       an output of so many octets is never too small: a unit that was held, and a payload's other octets
 --   enoughUnits        .. nor a list of so many numbers: each octet of a payload may be a unit
@@ -32,6 +33,10 @@ listed n a b = n ∷ a ∷ b ∷ []
 
 unfoldable pub unitAt : List ℕ → ℕ → Listed
 unitAt l j = cond (leb (length l / 3) j) Nothing (At (record { channel = getD l (3 * j) 0; start = getD l (3 * j + 1) 0; length = getD l (3 * j + 2) 0 }))
+
+abbrev pub unitIn : (output : List ℕ) → Listed → UnitOn
+unitIn output (At u) = record { channel = u .channel; octets = take (u .length) (drop (u .start) output) }
+unitIn output Nothing = record { channel = 0; octets = [] }
 
 unfoldable pub unitsIn : (output units : List ℕ) → (count : ℕ) → List UnitOn
 unitsIn output units zero = []

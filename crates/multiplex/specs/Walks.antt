@@ -4,8 +4,6 @@
 --   slotted cs ls     the slots of these channels and lengths
 --   Sendable s l      the pieces l can be sent, one after another: each has a place, and no more octets than wait there
 --   Gatherable        pieces of these places and lengths can be gathered into so much room
---   makes             what the multiplexer is lent to write to
---   leavesMade        .. and how the call ends with it
 --   WalkIs w r ps ls  r gives the walk w, whose pieces stand in the places ps and lengths ls
 --
 -- Assumes nothing.
@@ -14,20 +12,16 @@ use mathlib.Core.Bool.{cond}
 use mathlib.Core.List.{List, [], _∷_}
 use Prim.Native.Nat.{ℕ, _≤_, _<_}
 use lib.ListN.{length, take}
-use denote.Ref.{now}
-use Rattle.calls.specs.Refusal.{Ended, ended}
-use Rattle.calls.specs.Slices.{Slice}
 use Rattle.table.specs.Table.{longestPayload}
 use Rattle.table.specs.Slots.{Slot}
 use Rattle.channels.specs.declared.Channel.{Channel}
 use Rattle.channels.specs.declared.Channels.{Channels}
-use Rattle.multiplex.specs.declared.multiplexer.Multiplexed.{Multiplexed}
 use Rattle.multiplex.specs.declared.multiplexer.Turn.{Turn}
 use Rattle.multiplex.specs.declared.multiplexer.Turn.the-variants.{Stop, On, Last}
 use Rattle.multiplex.specs.declared.multiplexer.Walked.{Walked}
 use Rattle.channels.specs.Channels.{placeCount, allOctets, channelAt, waits}
 use Rattle.multiplex.specs.Pieces.{Piece, paired, laid, total}
-use Rattle.multiplex.specs.Multiplexer.{isBlocked, goesOn, moved, left, Walk, MuxLent, Payload, madeSays}
+use Rattle.multiplex.specs.Multiplexer.{isBlocked, goesOn, moved, left, Walk}
 
 unfoldable pub turned : Channel → ℕ → Turn
 turned c n = cond (isBlocked c n) Stop (cond (goesOn c n) (On (moved c n)) (Last (moved c n)))
@@ -50,11 +44,3 @@ pub record WalkIs (w : Walk) (r : Walked) (ps ls : List ℕ) : Type 0 where
 abbrev pub Gatherable : Channels → (n : ℕ) → (waiting places lengths payload : List ℕ) → Type 0
 Gatherable s n w ps ls xs =
     (length w ≡ allOctets) × (n ≤ length ps) × (n ≤ length ls) × Sendable s (laid (take n ps) (take n ls)) × (total (laid (take n ps) (take n ls)) ≤ length xs)
-
--- ---- a call's slices
-
-abbrev pub makes : Channels → (payload : Slice) → MuxLent
-makes s payload = record { channels = s; payload = now (payload .entry) }
-
-abbrev pub leavesMade : Multiplexed → (payload : Slice) → Ended Payload MuxLent
-leavesMade r payload = ended (madeSays (r .made)) (record { channels = r .channels; payload = now (payload .exit) })

@@ -16,9 +16,9 @@ ghost use Rattle.octets.specs.Written.{written};
 ghost use Rattle.table.specs.Table.{highestCode, longestPayload};
 ghost use Rattle.channels.specs.Channels.{placeCount, allOctets, channelAt};
 ghost use Rattle.multiplex.specs.Pieces.{laid};
-ghost use Rattle.multiplex.specs.Demultiplexer.{Delivery, roomIn, delivered, sorted, demultiplexed};
+ghost use Rattle.multiplex.specs.Demultiplexer.{Delivery, roomIn, delivered, sorted, demultiplexed, lent, handsBack};
 ghost use Rattle.multiplex.specs.Tally.{joins, atOnce, closes, Tallies, InPlaces, Deliverable, DryRun, Puts, Takes, Pours, PouredBy};
-ghost use Rattle.multiplex.specs.Tally.{lent, handsBack, slotsFor, Exact, InRange, Closable, Finishes};
+ghost use Rattle.multiplex.specs.Tally.{slotsFor, Exact, InRange, Closable, Finishes};
 ghost use Rattle.multiplex.specs.Units.{listed};
 
 // How many units are finished, or document 01's refusal number.

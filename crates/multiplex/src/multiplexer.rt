@@ -17,8 +17,8 @@ ghost use Rattle.channels.specs.Channels as the;
 ghost use Rattle.multiplex.specs.Pieces.{laid};
 ghost use Rattle.table.specs.Slots.{payloadSlots};
 ghost use Rattle.table.specs.Table.{highestCode, longestPayload, entryOf};
-ghost use Rattle.multiplex.specs.Multiplexer.{walked, gathered, packed, multiplexed};
-ghost use Rattle.multiplex.specs.Walks.{turned, slotted, WalkIs, Gatherable, makes, leavesMade};
+ghost use Rattle.multiplex.specs.Multiplexer.{walked, gathered, packed, multiplexed, makes, leavesMade};
+ghost use Rattle.multiplex.specs.Walks.{turned, slotted, WalkIs, Gatherable};
 
 // A payload's octets and closing mark, or document 01's refusal number.
 pub enum Made {

@@ -2,13 +2,26 @@
 use channels::PLACE_OCTETS;
 use table::LONGEST_PAYLOAD;
 ghost use mathlib.Core.Path.{_≡_};
-ghost use Rattle.multiplex.specs.Units.{unitAt};
+ghost use Rattle.multiplex.specs.Units.{unitAt, enoughOutput, enoughUnits};
 
 // An output of so many octets is never too small for a payload: a unit that was held, and the payload's other octets.
 pub const ENOUGH_OUTPUT: usize = PLACE_OCTETS + LONGEST_PAYLOAD;
 
 // .. nor a list of so many numbers: each octet of a payload may be a unit.
 pub const ENOUGH_UNITS: usize = 3 * LONGEST_PAYLOAD;
+
+// That is what the definitions say.
+pub fn enough_output() -> usize
+    ensures { λ r. ⌜ r ≡ enoughOutput ⌝ }
+{
+    ENOUGH_OUTPUT
+}
+
+pub fn enough_units() -> usize
+    ensures { λ r. ⌜ r ≡ enoughUnits ⌝ }
+{
+    ENOUGH_UNITS
+}
 
 // A finished unit: the number of its channel, and where in the output it starts and how long it is.
 pub struct Unit {

@@ -1,0 +1,47 @@
+-- Document 01's refusal numbers, operation by operation, in the order in which each looks at them. Each operation's tests stand
+-- beside its definition; this says, in the paper's words, which numbers they give and in which order.
+--
+--   numbers l    the numbers of the tests l, in their order
+--   Orders       those of each operation; proofs/Ordered.antt proves it
+--
+-- Assumes nothing.
+use mathlib.Core.Path.{_≡_}
+use mathlib.Core.Bool.{Bool}
+use mathlib.Core.List.{List, [], _∷_}
+use Prim.Native.Nat.{ℕ}
+use Rattle.calls.specs.Refusal.{Test, _when_}
+use Rattle.adaptation.specs.Sending.{encodeTests}
+use Rattle.adaptation.specs.Receiving.{receiveTests}
+use Rattle.adaptation.specs.AL1M.{lengthTests}
+use Rattle.adaptation.specs.AL1.{passTests}
+use Rattle.table.specs.Table.{replaceTests}
+use Rattle.channels.specs.declared.Channels.{Channels}
+use Rattle.channels.specs.Channels.{openTests, closeTests, resetTests, postTests}
+use Rattle.channels.specs.Layers.{SendLent, sendingTests, takingTests}
+use Rattle.multiplex.specs.Demultiplexer.{DemuxLent, demultiplexTests}
+use Rattle.multiplex.specs.Multiplexer.{MuxLent, multiplexTests}
+
+abbrev pub numbers : List Test → List ℕ
+numbers [] = []
+numbers ((k when b) ∷ l) = k ∷ numbers l
+
+pub record Orders : Type 0 where
+  -- "AL1M units"; the length question is lent no room, and its third test never holds
+  pub lengths : (t b e : ℕ) → numbers (lengthTests t b e) ≡ 1 ∷ 2 ∷ 3 ∷ []
+  pub encoding : (t b e room : ℕ) → numbers (encodeTests t b e room) ≡ 1 ∷ 2 ∷ 3 ∷ []
+  pub receiving : (n b e room : ℕ) → numbers (receiveTests n b e room) ≡ 1 ∷ 2 ∷ 3 ∷ []
+  -- "AL1 and AL2"
+  pub passing : (u : List ℕ) → numbers (passTests u) ≡ 2 ∷ []
+  pub sending : (x : SendLent) (n : ℕ) (numbered : Bool) (u : List ℕ) → numbers (sendingTests x n numbered u) ≡ 5 ∷ 2 ∷ 3 ∷ []
+  pub taking : (s : Channels) (n : ℕ) (numbered : Bool) (w : List ℕ) → numbers (takingTests s n numbered w) ≡ 5 ∷ 2 ∷ []
+  -- "Multiplex table"
+  pub replacing : (c : ℕ) (s : List ℕ) → numbers (replaceTests c s) ≡ 4 ∷ 14 ∷ 10 ∷ []
+  -- "Demultiplexer"
+  pub opening : (s : Channels) (n : ℕ) → numbers (openTests s n) ≡ 13 ∷ 12 ∷ []
+  pub closing : (s : Channels) (n : ℕ) → numbers (closeTests s n) ≡ 5 ∷ 14 ∷ []
+  pub resetting : (s : Channels) (n : ℕ) → numbers (resetTests s n) ≡ 5 ∷ []
+  pub demultiplexing : (x : DemuxLent) (t : List ℕ) (c : ℕ) (mark : Bool) (xs : List ℕ)
+      → numbers (demultiplexTests x t c mark xs) ≡ 2 ∷ 4 ∷ 6 ∷ 5 ∷ 7 ∷ 8 ∷ 3 ∷ []
+  -- "Multiplexer"
+  pub posting : (s : Channels) (n : ℕ) (u : List ℕ) → numbers (postTests s n u) ≡ 2 ∷ 5 ∷ 11 ∷ []
+  pub multiplexing : (x : MuxLent) (t : List ℕ) (c room : ℕ) → numbers (multiplexTests x t c room) ≡ 2 ∷ 4 ∷ 3 ∷ 5 ∷ 9 ∷ []
