@@ -7,7 +7,7 @@
 --   sent-parts                     else the whole is written, part after part
 --   apart-short, apart-long        refusal 2: a whole that is too short, or too long
 --   apart-read                     else it is read
---   judged t e                     receiving, by what reading told
+--   byParts t e                     receiving, by what reading told
 --   received-apart                 .. is that
 --   isNumbered n                   there is a number
 --   whole-apart                    a whole that was put together is read as what it was put together from, and its check agrees
@@ -104,13 +104,13 @@ module _ (s : Bool) (w : List ℕ) where
   apart-read n t l m e a = rw (le-leb (fieldLength s + 1 + 1) (length w) l, le-leb (length w) longestUnit m, e, a)
 
 -- receiving, by what reading told
-abbrev pub judged : Told Parts → ℕ → Told Receipt
-judged (refused k) e = refused k
-judged (told p) e = told (settled (p .number) (p .agreeing) (p .unit) e)
+abbrev pub byParts : Told Parts → ℕ → Told Receipt
+byParts (refused k) e = refused k
+byParts (told p) e = told (settled (p .number) (p .agreeing) (p .unit) e)
 
-pub received-apart : (s : Bool) (w : List ℕ) (e : ℕ) → received s w e ≡ judged (apart s w) e
+pub received-apart : (s : Bool) (w : List ℕ) (e : ℕ) → received s w e ≡ byParts (apart s w) e
 unfolding received apart
-received-apart s w e = sym (checked-through (λ (t : Told Parts). judged t e) refused (readTests s w) (told (partsOf s w)))
+received-apart s w e = sym (checked-through (λ (t : Told Parts). byParts t e) refused (readTests s w) (told (partsOf s w)))
 
 -- ---- both
 
@@ -144,7 +144,7 @@ whole-apart n u p l =
 pub whole-received : (n : Number) (u : List ℕ) (e : ℕ) → 0 < length u → length (whole n u) ≤ longestUnit
     → received (isNumbered n) (whole n u) e ≡ told (settled n true u e)
 unfolding received
-whole-received n u e p l = received-apart (isNumbered n) (whole n u) e ∙ ap (λ (t : Told Parts). judged t e) (whole-apart n u p l)
+whole-received n u e p l = received-apart (isNumbered n) (whole n u) e ∙ ap (λ (t : Told Parts). byParts t e) (whole-apart n u p l)
 
 pub whole-ordered : (u : List ℕ) (e : ℕ) → e < 256 → 0 < length u → length (whole (Numbered e) u) ≤ longestUnit
     → received true (whole (Numbered e) u) e ≡ told (handedUp (handed Clean u) 0 ((e + 1) % 256))

@@ -27,7 +27,7 @@ use Rattle.adaptation.specs.Width.{kindAt}
 use Rattle.adaptation.specs.Sending.{Sends}
 use Rattle.adaptation.specs.Receiving.{isBare, handedUnit, Receives}
 use Rattle.calls.specs.declared.Length.{Length}
-use Rattle.calls.specs.declared.Length.the-variants as sent
+use Rattle.calls.specs.declared.Length.the-variants as sends
 use Rattle.adaptation.specs.declared.Badge.{Badge}
 use Rattle.adaptation.specs.declared.Badge.the-variants.{Clean, Corrected, OutOfReach, CheckFailed, Unchecked}
 use Rattle.adaptation.specs.declared.al1m.Judgement.{Judgement}
@@ -43,7 +43,7 @@ isFaulty Unchecked = false
 
 abbrev pub SentIsHandedUp : Type 0
 SentIsHandedUp =
-    (b e m : ℕ) (u room whole w before after : List ℕ) (r : Received) → Sends b e u room (sent.Octets m) whole
+    (b e m : ℕ) (u room whole w before after : List ℕ) (r : Received) → Sends b e u room (sends.Octets m) whole
     → length w ≡ m → distance w (take m whole) ≤ e → m ≤ length before → Receives b e w before r after
     → (x : Badge) × (r ≡ Unit (record { badge = x; changed = distance w (take m whole); length = length u }))
     × (handedUnit x w after (length u) ≡ u) × (isFaulty x ≡ false)
@@ -88,5 +88,5 @@ ReceivedUnique =
 
 abbrev pub RefusalLeaves : Type 0
 RefusalLeaves =
-    ((b e k : ℕ) (u before after : List ℕ) → Sends b e u before (sent.Refused k) after → after ≡ before)
+    ((b e k : ℕ) (u before after : List ℕ) → Sends b e u before (sends.Refused k) after → after ≡ before)
     × ((b e k : ℕ) (w before after : List ℕ) → Receives b e w before (Refused k) after → after ≡ before)

@@ -1,6 +1,7 @@
 -- What of document 01's small set concerns the checks and the lengths, with an outside vector of the 16 bit check: one table, by
 -- computation. The octets are in hex.
 --
+--   small   all of it:
 --   A1 check 8 of 10 80: F5
 --   the 16 bit check is X.25's, whose number for the digits "123456789" is 906E, low octet first: 6E 90
 --   A9 lengths: unit 47, check 16, e = 2: 53; with e = 101: 251; with e = 104: refusal 2

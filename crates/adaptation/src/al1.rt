@@ -10,7 +10,7 @@ pub enum Passed {
     Refused(u8),
 }
 
-// Passes a unit of 1 to 1,024 octets as it is; else refusal 2.
+// Passes a unit as it is, if it has an octet and no more than the longest; else refusal 2.
 pub fn pass(unit: &[u8]) -> Passed
     ensures { λ r. ⌜ passedSays r (now (unit .entry)) ≡ passed (now (unit .entry)) ⌝ }
 {

@@ -23,7 +23,7 @@ fn set_up(table: &mut [u16; TABLE_NUMBERS]) -> Channels {
     channels::open(s, ChannelNumber(3), true).channels
 }
 
-// Units wait on every channel: 4 octets on channel 1, 1,024 on the others.
+// Units wait on every channel: 4 octets on channel 1, as many as a place has on the others.
 fn fill(s: Channels, waiting: &mut [u8; ALL_OCTETS]) -> Channels {
     let unit = [0u8; PLACE_OCTETS];
     let mut next = channels::post(s, waiting, ChannelNumber(0), &unit).channels;

@@ -5,6 +5,7 @@
 --   word w            the octets of w as elements
 --   Octets w          each number of w is an octet
 --   CodeWord e w      w is a word of octets whose polynomial, the first octet its highest coefficient, g divides
+--   differs a b       1 where two octets differ, 0 where not
 --   distance v w      in how many octets two words of one length differ
 --   Within e w c      c is a code word of as many octets as w, and differs from w in at most e of them
 --
@@ -37,7 +38,6 @@ pub record CodeWord (e : ℕ) (w : List ℕ) : Type 0 where
   pub octets : Octets w
   pub divided : Divides elements (generator e) (polynomial elements (word w))
 
--- 1 where two octets differ, 0 where not
 abbrev pub differs : ℕ → ℕ → ℕ
 differs a b = cond (eqb a b) 0 1
 

@@ -43,16 +43,16 @@ pub data Vector : Type 0 where
 
 -- whatever is lent for the repair, if it is enough
 abbrev pub ReceivedAs : ℕ → ℕ → List ℕ → Badge → ℕ → List ℕ → Type 0
-ReceivedAs n e w b k u =
-    (before after : List ℕ) (r : Received) → length w ≤ length before → Receives n e w before r after
-    → (r ≡ al1m.Unit (record { badge = b; changed = k; length = length u })) × (handedUnit b w after (length u) ≡ u)
+ReceivedAs b e w x k u =
+    (before after : List ℕ) (r : Received) → length w ≤ length before → Receives b e w before r after
+    → (r ≡ al1m.Unit (record { badge = x; changed = k; length = length u })) × (handedUnit x w after (length u) ≡ u)
 
 abbrev pub Holds : Vector → Type 0
-Holds (check n u c) = checkOf (kindAt n) u ≡ c
+Holds (check b u c) = checkOf (kindAt b) u ≡ c
 Holds (generator e g) = code.generator e ≡ polynomial elements (code.word g)
-Holds (sent n e u c) = Coded (kindAt n) e u c
-Holds (received n e w b k u) = ReceivedAs n e w b k u
-Holds (lengths t n e r) = sentLength t n e ≡ r
+Holds (sent b e u c) = Coded (kindAt b) e u c
+Holds (received b e w x k u) = ReceivedAs b e w x k u
+Holds (lengths t b e r) = sentLength t b e ≡ r
 Holds (channels s n l) = (isEntry s ≡ true) × (channelsOf (payloadSlots s n) ≡ l)
 
 -- A10's entry is [channel 1 twice, [channel 2 once, channel 3 twice] until closing], by its numbers

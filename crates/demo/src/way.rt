@@ -232,7 +232,7 @@ fn carry_out(
     table: &[u16; TABLE_NUMBERS],
 ) -> Call {
     let mut next = call;
-    let mut turns: usize = 16384;
+    let mut turns: usize = ALL_OCTETS;
     while 0 < turns {
         let c = carry(next, round, code, waiting, held, table);
         next = c.call;

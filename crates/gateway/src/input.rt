@@ -12,6 +12,9 @@ use table::form::LONGEST_ENTRY;
 // The octets of the longest line that is read, and of those that stand in it in hex.
 pub const LINE: usize = 16384;
 
+// How many octets are read at once.
+const CHUNK: usize = 4096;
+
 pub const OCTETS: usize = LINE / 2;
 
 // The line that is being read, and the channels as the calls before it left them.
@@ -74,7 +77,7 @@ fn grow(session: Session, line: &mut [u8; LINE], octet: u8) -> Session {
 // Takes the n octets that were read, one by one.
 fn feed(
     session: Session,
-    chunk: &[u8; 4096],
+    chunk: &[u8; CHUNK],
     n: usize,
     line: &mut [u8; LINE],
     octets: &mut [u8; OCTETS],
@@ -97,7 +100,7 @@ fn feed(
 }
 
 // Reads once, and tells how many octets there are: 0 at the end of the input and where it cannot be read, which is said under its name.
-fn read_some(fd: i32, name: &[u8], chunk: &mut [u8; 4096]) -> usize {
+fn read_some(fd: i32, name: &[u8], chunk: &mut [u8; CHUNK]) -> usize {
     let got = libc::read(fd, chunk);
     if got < 0 {
         os::fail(name);
@@ -114,7 +117,7 @@ pub fn serve(fd: i32, name: &[u8]) {
     let mut line = [0u8; LINE];
     let mut octets = [0u8; OCTETS];
     let mut entry = [0u16; LONGEST_ENTRY];
-    let mut chunk = [0u8; 4096];
+    let mut chunk = [0u8; CHUNK];
     let mut session = open();
     let mut turns = u64::MAX;
     let mut got = 1;

@@ -3,8 +3,8 @@
 --   answer t                       a length, or minus a refusal's number
 --   packed j                       badge + 256 changed + 65,536 unit length
 --   receiveAnswer r                .. or minus a refusal's number
---   EncodeIs n e u before r after  what kyte_encode answers and leaves, by AL1M's sending
---   ReceiveIs n e w before r after .. and kyte_receive, by AL1M's receiving
+--   EncodeIs b e u before r after  what kyte_encode answers and leaves, by AL1M's sending
+--   ReceiveIs b e w before r after .. and kyte_receive, by AL1M's receiving
 --
 -- Assumes nothing.
 use mathlib.Core.Path.{_≡_}
@@ -31,12 +31,12 @@ abbrev pub receiveAnswer : Received → ℤ
 receiveAnswer (Unit j) = pos (packed j)
 receiveAnswer (Refused k) = negℤ (pos k)
 
-pub record EncodeIs (n e : ℕ) (u before : List ℕ) (r : ℤ) (after : List ℕ) : Type 0 where
+pub record EncodeIs (b e : ℕ) (u before : List ℕ) (r : ℤ) (after : List ℕ) : Type 0 where
   pub outcome : Length
-  pub encoded : Sends n e u before outcome after
+  pub encoded : Sends b e u before outcome after
   pub number : r ≡ answer (lengthSays outcome)
 
-pub record ReceiveIs (n e : ℕ) (w before : List ℕ) (r : ℤ) (after : List ℕ) : Type 0 where
+pub record ReceiveIs (b e : ℕ) (w before : List ℕ) (r : ℤ) (after : List ℕ) : Type 0 where
   pub outcome : Received
-  pub received : Receives n e w before outcome after
+  pub received : Receives b e w before outcome after
   pub number : r ≡ receiveAnswer outcome

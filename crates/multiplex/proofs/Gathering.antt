@@ -4,6 +4,7 @@
 --   pieceAt       the piece at place j of two lists
 --   gathers-at    of pieces that stand in two lists, the one at place j comes first
 --   first-moves   the first of them can be sent, and fits
+--   from          where they stand
 --   part-of       what is read for it: so many of the octets that wait at its place
 --   gathers-next  one piece less
 --   gathers-end   past the last place, no piece is left
