@@ -3,19 +3,19 @@ use crate::carry;
 use channels::ALL_OCTETS;
 use channels::Channels;
 use script::call::Call;
-use script::lines;
-use script::lines::Reading;
 use script::read;
 use table::TABLE_NUMBERS;
 use table::form::LONGEST_ENTRY;
+use text::lines;
+use text::lines::Reading;
 
 // The octets of the longest line that is read, and of those that stand in it in hex.
 pub const LINE: usize = 16384;
 
+pub const OCTETS: usize = LINE / 2;
+
 // How many octets are read at once.
 const CHUNK: usize = 4096;
-
-pub const OCTETS: usize = LINE / 2;
 
 // The line that is being read, and the channels as the calls before it left them.
 struct Session {

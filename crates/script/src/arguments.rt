@@ -1,7 +1,7 @@
 // What the words behind a call's name may say: a channel, one of two words, and how much is lent.
-use crate::numbers;
-use crate::numbers::Number;
-use crate::words;
+use text::numbers;
+use text::numbers::Number;
+use text::words;
 
 // A channel's number and the place behind it, or none.
 pub enum Channel {

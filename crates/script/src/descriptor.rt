@@ -2,8 +2,8 @@
 // the numbers that the library reads: how many elements there are, and of each its repeat count, 0 for until closing, then 0 and a
 // channel, or how many elements its list has, and these. What has that form and breaks a rule, or has more numbers than are lent, is
 // given as no numbers, which the library refuses.
-use crate::numbers;
-use crate::numbers::Decimal;
+use text::numbers;
+use text::numbers::Decimal;
 
 // What is expected next: an element; an element, or the repeat count that ends a list; a comma, or the end of the text.
 const ELEMENT: u8 = 0;

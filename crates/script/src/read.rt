@@ -12,12 +12,12 @@ use crate::call::MuxCall;
 use crate::call::UnitCall;
 use crate::descriptor;
 use crate::descriptor::Entry;
-use crate::hex;
-use crate::hex::Octets;
-use crate::numbers;
-use crate::numbers::Number;
-use crate::words;
-use crate::words::Word;
+use text::hex;
+use text::hex::Octets;
+use text::numbers;
+use text::numbers::Number;
+use text::words;
+use text::words::Word;
 
 // What AL1M's calls say, or a line that cannot be read.
 enum Settings {

@@ -1,0 +1,10 @@
+-- Nothing stands yet. Assumes nothing.
+use Rattle.text.proofs.Taking.{begun}
+use Rattle.text.proofs.lines.begin.Statement.{statement}
+use Rattle.text.proofs.lines.begin.Tie as tie
+
+returns : tie.Need-returns
+returns c = begun
+
+pub begin-spec : {M : Type 1} → statement M
+begin-spec = tie.close (tie.spec returns)
