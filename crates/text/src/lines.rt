@@ -1,4 +1,6 @@
 // A line, octet by octet, from a source of any length: one line at a time is in memory.
+ghost use mathlib.Core.Path.{_≡_};
+ghost use mathlib.Core.Bool.{false};
 ghost use mathlib.Core.List.{List, []};
 ghost use Prim.Native.Nat.{ℕ};
 ghost use Rattle.text.specs.Lines.{SoFar, Takes};
@@ -13,7 +15,7 @@ pub struct Reading {
 
 // The beginning of a line.
 pub fn begin() -> Reading
-    ensures { λ r. ⌜ ((line : List ℕ) → SoFar r line []) ⌝ }
+    ensures { λ r. ⌜ ((line : List ℕ) → SoFar r line []) × (r .whole ≡ false) ⌝ }
 {
     Reading {
         length: 0,
