@@ -7,7 +7,7 @@
 --
 -- Assumes nothing.
 use mathlib.Core.Path.{_≡_, sym, ap, _∙_}
-use mathlib.Core.Bool.{true, false, _||_, or-true, or-false}
+use mathlib.Core.Bool.{Bool, true, false, _||_, or-true, or-false}
 use mathlib.Core.List.{List, [], _∷_, _++_}
 use Prim.Native.Nat.{ℕ, _+_, _≤_, _<_}
 use native.Mathlib.Numerals.{add-one}
@@ -19,7 +19,7 @@ use lib.Seq.{take-nil, take-all, take-append-le, take-suc-set}
 use Rattle.text.specs.declared.lines.Reading.{Reading}
 use Rattle.text.specs.Lines.{SoFar, Takes}
 
-pub begun : (line : List ℕ) → SoFar (record { length = 0; over = false; whole = false }) line []
+pub begun : {whole : Bool} (line : List ℕ) → SoFar (record { length = 0; over = false; whole = whole }) line []
 begun line =
     record {
       over = sym (le-ltb (length line) 0 (omega arith));
