@@ -1,5 +1,6 @@
 /*
- * A host in C: it sends units, a bad link damages them by a fixed pattern, and it receives them again and shows each badge.
+ * A host in C: it sends units, a bad link damages them by a fixed pattern, and it receives them again and shows each badge. Then it
+ * receives noise, which nobody sent, and shows why a unit without a check may not be trusted, whatever its badge says.
  * './kyte host' builds and runs it; examples/host.expected is what it prints.
  */
 #include "kyteblossom.h"
@@ -23,7 +24,7 @@ static const struct trip trips[] = {
     { "crane 4: man below", 16, 0, 0 },     /* a check and no code: damage is seen ... */
     { "crane 4: man below", 16, 0, 1 },     /* ... and not repaired */
     { "crane 4: man below", 0, 0, 1 },      /* neither: nothing is known of the unit */
-    { "!", 0, 127, 127 },                   /* one octet in 255, half of them wrong */
+    { "!", 0, 127, 127 },                   /* one octet in 255, half of them wrong: repaired, and yet no check says that it is so */
     { "crane 4: hook clear", 12, 2, 0 },    /* there is no check of 12 bits */
     { "crane 4: hook clear", 8, 120, 0 },   /* 19 + 1 + 240 octets are too many */
 };
@@ -44,6 +45,12 @@ static void show_refusal(int32_t answer)
 {
     int number = kyte_refused(answer);
     printf("refused %d: %s\n", number, refusals[number]);
+}
+
+/* Prints what is told of a unit, but for what is handed up. */
+static void show_badge(int32_t answer, uint32_t width)
+{
+    printf("%-13s %7zu  %-7s  ", badges[kyte_badge(answer)], kyte_changed(answer), kyte_trusted(answer, width) ? "yes" : "no");
 }
 
 /* Sends, damages and receives one unit. Whether a unit that may be trusted is not the one that was sent. */
@@ -68,17 +75,39 @@ static int is_deceived_by(const struct trip *t)
     }
     const uint8_t *unit = kyte_unit(answer, sent, repair);
     int is_same = kyte_unit_length(answer) == length && memcmp(unit, t->unit, length) == 0;
-    printf("%-13s %7zu  %s\n", badges[kyte_badge(answer)], kyte_changed(answer), is_same ? "as it was sent" : "damaged");
-    return kyte_trusted(answer) && !is_same;
+    show_badge(answer, t->width);
+    printf("%s\n", is_same ? "as it was sent" : "damaged");
+    return kyte_trusted(answer, t->width) && !is_same;
+}
+
+/*
+ * Receives 255 octets that nobody sent. Nearly all such words lie within one octet of some code word, so that with e = 1 and no check
+ * noise is called corrected; a check of 8 bits agrees by chance with one such word in 256, one of 16 bits with one in 65,536.
+ */
+static int is_deceived_by_noise(uint32_t width)
+{
+    uint8_t noise[KYTE_LONGEST], repair[KYTE_LONGEST];
+    uint32_t state = 1;
+    for (size_t i = 0; i < sizeof noise; i++) {
+        state = 1103515245 * state + 12345;
+        noise[i] = (uint8_t)(state >> 16);
+    }
+    int32_t answer = kyte_receive(noise, sizeof noise, width, 1, repair, sizeof repair);
+    printf("%-21s %5u %4u %6s  ", "(noise)", (unsigned)width, 1u, "all");
+    show_badge(answer, width);
+    printf("noise\n");
+    return kyte_trusted(answer, width);
 }
 
 int main(void)
 {
     int deceived = 0;
 
-    printf("%-21s %5s %4s %6s  %-13s %7s  %s\n", "unit", "check", "e", "wrong", "badge", "changed", "what is handed up");
+    printf("%-21s %5s %4s %6s  %-13s %7s  %-7s  %s\n", "unit", "check", "e", "wrong", "badge", "changed", "trusted", "what is handed up");
     for (size_t i = 0; i < sizeof trips / sizeof *trips; i++)
         deceived += is_deceived_by(&trips[i]);
+    for (uint32_t width = 0; width <= 16; width += 8)
+        deceived += is_deceived_by_noise(width);
     printf("Trusted units that differ from what was sent: %d\n", deceived);
     return deceived != 0;
 }

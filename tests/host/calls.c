@@ -3,6 +3,7 @@
 #include "draw.h"
 #include "kyteblossom.h"
 #include "lent.h"
+#include "reading.h"
 #include "reference.h"
 #include "tally.h"
 
@@ -68,24 +69,14 @@ static void count_received(const struct call *c, int32_t answer)
 
 /* ---- what is compared */
 
-/* The header's reading of an answer against the number itself. */
-static void check_parts(const struct call *c, int32_t answer)
-{
-    int is_refused = answer < 0, badge = is_refused ? -1 : answer % 256;
-    const uint8_t *unit = is_refused ? 0 : badge == 1 ? out.at : in.at;
-    if (kyte_refused(answer) != (is_refused ? -answer : 0) || kyte_badge(answer) != badge ||
-        kyte_changed(answer) != (is_refused ? 0 : (size_t)answer / 256 % 256) ||
-        kyte_unit_length(answer) != (is_refused ? 0 : (size_t)answer / 65536) || kyte_unit(answer, in.at, out.at) != unit ||
-        kyte_trusted(answer) != (badge == 0 || badge == 1))
-        fail(c, "the header reads the answer otherwise", answer, answer);
-}
-
 /* The answer and all lent octets. */
 static void check_call(const struct call *c, int32_t answer, int32_t expected)
 {
     if (answer != expected)
         fail(c, "another answer", answer, expected);
-    check_parts(c, answer);
+    const char *misread = reading_differs(answer, c->width, in.at, out.at);
+    if (misread)
+        fail(c, misread, answer, expected);
     if (!lent_is_kept(&in))
         fail(c, "the input or what lies around it has changed", answer, expected);
     if (!lent_is_kept(&out))

@@ -1,5 +1,5 @@
 /*
- * The C entries against the second implementation of reference.c, on inputs drawn from a seed: compare [SEED].
+ * The C entries against the second implementation of reference.c, on inputs drawn from a seed: compare [SEED [INPUTS]].
  *
  * Ends at the first difference with status 1, and with status 1 too if some kind of input was never tried.
  */
@@ -280,12 +280,13 @@ static void refuse_far(void)
 int main(int argc, char **argv)
 {
     draw_seed(argc, argv);
+    uint64_t inputs = argc > 2 ? strtoull(argv[2], 0, 10) : INPUTS;
     ref_init();
     calls_open();
     for (size_t i = 0; i < sizeof examples / sizeof *examples; i++)
         try_example(&examples[i]);
     refuse_far();
-    while (tally[INPUT] < INPUTS) {
+    while (tally[INPUT] < inputs) {
         size_t r = draw(0, 99);
         if (r < 10)
             length_one();

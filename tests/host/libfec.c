@@ -63,7 +63,7 @@ static void receive(const struct code *c, const uint8_t *word)
     int corrected = decode_rs_char(c->tables, theirs, 0, 0);
     for (size_t i = 0; i < c->n; i++)
         differ += theirs[i] != word[i];
-    if (kyte_trusted(answer)) {
+    if (kyte_badge(answer) == KYTE_CLEAN || kyte_badge(answer) == KYTE_CORRECTED) {
         within++;
         if (corrected < 0 || (size_t)corrected != kyte_changed(answer) || memcmp(ours, theirs, c->n))
             fail(c, "another repair");

@@ -9,7 +9,9 @@ pub mod Settings
 pub mod Sendable
 pub mod Arrivals
 pub mod Wholes
+pub mod InStep
 pub mod Unique
 pub mod Refusals
+pub mod Badges
 pub mod Theorems
 pub mod Laws

@@ -6,6 +6,7 @@
 --   number-sum, sum-bitsOf          a sum of coefficients is exclusive or of numbers
 --   octetsOf-length, octetsOf-lt    as many as asked for, each below 256
 --   octetsOf-cons, octetsOf-snoc    eight bits in front are an octet in front; eight zeros behind are the octet 0
+--   bits-octetsOf, octetsOf-bits    bits by octets are those bits, and octets by their bits those octets
 --   octetsOf-sum                    octet by octet
 --   not-sum, sum-zeros              the sum with ones is the ones' complement, and with zeros it is nothing new
 --   xors u v                        exclusive or of octets, one by one
@@ -21,8 +22,8 @@ use lib.Arith.{digits-div, digits-mod, digits-lt}
 use lib.Pow.{pow-mono}
 use lib.Bits.{bitXor, xor-block}
 use lib.Dec.{eqb, lit<}
-use lib.ListN.{length, getD, take, drop, replicate, length-take, length-drop}
-use lib.Seq.{take-at, drop-at, take-append-le, drop-append-le}
+use lib.ListN.{length, getD, take, drop, replicate, length-take, length-drop, take-append-drop}
+use lib.Seq.{take-at, drop-at, take-append-le, drop-append-le, length-take-le}
 use Rattle.algebra.specs.Division.{sum}
 use Rattle.algebra.proofs.Laws.{sum-length}
 use Rattle.adaptation.specs.Binary.{𝔹, plus, plus-nil}
@@ -128,6 +129,23 @@ octetsOf-snoc (suc l) p e =
     let m : 8 ≤ length p = omega (arith, mul-suc 8 l) in
     ap₂ (λ (x y : List Bool). number x ∷ octetsOf (suc l) y) (take-append-le 8 p (replicate 8 false) m) (drop-append-le 8 p (replicate 8 false) m)
     ∙ ap (λ (u : List ℕ). number (take 8 p) ∷ u) (octetsOf-snoc l (drop 8 p) (length-drop 8 p ∙ (omega (arith, mul-suc 8 l))))
+
+pub bits-octetsOf : (l : ℕ) (p : List Bool) → length p ≡ 8 * l → bits (octetsOf l p) ≡ p
+unfolding bits octetsOf
+bits-octetsOf zero [] e = refl
+bits-octetsOf zero (b ∷ p) e = absurd (omega arith)
+bits-octetsOf (suc l) p e =
+    let m : length (take 8 p) ≡ 8 = length-take-le 8 p (omega (arith, mul-suc 8 l)) in
+    ap₂ (λ (x y : List Bool). x ++ y) (ap (λ (n : ℕ). bitsOf n (number (take 8 p))) (sym m) ∙ bitsOf-number (take 8 p))
+    (bits-octetsOf l (drop 8 p) (length-drop 8 p ∙ (omega (arith, mul-suc 8 l))))
+    ∙ take-append-drop 8 p
+
+pub octetsOf-bits : (u : List ℕ) → ((i : ℕ) → getD u i 0 < 256) → octetsOf (length u) (bits u) ≡ u
+unfolding bits octetsOf
+octetsOf-bits [] o = refl
+octetsOf-bits (a ∷ u) o =
+    octetsOf-cons (length u) (bitsOf 8 a) (bits u) (bitsOf-length 8 a)
+    ∙ ap₂ (λ (x : ℕ) (v : List ℕ). x ∷ v) (number-bitsOf 8 a (o 0)) (octetsOf-bits u (λ i. o (suc i)))
 
 sum-nothing : (p : List Bool) → sum 𝔹 p [] ≡ p
 unfolding sum

@@ -1,6 +1,6 @@
 -- Refusals (document 01, "Refusal numbers"): they leave everything as it came, and the first that applies decides.
 --
---   sent-leaves      of AL2's sending
+--   sent-leaves      AL2's sending leaves the output
 --   refused-setting  AL1M's three tests: the first that fails decides
 --   refused-length
 --   refused-room
@@ -17,7 +17,7 @@ use Prim.Native.Nat.{ℕ}
 use lib.ListN.{length}
 use Rattle.octets.specs.Tests.{never}
 use Rattle.octets.specs.Written.{written}
-use Rattle.calls.specs.Refusal.{refused, told, Ended, checked, refusal, ended}
+use Rattle.calls.specs.Refusal.{refused, told, Ended, leaving, checked, refusal, ended}
 use Rattle.adaptation.specs.AL1M.{al1mTests}
 use Rattle.adaptation.specs.AL2.{whole, sendTests, sent}
 use Rattle.adaptation.specs.declared.al2.Number.{Number}

@@ -26,7 +26,7 @@ use Rattle.adaptation.specs.Binary.{𝔹}
 use Rattle.adaptation.specs.Bits.{bitsOf, bits, number, octetsOf}
 use Rattle.adaptation.specs.Check.{Kind, width, generator, plain, preset, checkBits, checkOf}
 use Rattle.adaptation.specs.Columns.{remainderOf}
-use Rattle.adaptation.proofs.Remainders.{generator-length}
+use Rattle.adaptation.proofs.Remainders.{generator-length, plain-length}
 use Rattle.adaptation.proofs.Octets.{bitsOf-length, sum-bitsOf, bits-snoc, octetsOf-cons, octetsOf-snoc, octetsOf-sum, not-sum, sum-zeros, xors}
 
 abbrev zeros : ℕ → List Bool
@@ -62,9 +62,6 @@ module _ (κ : Kind) where
   started-false : (c : List Bool) → started c false ≡ plain κ c
   unfolding plain started
   started-false c = register-zeros 𝔹 g c ∙ ap (λ (w : ℕ). remainder 𝔹 g (c ++ zeros w)) (generator-length κ)
-
-  plain-length : (c : List Bool) → length (plain κ c) ≡ width κ
-  plain-length c = sym (ap length (started-false c)) ∙ started-length c false
 
   started-true : (c : List Bool) → started c true ≡ sum 𝔹 (preset κ (length c)) (plain κ c)
   unfolding plain preset register started
@@ -130,7 +127,7 @@ module _ (κ : Kind) where
         (ap₂ (λ (q : List Bool) (w : ℕ). q ++ zeros w) (sum-bitsOf 8 a o a-length octet) (generator-length κ))
 
     moved-length : length (b ++ zeros 8) ≡ length (plain κ (bitsOf 8 (bitXor (number a) o)))
-    moved-length = length-append b (zeros 8) ∙ (omega (arith, b-length, p-length, residue-length (bits u), plain-length (bitsOf 8 (bitXor (number a) o))))
+    moved-length = length-append b (zeros 8) ∙ (omega (arith, b-length, p-length, residue-length (bits u), plain-length κ (bitsOf 8 (bitXor (number a) o))))
 
     stepped : residues (u ++ o ∷ []) ≡ xors (octetsOf l b ++ 0 ∷ []) (remainderOf κ (bitXor (number a) o))
     unfolding residues remainderOf

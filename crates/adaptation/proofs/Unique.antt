@@ -84,7 +84,7 @@ read-once s w a b = once (λ (r : Apart). apartSays r (unitOf s w)) apartBack ba
 
 receivedBack : Told Receipt → Received
 receivedBack (told (handedUp h d x)) = receive.Unit (badgeAt (h .badge)) d x
-receivedBack (told (discarded e)) = receive.Discarded
+receivedBack (told (discarded d e)) = receive.Discarded
 receivedBack (refused k) = receive.Refused k
 
 received-back : (u : List ℕ) (e : ℕ) (r : Received) → receivedBack (receivedSays r u e) ≡ r

@@ -9,16 +9,14 @@
 --   apart-read                     else it is read
 --   byParts t e                     receiving, by what reading told
 --   received-apart                 .. is that
---   isNumbered n                   there is a number
 --   whole-apart                    a whole that was put together is read as what it was put together from, and its check agrees
 --   whole-received                 so its unit is handed up as it was, clean, or discarded for its number
---   whole-ordered                  .. and with the number expected, clean and with none missing
 --
 -- Assumes nothing.
 use mathlib.Core.Path.{_≡_, refl, sym, ap, ap₂, _∙_}
 use mathlib.Core.Bool.{Bool, true, false, and-false}
 use mathlib.Core.List.{List, _∷_, _++_}
-use Prim.Native.Nat.{ℕ, _+_, _-_, _%_, _≤_, _<_}
+use Prim.Native.Nat.{ℕ, _+_, _-_, _≤_, _<_}
 use native.Mathlib.Omega.{arith}
 use borrow.Author.Tests.{le-leb, lt-leb, le-ltb, lt-ltb}
 use lib.Dec.{leb}
@@ -28,14 +26,12 @@ use Rattle.octets.specs.Written.{written, written-next}
 use Rattle.calls.specs.Refusal.{Told, refused, told, leaving, refusing}
 use Rattle.calls.proofs.Laws.{checked-through}
 use Rattle.adaptation.specs.Check.{checkOf, agrees, eight}
-use Rattle.adaptation.specs.Handed.{longestUnit, handed}
+use Rattle.adaptation.specs.Handed.{longestUnit}
 use Rattle.adaptation.specs.AL2.{field, whole, isSendable, sent, fieldLength, numberOf, unitOf, Parts, readTests, partsOf, apart, Receipt}
-use Rattle.adaptation.specs.AL2.{handedUp, settled, delivered, received}
+use Rattle.adaptation.specs.AL2.{settled, received}
+use Rattle.adaptation.specs.AL2Claims.{isNumbered}
 use Rattle.adaptation.specs.declared.al2.Number.{Number}
 use Rattle.adaptation.specs.declared.al2.Number.the-variants.{Numbered, Plain}
-use Rattle.adaptation.specs.declared.al2.Arrival.{Arrival}
-use Rattle.adaptation.specs.declared.Badge.the-variants.{Clean}
-use Rattle.adaptation.proofs.Arrivals.{arrival-next}
 use Rattle.adaptation.proofs.Behind.{check-length, sealed-front, agrees-own}
 
 pub field-most : (n : Number) → length (field n) ≤ 1
@@ -114,10 +110,6 @@ received-apart s w e = sym (checked-through (λ (t : Told Parts). byParts t e) r
 
 -- ---- both
 
-abbrev pub isNumbered : Number → Bool
-isNumbered (Numbered n) = true
-isNumbered Plain = false
-
 number-whole : (n : Number) (u : List ℕ) → numberOf (isNumbered n) (whole n u) ≡ n
 number-whole (Numbered n) u = refl
 number-whole Plain u = refl
@@ -145,8 +137,3 @@ pub whole-received : (n : Number) (u : List ℕ) (e : ℕ) → 0 < length u → 
     → received (isNumbered n) (whole n u) e ≡ told (settled n true u e)
 unfolding received
 whole-received n u e p l = received-apart (isNumbered n) (whole n u) e ∙ ap (λ (t : Told Parts). byParts t e) (whole-apart n u p l)
-
-pub whole-ordered : (u : List ℕ) (e : ℕ) → e < 256 → 0 < length u → length (whole (Numbered e) u) ≤ longestUnit
-    → received true (whole (Numbered e) u) e ≡ told (handedUp (handed Clean u) 0 ((e + 1) % 256))
-whole-ordered u e h p l =
-    whole-received (Numbered e) u e p l ∙ ap (λ (a : Arrival). told (delivered a u e)) (arrival-next e h)

@@ -17,9 +17,10 @@
 --   mostMissing     the largest that counts as missing units, and not as a misdelivered one
 --   arrival n e     what becomes of number n where e is expected (house): up to 127 past it, that many are missing and the one
 --                   after n is expected next; else the unit is misdelivered
---   Receipt         what becomes of a unit: it is handed up, with how many are missing before it, or it is discarded; and the
---                   number that is expected next
---   delivered       .. by what becomes of its number, where its check agrees
+--   Receipt         what becomes of a unit: it is handed up or discarded, with how many are missing before it, and the number that
+--                   is expected next
+--   expectedBy r    that number
+--   delivered       .. by what becomes of its number, where its check agrees; on a discard none is missing
 --   settled         .. by its parts: the check first, then the number if there is one
 --   receiptOf s w e .. by the octets w, where e is expected
 --   received s w e  how receiving w ends, where e is expected
@@ -104,11 +105,15 @@ arrival n e = cond (leb (distance n e) mostMissing) (Taken (distance n e) ((n + 
 
 pub data Receipt : Type 0 where
   handedUp : Handed → (missing expected : ℕ) → Receipt
-  discarded : (expected : ℕ) → Receipt
+  discarded : (missing expected : ℕ) → Receipt
+
+abbrev pub expectedBy : Receipt → ℕ
+expectedBy (handedUp u missing expected) = expected
+expectedBy (discarded missing expected) = expected
 
 abbrev pub delivered : Arrival → List ℕ → ℕ → Receipt
 delivered (Taken d x) u e = handedUp (handed Clean u) d x
-delivered Misdelivered u e = discarded e
+delivered Misdelivered u e = discarded 0 e
 
 abbrev pub settled : Number → Bool → List ℕ → ℕ → Receipt
 settled n false u e = handedUp (handed CheckFailed u) 0 e
@@ -130,5 +135,5 @@ apartSays (read.Refused k) u = refused k
 -- u is the unit, and e the number that was expected
 abbrev pub receivedSays : Received → List ℕ → ℕ → Told Receipt
 receivedSays (Unit b d x) u e = told (handedUp (handed b u) d x)
-receivedSays Discarded u e = told (discarded e)
+receivedSays Discarded u e = told (discarded 0 e)
 receivedSays (Refused k) u e = refused k

@@ -14,6 +14,8 @@
 --   agrees κ u        the last octets of u are the check of those before
 --   none, eight, sixteen   the three kinds
 --
+-- That they are what the clauses say is claimed in specs/Remainders.antt.
+--
 -- Assumes nothing.
 use mathlib.Core.Bool.{Bool, true, false, cond, not, _||_}
 use mathlib.Core.List.{List, [], _∷_, _++_, map}

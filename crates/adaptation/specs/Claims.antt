@@ -1,14 +1,22 @@
--- What is claimed of AL1M, over every unit, word and setting; proofs/Theorems.antt proves each claim.
+-- What is claimed of AL1M, over every unit, word and setting; proofs/Badges.antt and proofs/Theorems.antt prove each claim.
 --
 --   isFaulty x            badge 2 or 3
+--   badgeOfSent κ e k     the badge of a sent unit of which k octets changed, at most e: clean if none did, or unchecked where there is
+--                         neither check nor code; else corrected
 --   SentIsHandedUp        a sent unit of which at most e octets changed, length and settings unchanged, is handed up as sent, with the
---                         true number of changed octets, and never with badge 2 or 3
+--                         true number of changed octets, and with that badge
+--   isAgreeing b e c      the check of b bits in the code word c agrees
 --   Faultless             what a badge that is not at fault is given to
 --   FaultlessIsCodeWord   another badge is given to nothing but the one code word within e octets whose check agrees: its unit is handed
 --                         up, and its distance told
---   OutOfReachExactly     badge 2 is given exactly where no code word lies within e octets; nothing is changed then
---   CheckFailedExactly    badge 3 is given exactly where one does and its check disagrees
---   UncheckedExactly      badge 4 is given exactly where there is neither check nor code
+--   Earns b e w x         what the badge x is given for (document 01, "AL1M units")
+--   Exactly x             it is given exactly for that
+--   CleanExactly          0: the received word is a code word and its check agrees, unless there is neither check nor code
+--   CorrectedExactly      1: the code word within e octets differs from the received one, and its check agrees
+--   OutOfReachExactly     2: there is no code word within e octets
+--   CheckFailedExactly    3: there is one, and its check disagrees
+--   UncheckedExactly      4: there is neither check nor code
+--   OutOfReachLeaves      with badge 2 nothing is changed, and that is told
 --   NoCheckAgrees         with no check it agrees
 --   EncodedUnique         any two answers that sending's promise allows are equal, lent octets included
 --   ReceivedUnique        .. and any two that receiving's does
@@ -16,13 +24,13 @@
 --
 -- Assumes nothing.
 use mathlib.Core.Path.{_≡_}
-use mathlib.Core.Logic.{_↔_}
-use mathlib.Core.Bool.{Bool, true, false}
+use mathlib.Core.Logic.{_≢_, _↔_}
+use mathlib.Core.Bool.{Bool, true, false, cond}
 use mathlib.Core.List.{List}
-use Prim.Native.Nat.{ℕ, _-_, _*_, _≤_}
+use Prim.Native.Nat.{ℕ, zero, suc, _-_, _*_, _≤_}
 use lib.ListN.{length, take}
-use Rattle.codeword.specs.CodeWord.{Octets, distance, Within}
-use Rattle.adaptation.specs.Check.{none, agrees}
+use Rattle.codeword.specs.CodeWord.{Octets, CodeWord, distance, Within}
+use Rattle.adaptation.specs.Check.{Kind, none, agrees}
 use Rattle.adaptation.specs.Width.{kindAt}
 use Rattle.adaptation.specs.Sending.{Sends}
 use Rattle.adaptation.specs.Receiving.{isBare, handedUnit, Receives}
@@ -41,17 +49,23 @@ isFaulty OutOfReach = true
 isFaulty CheckFailed = true
 isFaulty Unchecked = false
 
+abbrev pub badgeOfSent : Kind → ℕ → ℕ → Badge
+badgeOfSent κ e zero = cond (isBare κ e) Unchecked Clean
+badgeOfSent κ e (suc k) = Corrected
+
 abbrev pub SentIsHandedUp : Type 0
 SentIsHandedUp =
     (b e m : ℕ) (u room whole w before after : List ℕ) (r : Received) → Sends b e u room (sends.Octets m) whole
     → length w ≡ m → distance w (take m whole) ≤ e → m ≤ length before → Receives b e w before r after
-    → (x : Badge) × (r ≡ Unit (record { badge = x; changed = distance w (take m whole); length = length u }))
-    × (handedUnit x w after (length u) ≡ u) × (isFaulty x ≡ false)
+    → (r ≡ Unit (record { badge = badgeOfSent (kindAt b) e (distance w (take m whole)); changed = distance w (take m whole); length = length u }))
+    × (handedUnit (badgeOfSent (kindAt b) e (distance w (take m whole))) w after (length u) ≡ u)
 
--- what such a badge is given to
+abbrev pub isAgreeing : ℕ → ℕ → List ℕ → Bool
+isAgreeing b e c = agrees (kindAt b) (take (length c - 2 * e) c)
+
 pub record Faultless (b e : ℕ) (w after c : List ℕ) (j : Judgement) : Type 0 where
   pub within : Within e w c
-  pub agreeing : agrees (kindAt b) (take (length w - 2 * e) c) ≡ true
+  pub agreeing : isAgreeing b e c ≡ true
   pub changed : j .changed ≡ distance w c
   pub unit : handedUnit (j .badge) w after (j .length) ≡ take (j .length) c
 
@@ -60,20 +74,39 @@ FaultlessIsCodeWord =
     (b e : ℕ) (w before after : List ℕ) (j : Judgement) → Receives b e w before (Unit j) after → isFaulty (j .badge) ≡ false
     → (c : List ℕ) × Faultless b e w after c j
 
+-- ---- each badge
+
+abbrev pub Earns : ℕ → ℕ → List ℕ → Badge → Type 0
+Earns b e w Clean = CodeWord e w × (isAgreeing b e w ≡ true) × (isBare (kindAt b) e ≡ false)
+Earns b e w Corrected = (c : List ℕ) × Within e w c × (c ≢ w) × (isAgreeing b e c ≡ true)
+Earns b e w OutOfReach = (c : List ℕ) → Within e w c → ⊥
+Earns b e w CheckFailed = (c : List ℕ) × Within e w c × (isAgreeing b e c ≡ false)
+Earns b e w Unchecked = Octets w × (isBare (kindAt b) e ≡ true)
+
+abbrev pub Exactly : Badge → Type 0
+Exactly x = (b e : ℕ) (w before after : List ℕ) (j : Judgement) → Receives b e w before (Unit j) after → j .badge ≡ x ↔ Earns b e w x
+
+abbrev pub CleanExactly : Type 0
+CleanExactly = Exactly Clean
+
+abbrev pub CorrectedExactly : Type 0
+CorrectedExactly = Exactly Corrected
+
 abbrev pub OutOfReachExactly : Type 0
-OutOfReachExactly =
-    (b e : ℕ) (w before after : List ℕ) (j : Judgement) → Receives b e w before (Unit j) after
-    → (j .badge ≡ OutOfReach ↔ ((c : List ℕ) → Within e w c → ⊥)) × (j .badge ≡ OutOfReach → (j .changed ≡ 0) × (after ≡ before))
+OutOfReachExactly = Exactly OutOfReach
 
 abbrev pub CheckFailedExactly : Type 0
-CheckFailedExactly =
-    (b e : ℕ) (w before after : List ℕ) (j : Judgement) → Receives b e w before (Unit j) after
-    → j .badge ≡ CheckFailed ↔ ((c : List ℕ) × Within e w c × (agrees (kindAt b) (take (length w - 2 * e) c) ≡ false))
+CheckFailedExactly = Exactly CheckFailed
 
 abbrev pub UncheckedExactly : Type 0
-UncheckedExactly =
-    (b e : ℕ) (w before after : List ℕ) (j : Judgement) → Octets w → Receives b e w before (Unit j) after
-    → j .badge ≡ Unchecked ↔ (isBare (kindAt b) e ≡ true)
+UncheckedExactly = Exactly Unchecked
+
+abbrev pub OutOfReachLeaves : Type 0
+OutOfReachLeaves =
+    (b e : ℕ) (w before after : List ℕ) (j : Judgement) → Receives b e w before (Unit j) after
+    → j .badge ≡ OutOfReach → (j .changed ≡ 0) × (after ≡ before)
+
+-- ---- the rest
 
 abbrev pub NoCheckAgrees : Type 0
 NoCheckAgrees = (w : List ℕ) → agrees none w ≡ true

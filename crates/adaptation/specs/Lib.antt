@@ -1,11 +1,13 @@
 pub mod Binary
 pub mod Bits
 pub mod Check
+pub mod Remainders
 pub mod Columns
 pub mod Width
 pub mod Handed
 pub mod AL1
 pub mod AL2
+pub mod AL2Claims
 pub mod AL1M
 pub mod Sending
 pub mod Receiving

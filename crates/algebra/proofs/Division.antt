@@ -5,7 +5,8 @@
 --   polynomial-raised                     of u and n zeros: x^n times that of u
 --   raised-add, ⊞-none, ⊞-self            laws of raising, and of sums with 0 and with itself
 --   divides-nothing                       any g divides 0
---   remainder-is                          `remainder g p` is the remainder of p by x^w + g, which is monic
+--   monic, monic-top                      x^w + g has degree w, and its highest coefficient is 1
+--   remainder-is                          `remainder g p` is the remainder of p by x^w + g
 --   remainder-same                        .. and the only list of w coefficients that is
 --   remainder-block                       from the remainder of f to that of x^n f + x^d u: n turns of the shift register at once
 --
@@ -111,10 +112,10 @@ module _ (𝓕 : Field) where
 
   -- ---- the remainder
 
-  monic : (g : List F) → Below 𝓕 (suc (length g)) (divisor 𝓕 g)
+  pub monic : (g : List F) → Below 𝓕 (suc (length g)) (divisor 𝓕 g)
   monic g = below-polynomial 𝓕 (𝟙 ∷ g)
 
-  monic-top : (g : List F) → divisor 𝓕 g (length g) ≡ 𝟙
+  pub monic-top : (g : List F) → divisor 𝓕 g (length g) ≡ 𝟙
   monic-top g =
       let z : suc (length g) - suc (length g) ≡ 0 = omega arith in
       polynomial-at 𝓕 (𝟙 ∷ g) (length g) (omega arith) ∙ (rw z)

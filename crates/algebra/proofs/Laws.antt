@@ -12,8 +12,9 @@
 --                   x^n f; below-polynomial, below-raised of degrees; monomial-below
 --   roots           rooted-top, below-rooted of (x - X₀) .. (x - Xₘ₋₁); divides-root, roots-divide: what it divides;
 --                   geometric-ratio: its coefficients, where the Xᵢ are α, α², ..
---   remainders      divides-nothing, with ⊞-none; remainder-unique, remainder-step, turned-small
---   long division   sum-length, remainder-raised; register-length, register-is, register-none, register-more, register-zeros
+--   remainders      divides-nothing, with ⊞-none; remainder-unique, remainder-step, turned-small; the claims of specs/Remainder.antt:
+--                   remainderOnly, divisionLeaves
+--   long division   sum-length, remainder-length, remainder-raised, polynomial-zeros; register-length, register-is, register-none, register-more, register-zeros
 --   loops           dot-zero, dot-suc, ⊛-dot, ⊛-dot-below of a product's coefficient; from-zero, horner of Horner's rule
 --   derivative      deriv-even, deriv-odd
 --   weight          weight-zero, weight-suc; left-ne: a factor of 1 is not zero; light-is-none: the distance of the code
@@ -33,7 +34,8 @@ pub use Rattle.algebra.proofs.Polynomial.{raised-low, raised-high, belo
 pub use Rattle.algebra.proofs.Remainder.{monomial-below, remainder-unique, remainder-step, turned-small}
 pub use Rattle.algebra.proofs.Roots.{rooted-top, below-rooted, divides-root, roots-divide}
 pub use Rattle.algebra.proofs.Geometric.{geometric-ratio}
-pub use Rattle.algebra.proofs.Division.{sum-length, ⊞-none, divides-nothing}
+pub use Rattle.algebra.proofs.Division.{sum-length, ⊞-none, divides-nothing, remainder-length, polynomial-zeros}
+pub use Rattle.algebra.proofs.Theorems.{remainderOnly, divisionLeaves}
 pub use Rattle.algebra.proofs.Register.{remainder-raised, register-length, register-is, register-none, register-more, register-zeros}
 pub use Rattle.algebra.proofs.Loop.{dot-zero, dot-suc, ⊛-dot, ⊛-dot-below, from-zero, horner}
 pub use Rattle.algebra.proofs.Derivative.{deriv-even, deriv-odd}

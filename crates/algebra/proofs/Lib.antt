@@ -18,4 +18,5 @@ pub mod Geometric
 pub mod Polynomial
 pub mod Division
 pub mod Register
+pub mod Theorems
 pub mod Laws

@@ -3,6 +3,7 @@ pub mod Series
 pub mod Polynomial
 pub mod Power
 pub mod Division
+pub mod Remainder
 pub mod Value
 pub mod Convolution
 pub mod Derivative

@@ -1,6 +1,8 @@
 -- Laws of how a call ends, for the crates above.
 --
 --   told-refused       a call is not answered and refused
+--   told-same          two answers that are told alike are equal
+--   leaving-same       .. and so is what two calls leave that end alike
 --   by-test            what holds of both ends of a test holds of what it decides
 --   by-tests           what holds of every refusal, and of the end that is reached where no test holds, holds of the call
 --   both-tests         .. and so of two calls that are refused by one list of tests
@@ -32,6 +34,12 @@ use Rattle.calls.specs.declared.Length.the-variants.{Octets, Refused}
 
 pub told-refused : {A B : Type 0} {t : Told A} {a : A} {k : ℕ} → t ≡ told a → t ≡ refused k → B
 told-refused p q = never (cc)
+
+pub told-same : {A : Type 0} (a b : A) → told a ≡ told b → a ≡ b
+told-same a b e = cc
+
+pub leaving-same : {A X : Type 0} (a b : A) (x y : X) → leaving a x ≡ leaving b y → (a ≡ b) × (x ≡ y)
+leaving-same {A = A} {X = X} a b x y e = (told-same a b (ap (λ (r : Ended A X). r .answer) e), ap (λ (r : Ended A X). r .left) e)
 
 refused-same : {A B : Type 0} (i k : ℕ) → _≡_ {A = Told A} (refused i) (refused k) → _≡_ {A = Told B} (refused i) (refused k)
 refused-same i k e = cc

@@ -1,4 +1,4 @@
--- Every call on channels keeps their bounds.
+-- Every call on channels keeps their bounds, and their seats.
 --
 --   waits-put         a place put within its bound leaves all within theirs
 --   bounded-put       .. and so with all its bounds
@@ -6,14 +6,14 @@
 --   keeps-bounds      every call
 --
 -- Assumes nothing.
-use mathlib.Core.Path.{_≡_, refl, _∙_}
+use mathlib.Core.Path.{_≡_, refl, ap, _∙_}
 use mathlib.Core.Bool.{Bool, true, false, not}
-use mathlib.Core.List.{List, [], _∷_}
-use Prim.Native.Nat.{ℕ, zero, suc, _+_, _*_, _-_, _≤_, _<_}
+use mathlib.Core.List.{List}
+use Prim.Native.Nat.{ℕ, _+_, _*_, _-_, _≤_, _<_}
 use native.Mathlib.Omega.{arith}
-use borrow.Author.Tests.{ltb-true, leb-true, leb-false, not-false}
+use borrow.Author.Tests.{ltb-true, leb-true, leb-false, eqb-false, not-false}
 use lib.Dec.{leb}
-use lib.ListN.{length, getD, set, replicate}
+use lib.ListN.{length}
 use Rattle.octets.specs.Tests.{both-true}
 use Rattle.octets.specs.Written.{written, written-length}
 use Rattle.calls.specs.Refusal.{leaving}
@@ -24,15 +24,10 @@ use Rattle.channels.specs.declared.Channels.{Channels}
 use Rattle.channels.specs.Channels.{placeCount, placeOctets, vacant, fresh, start, placeOf, freePlace, isIn, channelAt, put, holding, waiting}
 use Rattle.channels.specs.Channels.{numbering, Post, openTests, closeTests, resetTests, postTests, opened, closed, reset, posted}
 use Rattle.channels.specs.Layers as layers
-use Rattle.channels.specs.Claims.{Bounded, StartBounded, KeepsBounds}
+use Rattle.channels.specs.Claims.{Seated, Bounded, StartBounded, KeepsBounds}
+use Rattle.channels.proofs.Seats.{Seat, seat, each-set}
+use Rattle.channels.proofs.Seating.{seated-put, seated-opened, seated-closed, seated-start, each-start}
 use Rattle.channels.proofs.Holding.{orderly-put}
-
-each-set : {A : Type 0} (P : A → Type 0) (d : A) (l : List A) (p : ℕ) (c : A) → ((i : ℕ) → P (getD l i d)) → P c → (i : ℕ) → P (getD (set l p c) i d)
-each-set P d [] p c h pc i = h i
-each-set P d (x ∷ l) zero c h pc zero = pc
-each-set P d (x ∷ l) zero c h pc (suc i) = h (suc i)
-each-set P d (x ∷ l) (suc p) c h pc zero = h zero
-each-set P d (x ∷ l) (suc p) c h pc (suc i) = each-set P d l p c (λ j. h (suc j)) pc i
 
 pub waits-put : (s : Channels) (p : ℕ) (c : Channel) → ((q : ℕ) → channelAt s q .waiting ≤ placeOctets) → c .waiting ≤ placeOctets
     → (q : ℕ) → channelAt (put s p c) q .waiting ≤ placeOctets
@@ -41,17 +36,22 @@ waits-put s p c h k = each-set (λ (d : Channel). d .waiting ≤ placeOctets) va
 module _ (s : Channels) (h w : List ℕ) (b : Bounded s h w) where
   -- one place of the channels changed
   pub bounded-put : (p : ℕ) (c : Channel) → p < placeCount → c .held ≤ placeOctets → (c .segmentable ≡ false → c .held ≡ 0) → c .waiting ≤ placeOctets
-      → Bounded (put s p c) h w
-  bounded-put p c i k g l = record {
+      → Seated (put s p c) → Bounded (put s p c) h w
+  bounded-put p c i k g l z = record {
     orderly = orderly-put (b .orderly) i c h k g (b .orderly .room);
+    seated = z;
     waits = waits-put s p c (b .waits) l;
     space = b .space;
   }
 
-  -- .. where what it holds and what waits stays
-  like : (p : ℕ) (c : Channel) → p < placeCount → c .held ≡ channelAt s p .held → c .segmentable ≡ channelAt s p .segmentable
-      → c .waiting ≡ channelAt s p .waiting → Bounded (put s p c) h w
-  like p c i e g l = bounded-put p c i (rw e (b .orderly .bounded p)) (λ q. e ∙ b .orderly .whole p (rw g at q)) (rw l (b .waits p))
+  -- .. of an open channel that keeps its seat, where what it holds and what waits stays
+  like : (n : ℕ) (c : Channel) → placeOf s n < placeCount → seat c ≡ seat (channelAt s (placeOf s n)) → c .held ≡ channelAt s (placeOf s n) .held
+      → c .waiting ≡ channelAt s (placeOf s n) .waiting → Bounded (put s (placeOf s n) c) h w
+  like n c i g e l =
+      let p = placeOf s n in
+      let f = ap (λ (z : Seat). z .segmentable) g in
+      bounded-put p c i (rw e (b .orderly .bounded p)) (λ q. e ∙ b .orderly .whole p (rw f at q)) (rw l (b .waits p))
+      (seated-put s (b .orderly .full) (b .seated) n c i g)
 
   inside : (n : ℕ) → not (isIn s n) ≡ false → placeOf s n < placeCount
   inside n e = ltb-true (placeOf s n) placeCount (not-false (isIn s n) e)
@@ -60,13 +60,15 @@ module _ (s : Channels) (h w : List ℕ) (b : Bounded s h w) where
   unfolding opened
   opening n g =
       checked-keeps s (openTests s n) (λ r. Bounded r h w) (leaving tt (put s (freePlace s) (fresh n g))) b
-      λ e. bounded-put (freePlace s) (fresh n g) (leb-false placeCount (freePlace s) (e .1 .0)) (omega arith) (λ q. refl) (omega arith)
+      λ e. bounded-put (freePlace s) (fresh n g) (leb-false placeCount (freePlace s) (search e)) (omega arith) (λ q. refl) (omega arith)
+      (seated-opened s (b .orderly .full) (b .seated) n g (search e) (leb-false placeCount (freePlace s) (search e)))
 
   closing : (n : ℕ) → Bounded (closed s n .left) h w
   unfolding closed
   closing n =
       checked-keeps s (closeTests s n) (λ r. Bounded r h w) (leaving tt (put s (placeOf s n) vacant)) b
-      λ e. bounded-put (placeOf s n) vacant (inside n (e .0)) (omega arith) (λ q. refl) (omega arith)
+      λ e. bounded-put (placeOf s n) vacant (inside n (search e)) (omega arith) (λ q. refl) (omega arith)
+      (seated-closed s (b .orderly .full) (b .seated) n (eqb-false n 0 (search e)) (inside n (search e)))
 
   resetting : (n : ℕ) → Bounded (reset s n .left) h w
   unfolding reset
@@ -74,6 +76,7 @@ module _ (s : Channels) (h w : List ℕ) (b : Bounded s h w) where
       let c = numbering (holding (channelAt s (placeOf s n)) 0) 0 0 in
       checked-keeps s (resetTests s n) (λ r. Bounded r h w) (leaving tt (put s (placeOf s n) c)) b
       λ e. bounded-put (placeOf s n) c (inside n (e .0)) (omega arith) (λ q. refl) (b .waits (placeOf s n))
+      (seated-put s (b .orderly .full) (b .seated) n c (inside n (e .0)) refl)
 
   posting : (n : ℕ) (u : List ℕ) → Bounded (posted s w n u .left .channels) h (posted s w n u .left .octets)
   unfolding posted
@@ -89,6 +92,7 @@ module _ (s : Channels) (h w : List ℕ) (b : Bounded s h w) where
       let o = b .orderly in
       record {
         orderly = orderly-put o i c h (o .bounded p) (o .whole p) (o .room);
+        seated = seated-put s (o .full) (b .seated) n c i refl;
         waits = waits-put s p c (b .waits) t;
         space = written-length w at u (omega (arith, b .space)) ∙ b .space;
       })
@@ -101,14 +105,14 @@ module _ (s : Channels) (h w : List ℕ) (b : Bounded s h w) where
       (λ (r : layers.SendLent). Bounded (r .channels) h w) _ b λ e. by numbered (inside n (e .0))
     where
       by : (g : Bool) → placeOf s n < placeCount → Bounded (put s (placeOf s n) (layers.risen g (channelAt s (placeOf s n)))) h w
-      by true i = like (placeOf s n) _ i refl refl refl
-      by false i = like (placeOf s n) _ i refl refl refl
+      by true i = like n _ i refl refl refl
+      by false i = like n _ i refl refl refl
 
   taking : (n : ℕ) (numbered : Bool) (x : List ℕ) → Bounded (layers.taking s n numbered x .left) h w
   unfolding layers.taking
   taking n numbered x =
       checked-keeps s (layers.takingTests s n numbered x) (λ (r : Channels). Bounded r h w) _ b
-      λ e. like (placeOf s n) _ (inside n (e .0)) refl refl refl
+      λ e. like n _ (inside n (e .0)) refl refl refl
 
 pub keeps-bounds : (s : Channels) (h w : List ℕ) → Bounded s h w → KeepsBounds s h w
 keeps-bounds s h w b = record {
@@ -122,25 +126,16 @@ keeps-bounds s h w b = record {
 
 -- ---- at first
 
-vacant-all : (P : Channel → Type 0) → P vacant → (n i : ℕ) → P (getD (replicate n vacant) i vacant)
-vacant-all P v zero i = v
-vacant-all P v (suc n) zero = v
-vacant-all P v (suc n) (suc i) = vacant-all P v n i
-
-start-all : (P : Channel → Type 0) → P vacant → P (fresh 0 true) → (i : ℕ) → P (channelAt start i)
-unfolding start
-start-all P v f zero = f
-start-all P v f (suc i) = vacant-all P v (placeCount - 1) i
-
 pub start-bounded : StartBounded
 unfolding start
 start-bounded h w eh ew = record {
   orderly = record {
     full = refl;
     room = eh;
-    bounded = start-all (λ c. c .held ≤ placeOctets) (omega arith) (omega arith);
-    whole = start-all (λ c. c .segmentable ≡ false → c .held ≡ 0) (λ e. refl) (λ e. refl);
+    bounded = each-start (λ c. c .held ≤ placeOctets) (omega arith) (omega arith);
+    whole = each-start (λ c. c .segmentable ≡ false → c .held ≡ 0) (λ e. refl) (λ e. refl);
   };
-  waits = start-all (λ c. c .waiting ≤ placeOctets) (omega arith) (omega arith);
+  seated = seated-start;
+  waits = each-start (λ c. c .waiting ≤ placeOctets) (omega arith) (omega arith);
   space = ew;
 }

@@ -9,21 +9,20 @@
 --   orderly-emptied   so does a place that is emptied
 --
 -- Assumes nothing.
-use mathlib.Core.Path.{_≡_, refl, sym, ap, subst, _∙_}
+use mathlib.Core.Path.{_≡_, refl, _∙_}
 use mathlib.Core.Logic.{_≢_, _⊎_, inl, inr, ⊎-elim}
 use mathlib.Core.Bool.{true, false}
 use mathlib.Core.List.{List, _++_}
 use Prim.Native.Nat.{ℕ, _+_, _*_, _≤_, _<_}
-use native.Mathlib.Decide.{ℕ-discrete}
 use native.Mathlib.Omega.{arith}
 use lib.ListN.{length, take, drop, length-set}
 use Rattle.octets.specs.Tests.{never}
 use Rattle.octets.specs.Written.{written, written-length}
 use Rattle.channels.specs.declared.Channel.{Channel}
 use Rattle.channels.specs.declared.Channels.{Channels}
-use Rattle.channels.specs.Channels.{placeCount, placeOctets, allOctets, channelAt, put, holding}
+use Rattle.channels.specs.Channels.{placeCount, placeOctets, allOctets, vacant, channelAt, put, holding}
 use Rattle.channels.specs.Claims.{Orderly}
-use Rattle.channels.proofs.Seats.{put-there, put-elsewhere}
+use Rattle.channels.proofs.Seats.{each-set}
 use Rattle.octets.specs.Parts.{apart, part-elsewhere, part-grown}
 
 abbrev pub heldAt : Channel → List ℕ → ℕ → List ℕ
@@ -35,13 +34,9 @@ module _ {r : Channels} {h : List ℕ} (o : Orderly r h) {p : ℕ} (inside : p <
   orderly-put d h′ b f e = record {
     full = length-set (r .at) p d ∙ o .full;
     room = e;
-    bounded = λ q. at q (λ c. c .held ≤ placeOctets) b (o .bounded q) (ℕ-discrete q p);
-    whole = λ q. at q (λ c. c .segmentable ≡ false → c .held ≡ 0) f (o .whole q) (ℕ-discrete q p);
+    bounded = each-set (λ c. c .held ≤ placeOctets) vacant (r .at) p d (o .bounded) b;
+    whole = each-set (λ c. c .segmentable ≡ false → c .held ≡ 0) vacant (r .at) p d (o .whole) f;
   }
-    where
-      at : (q : ℕ) (P : Channel → Type 0) → P d → P (channelAt r q) → Dec (q ≡ p) → P (channelAt (put r p d) q)
-      at q P x y (yes e) = subst P (sym (ap (channelAt (put r p d)) e ∙ put-there r (o .full) p d inside)) x
-      at q P x y (no f) = subst P (sym (put-elsewhere r p q d f)) y
 
   pub orderly-emptied : Orderly (put r p (holding (channelAt r p) 0)) h
   orderly-emptied = orderly-put (holding (channelAt r p) 0) h (omega arith) (λ e. refl) (o .room)

@@ -19,12 +19,12 @@ use borrow.Author.Tests.{lt-ltb, le-ltb, le-leb, lt-leb}
 use lib.ListN.{length, take, drop}
 use Rattle.calls.specs.Refusal.{Told, refused, told, Ended, ended, leaving, refusing}
 use Rattle.calls.proofs.Laws.{checked-through}
-use Rattle.adaptation.specs.AL2.{sendTests, readTests, sent, received, Receipt}
+use Rattle.adaptation.specs.AL2.{sendTests, readTests, sent, received, Receipt, expectedBy}
 use Rattle.adaptation.proofs.Laws.{sent-leaves}
 use Rattle.channels.specs.declared.Channel.{Channel}
 use Rattle.channels.specs.declared.Channels.{Channels}
 use Rattle.channels.specs.Channels.{placeCount, placeOf, channelAt, put, numbering}
-use Rattle.channels.specs.Layers.{SendLent, numberAs, risen, sending, expectedBy, taking}
+use Rattle.channels.specs.Layers.{SendLent, numberAs, risen, sending, taking}
 use Rattle.channels.specs.Parts.{partAt}
 
 -- what AL2's own end leads to, at place p

@@ -2,7 +2,11 @@ pub mod Search
 pub mod Placing
 pub mod Layering
 pub mod Seats
+pub mod Seating
 pub mod Holding
 pub mod Bounds
+pub mod Keeping
+pub mod Full
+pub mod Effects
 pub mod Theorems
 pub mod Laws

@@ -56,7 +56,7 @@ unfolding first
 sought n h [] = refl
 sought n h (c ∷ l) = ap₂ (λ (b : Bool) (k : ℕ). cond b 0 (suc k)) (by (c .«open»)) (sought n h l)
   where
-    by : (b : Bool) → eqb (cond b (c .number) noNumber) n ≡ cond b (eqb (c .number) n) false
+    by : (b : Bool) → eqb (cond b (c .number .0) noNumber) n ≡ cond b (eqb (c .number .0) n) false
     by true = refl
     by false = ne-eqb noNumber n (λ (z : noNumber ≡ n). omega (arith, h))
 

@@ -6,17 +6,21 @@
 --   first-found        the element there passes
 --   first-set          an element that answers the test alike changes nothing
 --   first-put          where none passed, one that passes is found where it was put
+--   first-least        what passes is not before the first that does
+--   each-set           what is true of every element, and of one that is set
 --   place-seats        seats alike: channel n's place is the same
 --   free-seats         .. and the free place
 --   seat-at            .. and the seat at each place
 --   seats-put          a channel put back with its seat keeps the seats
 --   seats-length       .. and as many places
---   place-number       the channel at channel n's place has number n
+--   place-open         the channel at channel n's place is open
+--   place-number       .. and has number n
 --   place-unique       .. so no other channel has that place
 --   vacant-behind      there is no channel behind the last place
 --   put-there          what was put at a place
 --   put-elsewhere      .. changes no other
---   segmentable-place  a segmentable channel is at one of the places
+--   known-place        what a free place has not is at one of the places
+--   segmentable-place  .. so is a segmentable channel
 --   free-is            no channel is open at a free place
 --   place-new          a channel opened at a free place has that place
 --   place-old          .. and every other keeps its own
@@ -48,7 +52,7 @@ pub record Seat : Type 0 where
   pub number : ℕ
 
 abbrev pub seat : Channel → Seat
-seat c = record { taken = c .«open»; segmentable = c .segmentable; number = c .number }
+seat c = record { taken = c .«open»; segmentable = c .segmentable; number = c .number .0 }
 
 abbrev pub seats : Channels → List Seat
 seats s = map seat (s .at)
@@ -85,6 +89,23 @@ first-put f (x ∷ l) (suc i) a h k e = by (f x) h (first-put f l i a)
     by true h ih = absurd (not-suc-le-zero h)
     by false h ih = ap suc (ih (le-of-suc-le-suc h) (le-of-suc-le-suc k) e)
 
+pub first-least : {A : Type 0} (f : A → Bool) (d : A) (l : List A) (i : ℕ) → i < length l → f (getD l i d) ≡ true → first f l ≤ i
+unfolding first
+first-least f d [] i h e = absurd (not-suc-le-zero h)
+first-least f d (a ∷ l) zero h e = rw e (omega arith)
+first-least f d (a ∷ l) (suc i) h e = by (f a) (first-least f d l i (le-of-suc-le-suc h) e)
+  where
+    by : (b : Bool) → first f l ≤ i → cond b 0 (suc (first f l)) ≤ suc i
+    by true k = omega arith
+    by false k = omega arith
+
+pub each-set : {A : Type 0} (P : A → Type 0) (d : A) (l : List A) (p : ℕ) (c : A) → ((i : ℕ) → P (getD l i d)) → P c → (i : ℕ) → P (getD (set l p c) i d)
+each-set P d [] p c h pc i = h i
+each-set P d (x ∷ l) zero c h pc zero = pc
+each-set P d (x ∷ l) zero c h pc (suc i) = h (suc i)
+each-set P d (x ∷ l) (suc p) c h pc zero = h zero
+each-set P d (x ∷ l) (suc p) c h pc (suc i) = each-set P d l p c (λ j. h (suc j)) pc i
+
 -- ---- seats
 
 abbrev isOn : ℕ → Seat → Bool
@@ -114,20 +135,26 @@ seats-put s p c e = map-set-same seat (s .at) p c vacant e
 
 -- ---- places
 
-is-number : (b : Bool) (m n : ℕ) → cond b (eqb m n) false ≡ true → m ≡ n
-is-number true m n e = eqb-true m n e
+is-number : (b : Bool) (m n : ℕ) → cond b (eqb m n) false ≡ true → (b ≡ true) × (m ≡ n)
+is-number true m n e = (refl, eqb-true m n e)
 is-number false m n e = never (cc)
 
 module _ (s : Channels) (full : length (s .at) ≡ placeCount) where
-  pub place-number : (n : ℕ) → placeOf s n < placeCount → channelAt s (placeOf s n) .number ≡ n
+  place-is : (n : ℕ) → placeOf s n < placeCount → (channelAt s (placeOf s n) .«open» ≡ true) × (channelAt s (placeOf s n) .number .0 ≡ n)
   unfolding placeOf
-  place-number n h =
-      is-number (channelAt s (placeOf s n) .«open») (channelAt s (placeOf s n) .number) n
+  place-is n h =
+      is-number (channelAt s (placeOf s n) .«open») (channelAt s (placeOf s n) .number .0) n
       (first-found (isChannel n) vacant (s .at) (rw full h))
+
+  pub place-open : (n : ℕ) → placeOf s n < placeCount → channelAt s (placeOf s n) .«open» ≡ true
+  place-open n h = place-is n h .0
+
+  pub place-number : (n : ℕ) → placeOf s n < placeCount → channelAt s (placeOf s n) .number .0 ≡ n
+  place-number n h = place-is n h .1
 
   pub place-unique : (n k p : ℕ) → p < placeCount → placeOf s n ≡ p → placeOf s k ≡ p → n ≡ k
   place-unique n k p h e f =
-      sym (place-number n (rw e h)) ∙ ap (λ (q : ℕ). channelAt s q .number) (e ∙ sym f) ∙ place-number k (rw f h)
+      sym (place-number n (rw e h)) ∙ ap (λ (q : ℕ). channelAt s q .number .0) (e ∙ sym f) ∙ place-number k (rw f h)
 
   pub vacant-behind : (p : ℕ) → placeCount ≤ p → channelAt s p ≡ vacant
   vacant-behind p h = List·getD-eq-default (s .at) vacant (rw full h)
@@ -135,14 +162,17 @@ module _ (s : Channels) (full : length (s .at) ≡ placeCount) where
   pub put-there : (p : ℕ) (c : Channel) → p < placeCount → channelAt (put s p c) p ≡ c
   put-there p c h = getD-set-same (s .at) p c vacant (rw full h)
 
-pub segmentable-place : (s : Channels) (p : ℕ) → length (s .at) ≡ placeCount → channelAt s p .segmentable ≡ true → p < placeCount
-segmentable-place s p e g = by (decLt p placeCount)
+pub known-place : (s : Channels) (f : Channel → Bool) (p : ℕ) → length (s .at) ≡ placeCount → f vacant ≡ false → f (channelAt s p) ≡ true → p < placeCount
+known-place s f p e v g = by (decLt p placeCount)
   where
     by : Dec (p < placeCount) → p < placeCount
     by (yes h) = h
     by (no h) =
-        let v = vacant-behind s e p (omega arith) in
+        let w = ap f (vacant-behind s e p (omega arith)) in
         never (cc)
+
+pub segmentable-place : (s : Channels) (p : ℕ) → length (s .at) ≡ placeCount → channelAt s p .segmentable ≡ true → p < placeCount
+segmentable-place s p e g = known-place s (λ c. c .segmentable) p e refl g
 
 -- ---- a channel opened at the free place p
 
@@ -170,9 +200,9 @@ module _ (s : Channels) (full : length (s .at) ≡ placeCount) (p : ℕ) (place 
       never (cc)
 
 pub number-seats : (s r : Channels) → seats r ≡ seats s → length (s .at) ≡ placeCount → (n p : ℕ) → placeOf s n ≡ p → p < placeCount
-    → channelAt r p .number ≡ n
+    → channelAt r p .number .0 ≡ n
 number-seats s r e full n p place inside =
-    ap (λ (z : Seat). z .number) (seat-at r s e p) ∙ ap (λ (q : ℕ). channelAt s q .number) (sym place) ∙ place-number s full n (rw place inside)
+    ap (λ (z : Seat). z .number) (seat-at r s e p) ∙ ap (λ (q : ℕ). channelAt s q .number .0) (sym place) ∙ place-number s full n (rw place inside)
 
 pub put-elsewhere : (s : Channels) (p q : ℕ) (c : Channel) → q ≢ p → channelAt (put s p c) q ≡ channelAt s q
 put-elsewhere s p q c h = getD-set-other (s .at) p q c vacant h

@@ -1,6 +1,7 @@
 -- The claims of specs/Claims.antt.
 --
 --   startBounded, callsKeepBounds                     what every call keeps
+--   takenAsSent                                       AL2 from channel to channel
 --   afterUnique, postUnique, sendUnique, takeUnique   any two answers are equal
 --
 -- Assumes nothing.
@@ -16,7 +17,8 @@ use Rattle.channels.specs.declared.Channels.{Channels}
 use Rattle.channels.specs.declared.After.{After}
 use Rattle.channels.specs.Channels.{Post, placeOf, channelAt, posted}
 use Rattle.channels.specs.Layers.{SendLent, sending}
-use Rattle.channels.specs.Claims.{StartBounded, CallsKeepBounds, AfterUnique, PostUnique, SendUnique, TakeUnique}
+use Rattle.channels.specs.Claims.{StartBounded, CallsKeepBounds, TakenAsSent, AfterUnique, PostUnique, SendUnique, TakeUnique}
+use Rattle.channels.proofs.Keeping.{taken-as-sent}
 use Rattle.channels.proofs.Bounds.{start-bounded, keeps-bounds}
 
 pub startBounded : StartBounded
@@ -24,6 +26,9 @@ startBounded = start-bounded
 
 pub callsKeepBounds : CallsKeepBounds
 callsKeepBounds = keeps-bounds
+
+pub takenAsSent : TakenAsSent
+takenAsSent = taken-as-sent
 
 after : Outcome → Channels → After
 after o s = record { outcome = o; channels = s }

@@ -52,10 +52,10 @@ abbrev pub allOctets : ℕ
 allOctets = placeCount * placeOctets
 
 abbrev pub vacant : Channel
-vacant = record { «open» = false; segmentable = false; number = 0; held = 0; waiting = 0; sent = 0; expected = 0 }
+vacant = record { «open» = false; segmentable = false; number = record { 0 = 0 }; held = 0; waiting = 0; sent = 0; expected = 0 }
 
 abbrev pub fresh : ℕ → Bool → Channel
-fresh n g = record { «open» = true; segmentable = g; number = n; held = 0; waiting = 0; sent = 0; expected = 0 }
+fresh n g = record { «open» = true; segmentable = g; number = record { 0 = n }; held = 0; waiting = 0; sent = 0; expected = 0 }
 
 unfoldable pub start : Channels
 start = record { at = fresh 0 true ∷ replicate (placeCount - 1) vacant }
@@ -63,7 +63,7 @@ start = record { at = fresh 0 true ∷ replicate (placeCount - 1) vacant }
 -- ---- places
 
 abbrev pub isChannel : ℕ → Channel → Bool
-isChannel n c = cond (c .«open») (eqb (c .number) n) false
+isChannel n c = cond (c .«open») (eqb (c .number .0) n) false
 
 abbrev pub isFree : Channel → Bool
 isFree c = not (c .«open»)

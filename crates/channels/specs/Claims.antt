@@ -1,10 +1,15 @@
 -- What is claimed of the channels, over every state and every call on them; proofs/Theorems.antt proves each claim.
 --
 --   Orderly s h       arrays of their lengths; no place holds more octets than it has, and only a segmentable channel holds any
---   Bounded s h w     .. and none has more waiting than it has octets
+--   Seated s          channel 0 is open and segmentable, no channel is open at two places, and a place that is free has nothing
+--   Bounded s h w     .. orderly and seated, and no place has more waiting than it has octets
 --   StartBounded      so it is at first, whatever the arrays hold
 --   KeepsBounds       .. and after each call on channels in the state s, h, w
 --   CallsKeepBounds   .. so every call keeps the bounds
+--   channelOf s n     the channel n of s
+--   TakenAsSent       a unit that AL2 sent on a channel, with a number or none, and that is taken on one that expects the number which the
+--                     first sends next, is handed up as sent: badge 0, nothing changed, none missing; and again the second expects the
+--                     number that the first sends next
 --   AfterUnique       any two answers that the promise of opening, closing or resetting allows are equal, the channels included
 --   PostUnique        .. of posting, with the octets that wait
 --   SendUnique        .. of sending by AL2, with the output
@@ -12,16 +17,19 @@
 --
 -- Assumes nothing.
 use mathlib.Core.Path.{_≡_}
-use mathlib.Core.Bool.{Bool, false}
+use mathlib.Core.Bool.{Bool, true, false}
 use mathlib.Core.List.{List}
-use Prim.Native.Nat.{ℕ, _≤_}
-use lib.ListN.{length}
-use Rattle.calls.specs.Refusal.{Ended, ended, outcomeSays}
+use Prim.Native.Nat.{ℕ, _≤_, _<_}
+use lib.ListN.{length, take}
+use Rattle.calls.specs.Refusal.{told, Ended, ended, leaving, outcomeSays}
+use Rattle.adaptation.specs.AL2.{handedUp}
+use Rattle.adaptation.specs.AL2Claims.{asSent}
+use Rattle.channels.specs.declared.Channel.{Channel}
 use Rattle.channels.specs.declared.Channels.{Channels}
 use Rattle.channels.specs.declared.After.{After}
 use Rattle.channels.specs.declared.layers.Sent.{Sent}
 use Rattle.channels.specs.declared.layers.Taken.{Taken}
-use Rattle.channels.specs.Channels.{placeCount, placeOctets, allOctets, start, channelAt, opened, closed, reset, posted, Posts}
+use Rattle.channels.specs.Channels.{placeCount, placeOctets, allOctets, vacant, start, placeOf, isIn, channelAt, opened, closed, reset, posted, Posts}
 use Rattle.channels.specs.Layers.{sending, SendsOn, taking, TakesOn}
 
 pub record Orderly (s : Channels) (h : List ℕ) : Type 0 where
@@ -30,8 +38,17 @@ pub record Orderly (s : Channels) (h : List ℕ) : Type 0 where
   pub bounded : (p : ℕ) → channelAt s p .held ≤ placeOctets
   pub whole : (p : ℕ) → channelAt s p .segmentable ≡ false → channelAt s p .held ≡ 0
 
+-- "Up to 16 channels are open, channel 0 always, segmentable" (document 01, "Demultiplexer"); that none is open twice is refusal 13, and that
+-- a free place holds nothing, has nothing waiting and no numbers is what closing drops and opening starts with
+pub record Seated (s : Channels) : Type 0 where
+  pub control : isIn s 0 ≡ true
+  pub segmentable : channelAt s (placeOf s 0) .segmentable ≡ true
+  pub once : (p q : ℕ) → channelAt s p .«open» ≡ true → channelAt s q .«open» ≡ true → channelAt s p .number .0 ≡ channelAt s q .number .0 → p ≡ q
+  pub free : (p : ℕ) → channelAt s p .«open» ≡ false → channelAt s p ≡ vacant
+
 pub record Bounded (s : Channels) (h w : List ℕ) : Type 0 where
   pub orderly : Orderly s h
+  pub seated : Seated s
   pub waits : (p : ℕ) → channelAt s p .waiting ≤ placeOctets
   pub space : length w ≡ allOctets
 
@@ -48,6 +65,20 @@ pub record KeepsBounds (s : Channels) (h w : List ℕ) : Type 0 where
 
 abbrev pub CallsKeepBounds : Type 0
 CallsKeepBounds = (s : Channels) (h w : List ℕ) → Bounded s h w → KeepsBounds s h w
+
+-- ---- AL2 from channel to channel
+
+abbrev pub channelOf : Channels → ℕ → Channel
+channelOf s n = channelAt s (placeOf s n)
+
+abbrev pub TakenAsSent : Type 0
+TakenAsSent =
+    (s r t : Channels) (n m k : ℕ) (numbered : Bool) (u out after : List ℕ)
+    → length (s .at) ≡ placeCount → length (r .at) ≡ placeCount → isIn r m ≡ true
+    → channelOf s n .sent < 256 → channelOf r m .expected ≡ channelOf s n .sent
+    → sending (record { channels = s; output = out }) n numbered u ≡ leaving k (record { channels = t; output = after })
+    → (taking r m numbered (take k after) .answer ≡ told (handedUp (asSent u) 0 (channelOf t n .sent)))
+    × (channelOf (taking r m numbered (take k after) .left) m .expected ≡ channelOf t n .sent)
 
 -- ---- any two answers are equal
 

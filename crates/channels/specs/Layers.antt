@@ -6,7 +6,6 @@
 --   sendingTests      what refuses to send a unit on a channel, in this order
 --   sending           how that ends: with its octets written, or a refusal
 --   SendsOn           .. as the function answers, and leaves the output
---   expectedBy r      the number that is expected next, by what became of a unit
 --   takingTests       what refuses to receive a unit on a channel, in this order
 --   taking            how that ends: with what becomes of it, or a refusal
 --   TakesOn           .. as the function answers it
@@ -19,7 +18,7 @@ use Prim.Native.Nat.{ℕ, _+_, _%_}
 use lib.ListN.{length}
 use Rattle.octets.specs.Written.{written}
 use Rattle.calls.specs.Refusal.{Ended, ended, leaving, refusing, Test, _when_, checked, lengthSays}
-use Rattle.adaptation.specs.AL2.{whole, sendTests, unitOf, readTests, Receipt, handedUp, discarded, receiptOf, receivedSays}
+use Rattle.adaptation.specs.AL2.{whole, sendTests, unitOf, readTests, Receipt, expectedBy, receiptOf, receivedSays}
 use Rattle.adaptation.specs.declared.al2.Number.{Number}
 use Rattle.adaptation.specs.declared.al2.Number.the-variants.{Numbered, Plain}
 use Rattle.channels.specs.declared.Channel.{Channel}
@@ -53,10 +52,6 @@ sending x n numbered u =
 abbrev pub SendsOn : Channels → (n : ℕ) → (numbered : Bool) → (unit output : List ℕ) → Sent → List ℕ → Type 0
 SendsOn s n numbered u out r v =
     ended (lengthSays (r .length)) (record { channels = r .channels; output = v }) ≡ sending (record { channels = s; output = out }) n numbered u
-
-abbrev pub expectedBy : Receipt → ℕ
-expectedBy (handedUp u missing expected) = expected
-expectedBy (discarded expected) = expected
 
 abbrev pub takingTests : Channels → (n : ℕ) → (numbered : Bool) → List ℕ → List Test
 takingTests s n numbered w = 5 when not (isIn s n) ∷ readTests numbered w

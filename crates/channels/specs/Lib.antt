@@ -4,3 +4,5 @@ pub mod Places
 pub mod Layers
 pub mod Parts
 pub mod Claims
+pub mod Full
+pub mod Effects

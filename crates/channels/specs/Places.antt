@@ -12,4 +12,4 @@ abbrev pub noNumber : ℕ
 noNumber = 65536
 
 abbrev pub numberOf : Channel → ℕ
-numberOf c = cond (c .«open») (c .number) noNumber
+numberOf c = cond (c .«open») (c .number .0) noNumber

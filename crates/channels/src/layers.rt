@@ -68,8 +68,7 @@ fn unsent(s: Channels, k: u8) -> Sent
 pub fn send(s: Channels, number: ChannelNumber, numbered: bool, unit: &[u8], out: &mut [u8]) -> Sent
     ensures { λ r. ⌜ SendsOn s (number .0) numbered (now (unit .entry)) (now (out .entry)) r (now (out .exit)) ⌝ }
 {
-    let n = number.0;
-    let p = place_of(s, n);
+    let p = place_of(s, number);
     if PLACES <= p {
         return unsent(s, 5);
     }
@@ -114,8 +113,7 @@ fn untaken(s: Channels, k: u8) -> Taken
 pub fn take(s: Channels, number: ChannelNumber, numbered: bool, whole: &[u8]) -> Taken
     ensures { λ r. ⌜ TakesOn s (number .0) numbered (now (whole .entry)) r ⌝ }
 {
-    let n = number.0;
-    let p = place_of(s, n);
+    let p = place_of(s, number);
     if PLACES <= p {
         return untaken(s, 5);
     }

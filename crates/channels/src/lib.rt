@@ -25,7 +25,7 @@ pub struct ChannelNumber(pub u16);
 pub struct Channel {
     pub open: bool,
     pub segmentable: bool,
-    pub number: u16,
+    pub number: ChannelNumber,
     pub held: u16,
     pub waiting: u16,
     pub sent: u8,
@@ -49,7 +49,7 @@ fn vacant() -> Channel
     Channel {
         open: false,
         segmentable: false,
-        number: 0,
+        number: ChannelNumber(0),
         held: 0,
         waiting: 0,
         sent: 0,
@@ -58,8 +58,8 @@ fn vacant() -> Channel
 }
 
 // A channel just opened.
-fn fresh(number: u16, segmentable: bool) -> Channel
-    ensures { λ r. ⌜ r ≡ the.fresh number segmentable ⌝ }
+fn fresh(number: ChannelNumber, segmentable: bool) -> Channel
+    ensures { λ r. ⌜ r ≡ the.fresh (number .0) segmentable ⌝ }
 {
     Channel {
         open: true,
@@ -78,7 +78,7 @@ pub fn new() -> Channels
 {
     let free = vacant();
     let mut at = [free; PLACES];
-    at[0] = fresh(0, true);
+    at[0] = fresh(ChannelNumber(0), true);
     Channels { at }
 }
 
@@ -122,16 +122,15 @@ fn done(s: Channels) -> After
 pub fn open(s: Channels, number: ChannelNumber, segmentable: bool) -> After
     ensures { λ r. ⌜ ended (outcomeSays (r .outcome)) (r .channels) ≡ opened s (number .0) segmentable ⌝ }
 {
-    let n = number.0;
-    if place_of(s, n) < PLACES {
+    if place_of(s, number) < PLACES {
         return refused(s, 13);
     }
-    let p = free_place(s);
-    if PLACES <= p {
+    let free = free_place(s);
+    if PLACES <= free {
         return refused(s, 12);
     }
     let mut next = s;
-    next.at[p] = fresh(n, segmentable);
+    next.at[free] = fresh(number, segmentable);
     done(next)
 }
 
@@ -139,12 +138,11 @@ pub fn open(s: Channels, number: ChannelNumber, segmentable: bool) -> After
 pub fn close(s: Channels, number: ChannelNumber) -> After
     ensures { λ r. ⌜ ended (outcomeSays (r .outcome)) (r .channels) ≡ closed s (number .0) ⌝ }
 {
-    let n = number.0;
-    let p = place_of(s, n);
+    let p = place_of(s, number);
     if PLACES <= p {
         return refused(s, 5);
     }
-    if n == 0 {
+    if p == place_of(s, ChannelNumber(0)) {
         return refused(s, 14);
     }
     let mut next = s;
@@ -156,8 +154,7 @@ pub fn close(s: Channels, number: ChannelNumber) -> After
 pub fn restart(s: Channels, number: ChannelNumber) -> After
     ensures { λ r. ⌜ ended (outcomeSays (r .outcome)) (r .channels) ≡ reset s (number .0) ⌝ }
 {
-    let n = number.0;
-    let p = place_of(s, n);
+    let p = place_of(s, number);
     if PLACES <= p {
         return refused(s, 5);
     }
@@ -186,7 +183,7 @@ pub fn post(
     if PLACE_OCTETS < t {
         return refused(s, 2);
     }
-    let p = place_of(s, number.0);
+    let p = place_of(s, number);
     if PLACES <= p {
         return refused(s, 5);
     }

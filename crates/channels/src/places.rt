@@ -1,5 +1,6 @@
 // Where channels are: searches by number, for one and for all slots of a payload.
 use crate::Channel;
+use crate::ChannelNumber;
 use crate::Channels;
 use crate::PLACES;
 ghost use mathlib.Core.Path.{_≡_};
@@ -16,7 +17,7 @@ const NO_NUMBER: u32 = 65536;
 fn number_of(c: Channel) -> u32
     ensures { λ r. ⌜ r ≡ numberOf c ⌝ }
 {
-    if c.open { c.number as u32 } else { NO_NUMBER }
+    if c.open { c.number.0 as u32 } else { NO_NUMBER }
 }
 
 // The numbers by place: a search then takes no copy of the channels.
@@ -48,11 +49,11 @@ pub fn seek(numbers: &[u32], n: u32) -> usize
 }
 
 // The place of an open channel, or how many places there are.
-pub fn place_of(s: Channels, n: u16) -> usize
-    ensures { λ r. ⌜ r ≡ placeOf s n ⌝ }
+pub fn place_of(s: Channels, number: ChannelNumber) -> usize
+    ensures { λ r. ⌜ r ≡ placeOf s (number .0) ⌝ }
 {
     let numbers = numbers_of(s);
-    seek(&numbers, n as u32)
+    seek(&numbers, number.0 as u32)
 }
 
 // Puts each channel's place instead of its number, and tells whether all of them are open.

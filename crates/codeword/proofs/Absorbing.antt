@@ -10,10 +10,10 @@
 use mathlib.Core.Path.{_≡_, refl, sym, ap, ap₂, _∙_}
 use mathlib.Core.Bool.{Bool, true, false, cond}
 use mathlib.Core.List.{List, []}
-use Prim.Native.Nat.{ℕ, zero, suc, _+_, _*_, _≤_, _<_}
+use Prim.Native.Nat.{ℕ, zero, suc, _+_, _*_, _<_}
 use native.Mathlib.Numerals.{add-one}
 use native.Mathlib.Omega.{arith}
-use native.Mathlib.Decide.{ℕ-discrete, decLe}
+use native.Mathlib.Decide.{ℕ-discrete}
 use borrow.Author.Tests.{eqb-true, eq-eqb}
 use lib.Dec.{eqb}
 use lib.ListN.{length, getD, set, take, length-set}
@@ -22,13 +22,12 @@ use Rattle.octets.specs.Tests.{never}
 use Rattle.algebra.specs.Field.{Field}
 use Rattle.algebra.specs.Power.{pow}
 use Rattle.field.specs.Octet as Octet
-use Rattle.field.specs.Octet.Laws.{sum-octet, product-octet, power-octet}
 use Rattle.codeword.specs.Element.{elements, element, α}
 use Rattle.codeword.specs.Element.Laws.{element-sum, element-product, element-power, element-zero}
 use Rattle.codeword.specs.CodeWord.{longestWord, Octets, CodeWord}
 use Rattle.codeword.specs.Places.{value}
 use Rattle.codeword.specs.Syndromes.{PointsAre, Absorbed, SyndromesAre, allZero}
-use Rattle.codeword.proofs.Arrays.{zeros, zeros-at, array-zeros, array-set, set-below, take-next}
+use Rattle.codeword.proofs.Arrays.{zeros, zeros-at, set-below, take-next}
 use Rattle.codeword.proofs.Word.{value-none, value-snoc}
 use Rattle.codeword.proofs.Criterion.{zero-codeWord}
 
@@ -39,12 +38,12 @@ open Field elements using (Carrier as F, add as _⊕_, mul as _⊙_, nil as 𝟘
 -- ---- the points
 
 pub points-start : PointsAre 0 zeros
-points-start = record { array = array-zeros; used = λ i l. absurd (omega arith) }
+points-start = record { long = refl; used = λ i l. absurd (omega arith) }
 
 pub points-next : {i v : ℕ} {x : List ℕ} → i < longestWord → PointsAre i x → v ≡ Octet.power Octet.α (i + 1) → PointsAre (i + 1) (set x i v)
 points-next {i} {v} {x} h r e = record {
-  array = array-set x i v (rw e (power-octet _ _)) (r .array);
-  used = set-below (λ j y. element y ≡ pow elements α (suc j)) x i v (omega (arith, r .array .long)) (r .used) (rw (e, ← add-one i) (element-power (i + 1)));
+  long = length-set x i v ∙ r .long;
+  used = set-below (λ j y. element y ≡ pow elements α (suc j)) x i v (omega (arith, r .long)) (r .used) (rw (e, ← add-one i) (element-power (i + 1)));
 }
 
 -- ---- one octet into all syndromes
@@ -65,25 +64,19 @@ absorbed-next {a} {i} {v} {x} {s} {t} h l e = record {
 
 pub syndromes-start : {m : ℕ} → SyndromesAre m [] zeros
 syndromes-start = record {
-  array = array-zeros;
   used = λ i l. ap element (zeros-at i) ∙ element-zero ∙ sym (value-none _);
   unused = λ i l. zeros-at i;
 }
 
-pub syndromes-next : (m i a : ℕ) (w x s t : List ℕ) → PointsAre m x → i < length w → a ≡ getD w i 0 → a < Octet.size
+pub syndromes-next : (m i a : ℕ) (w x s t : List ℕ) → PointsAre m x → i < length w → a ≡ getD w i 0
     → SyndromesAre m (take i w) s → Absorbed m a x s t → SyndromesAre m (take (i + 1) w) t
-syndromes-next m i a w x s t rx l e a< h ab = record {
-  array = record { long = ab .long ∙ h .array .long; octets = λ j. octets-at j (decLe m j) };
+syndromes-next m i a w x s t rx l e h ab = record {
   used = λ j k.
-      ap element (ab .used j k) ∙ element-sum _ _ (product-octet _ _) a<
-      ∙ ap (λ (y : F). y ⊕ element a) (element-product _ _ (rx .array .octets j) (h .array .octets j) ∙ ap₂ (λ (y z : F). y ⊙ z) (rx .used j k) (h .used j k))
+      ap element (ab .used j k) ∙ element-sum _ _
+      ∙ ap (λ (y : F). y ⊕ element a) (element-product _ _ ∙ ap₂ (λ (y z : F). y ⊙ z) (rx .used j k) (h .used j k))
       ∙ sym (ap (λ (v : List ℕ). value v (pow elements α (suc j))) (take-next w i a l e) ∙ value-snoc (take i w) a (pow elements α (suc j)));
   unused = λ j k. ab .unused j k ∙ h .unused j k;
 }
-  where
-    octets-at : (j : ℕ) → Dec (m ≤ j) → getD t j 0 < Octet.size
-    octets-at j (yes k) = rw (ab .unused j k) (h .array .octets j)
-    octets-at j (no k) = rw (ab .used j (omega arith)) (sum-octet _ _ (product-octet _ _) a<)
 
 -- ---- all of them zero
 

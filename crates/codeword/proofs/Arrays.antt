@@ -2,14 +2,13 @@
 --
 --   zeros         the array with which each step starts
 --   zeros-at      every place of it has 0
---   array-zeros   it is one
---   array-set     a store of an octet keeps an array one
---   octets-set    .. and a list of octets
+--   zeros-octets  .. which is an octet
+--   octets-set    a store of an octet keeps a list one of octets
 --   set-below     what holds of every place below i, and of what is stored at i, holds of every place below i + 1
 --   take-next     the first i + 1 octets of a word are the first i and the next
 --
 -- Assumes nothing.
-use mathlib.Core.Path.{_≡_, refl, _∙_}
+use mathlib.Core.Path.{_≡_, refl}
 use mathlib.Core.List.{List, [], _∷_, _++_}
 use Prim.Native.Nat.{ℕ, zero, suc, _+_, _<_}
 use native.Mathlib.Numerals.{add-one}
@@ -17,11 +16,10 @@ use native.Mathlib.Omega.{arith}
 use native.Mathlib.Decide.{ℕ-discrete, decLt}
 use borrow.Author.Count.{below-more}
 use lib.Dec.{lit<}
-use lib.ListN.{length, getD, set, take, replicate, length-set}
+use lib.ListN.{length, getD, set, take, replicate}
 use lib.Seq.{getD-set-same, getD-set-other, set-out, take-suc}
 use Rattle.field.specs.Octet.{size}
 use Rattle.codeword.specs.CodeWord.{longestWord, Octets}
-use Rattle.codeword.specs.Array.{Array}
 
 abbrev pub zeros : List ℕ
 zeros = replicate longestWord 0
@@ -34,8 +32,8 @@ replicate-at (suc n) (suc i) = replicate-at n i
 pub zeros-at : (i : ℕ) → getD zeros i 0 ≡ 0
 zeros-at i = replicate-at longestWord i
 
-pub array-zeros : Array zeros
-array-zeros = record { long = refl; octets = λ i. rw (zeros-at i) (lit< tt) }
+pub zeros-octets : Octets zeros
+zeros-octets i = rw (zeros-at i) (lit< tt)
 
 pub octets-set : (l : List ℕ) (j v : ℕ) → v < size → Octets l → Octets (set l j v)
 octets-set l j v h o i = go (ℕ-discrete i j) (decLt j (length l))
@@ -44,9 +42,6 @@ octets-set l j v h o i = go (ℕ-discrete i j) (decLt j (length l))
     go (no n) d = rw (getD-set-other l j i v 0 n) (o i)
     go (yes e) (yes m) = rw (e, getD-set-same l j v 0 m) h
     go (yes e) (no m) = rw (set-out l j v (omega arith)) (o i)
-
-pub array-set : (x : List ℕ) (i v : ℕ) → v < size → Array x → Array (set x i v)
-array-set x i v h a = record { long = length-set x i v ∙ a .long; octets = octets-set x i v h (a .octets) }
 
 pub set-below : (P : ℕ → ℕ → Type 0) (x : List ℕ) (i v : ℕ) → i < length x → ((j : ℕ) → j < i → P j (getD x j 0)) → P i v
     → (j : ℕ) → j < i + 1 → P j (getD (set x i v) j 0)

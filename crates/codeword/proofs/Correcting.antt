@@ -20,45 +20,44 @@ use Rattle.algebra.proofs.Laws.{deriv-even, deriv-odd, ⊛-dot}
 use Rattle.field.specs.Octet as Octet
 use Rattle.field.specs.Octet.Laws.{sum-octet, product-octet}
 use Rattle.codeword.specs.Element.{elements, element, octet}
-use Rattle.codeword.specs.Element.Laws.{octet-lt, element-octet, element-zero}
+use Rattle.codeword.specs.Element.Laws.{element-octet, element-zero}
 use Rattle.codeword.specs.CodeWord.{longestWord, Octets}
-use Rattle.codeword.specs.Array.{Array}
 use Rattle.codeword.specs.Places.{places, inverses}
 use Rattle.codeword.specs.Locator.{discrepancyOf}
 use Rattle.codeword.specs.Values.{EvaluatorIs, DerivativeIs, errorOf, Corrected}
-use Rattle.codeword.proofs.Arrays.{zeros, zeros-at, array-zeros, array-set, octets-set, set-below}
+use Rattle.codeword.proofs.Arrays.{zeros, zeros-at, octets-set, set-below}
 use Rattle.codeword.proofs.Word.{places-at}
 open Field elements using (Carrier as F, nil as 𝟘)
 
 -- ---- the evaluator
 
 pub evaluator-start : {c s : List ℕ} → EvaluatorIs 0 c s zeros
-evaluator-start = record { array = array-zeros; used = λ k l. absurd (omega arith) }
+evaluator-start = record { long = refl; used = λ k l. absurd (omega arith) }
 
 pub evaluator-next : {k v : ℕ} {c s o : List ℕ} → k < longestWord → EvaluatorIs k c s o → v ≡ discrepancyOf c s k k
     → EvaluatorIs (k + 1) c s (set o k v)
 unfolding discrepancyOf
 evaluator-next {k} {v} {c} {s} {o} h e d = record {
-  array = array-set o k v (rw d (octet-lt _)) (e .array);
+  long = length-set o k v ∙ e .long;
   used = λ i l. places-at (set o k v) i
-      ∙ set-below (λ i y. element y ≡ Ser._⊛_ elements (places c) (places s) i) o k v (omega (arith, e .array .long))
+      ∙ set-below (λ i y. element y ≡ Ser._⊛_ elements (places c) (places s) i) o k v (omega (arith, e .long))
       (λ i l. sym (places-at o i) ∙ e .used i l) (ap element d ∙ element-octet _ ∙ sym (⊛-dot elements (places c) (places s) k)) i l;
 }
 
 -- ---- the derivative
 
 pub record DerivativeTo (h : ℕ) (c d : List ℕ) : Type 0 where
-  pub array : Array d
+  pub long : length d ≡ longestWord
   pub even : (i : ℕ) → i < h → getD d (2 * i) 0 ≡ getD c (2 * i + 1) 0
   pub odd : (i : ℕ) → getD d (2 * i + 1) 0 ≡ 0
 
 pub derivative-start : {c : List ℕ} → DerivativeTo 0 c zeros
-derivative-start = record { array = array-zeros; even = λ i l. absurd (omega arith); odd = λ i. zeros-at (2 * i + 1) }
+derivative-start = record { long = refl; even = λ i l. absurd (omega arith); odd = λ i. zeros-at (2 * i + 1) }
 
-pub derivative-next : (h : ℕ) (c d : List ℕ) → 2 * h < longestWord → getD c (2 * h + 1) 0 < Octet.size → DerivativeTo h c d
+pub derivative-next : (h : ℕ) (c d : List ℕ) → 2 * h < longestWord → DerivativeTo h c d
     → DerivativeTo (h + 1) c (set d (2 * h) (getD c (2 * h + 1) 0))
-derivative-next h c d l k t = record {
-  array = array-set d (2 * h) _ k (t .array);
+derivative-next h c d l t = record {
+  long = length-set d (2 * h) _ ∙ t .long;
   even = λ i m. go i m (ℕ-discrete i h);
   odd = λ i. getD-set-other d (2 * h) (2 * i + 1) _ 0 (λ e. unequal i e) ∙ t .odd i;
 }
@@ -67,11 +66,11 @@ derivative-next h c d l k t = record {
     unequal i e = omega arith
 
     go : (i : ℕ) → i < h + 1 → Dec (i ≡ h) → getD (set d (2 * h) (getD c (2 * h + 1) 0)) (2 * i) 0 ≡ getD c (2 * i + 1) 0
-    go i m (yes p) = rw p (getD-set-same d (2 * h) _ 0 (omega (arith, t .array .long)))
+    go i m (yes p) = rw p (getD-set-same d (2 * h) _ 0 (omega (arith, t .long)))
     go i m (no n) = getD-set-other d (2 * h) (2 * i) _ 0 (λ e. n (omega arith)) ∙ t .even i (omega arith)
 
 pub derivative-done : (l h : ℕ) (c d : List ℕ) → l ≤ 2 * h → DerivativeTo h c d → DerivativeIs l c d
-derivative-done l h c d m t = record { array = t .array; used = used }
+derivative-done l h c d m t = record { used = used }
   where
     used : (k : ℕ) → k < l → places d k ≡ deriv elements (places c) k
     used k o = go (k % 2) refl

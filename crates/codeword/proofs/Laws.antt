@@ -7,8 +7,8 @@
 --                with a message; parity-codeWord: the message and its parity
 --   encoding     encodes-true: what fits; encoded-is: what the promise says then
 --   the repair   reads-true: what fits
---   the claims   every one of specs/Claims.antt: encodedIsCodeWord, encodedIsOnly, codeWordsApart, zeroSyndromes, foundExactly,
---                foundIsIt, neverSecond, lostUntouched, encodedUnique, repairedUnique
+--   the claims   every one of specs/Claims.antt: encodedIsCodeWord, encodedIsOnly, codeWordsApart, withoutParity, zeroSyndromes,
+--                foundExactly, foundIsIt, neverSecond, lostUntouched, encodedUnique, repairedUnique
 --
 -- Assumes nothing.
 pub use Rattle.codeword.proofs.Word.{word-length, value-none, value-snoc}
@@ -16,5 +16,5 @@ pub use Rattle.codeword.proofs.Distance.{distance-self, distance-zero}
 pub use Rattle.codeword.proofs.Criterion.{codeWord-zero, zero-codeWord}
 pub use Rattle.codeword.proofs.Systematic.{octets-append, codeWord-only, parity-codeWord, encodes-true, encoded-is}
 pub use Rattle.codeword.proofs.Repairing.{reads-true}
-pub use Rattle.codeword.proofs.Theorems.{encodedIsCodeWord, encodedIsOnly, codeWordsApart, zeroSyndromes, foundExactly}
-pub use Rattle.codeword.proofs.Theorems.{foundIsIt, neverSecond, lostUntouched, encodedUnique, repairedUnique}
+pub use Rattle.codeword.proofs.Theorems.{encodedIsCodeWord, encodedIsOnly, codeWordsApart, withoutParity, zeroSyndromes}
+pub use Rattle.codeword.proofs.Theorems.{foundExactly, foundIsIt, neverSecond, lostUntouched, encodedUnique, repairedUnique}

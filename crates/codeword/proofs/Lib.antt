@@ -6,6 +6,7 @@ pub mod Distance
 pub mod Register
 pub mod Parity
 pub mod Systematic
+pub mod Remainder
 pub mod Mending
 pub mod Stepping
 pub mod Searching

@@ -20,13 +20,12 @@ use Rattle.algebra.specs.Polynomial.{raised}
 use Rattle.algebra.specs.Convolution.{dot}
 use Rattle.algebra.proofs.Laws.{raised-low, raised-high, ⊕-𝟘, ⊙-𝟘, ⊞-at, ⊡-at, dot-zero, dot-suc}
 use Rattle.field.specs.Octet as Octet
-use Rattle.field.specs.Octet.Laws.{sum-octet, product-octet}
+use Rattle.field.specs.Octet.Laws.{product-octet}
 use Rattle.codeword.specs.Element.{elements, element, octet}
-use Rattle.codeword.specs.Element.Laws.{octet-element, octet-add, octet-mul, octet-nil, element-sum, element-product}
-use Rattle.codeword.specs.CodeWord.{Octets}
+use Rattle.codeword.specs.Element.Laws.{octet-element, octet-add, octet-nil, element-sum, element-product}
 use Rattle.codeword.specs.Places.{places}
 use Rattle.codeword.specs.Locator.{Mended, discrepancyOf}
-use Rattle.codeword.proofs.Arrays.{octets-set, set-below}
+use Rattle.codeword.proofs.Arrays.{set-below}
 use Rattle.codeword.proofs.Word.{places-at}
 
 infixl 60 _⊕_ _⊞_
@@ -44,13 +43,12 @@ pub discrepancy-start : (c s : List ℕ) (r : ℕ) → discrepancy-to c s r 0 �
 unfolding discrepancy-to
 discrepancy-start c s r = ap octet (dot-zero elements _ _ r) ∙ octet-nil
 
-pub discrepancy-next : (c s : List ℕ) (r j : ℕ) → getD c j 0 < Octet.size → getD s (r - j) 0 < Octet.size
-    → discrepancy-to c s r (j + 1) ≡ Octet.sum (discrepancy-to c s r j) (Octet.product (getD c j 0) (getD s (r - j) 0))
+pub discrepancy-next : (c s : List ℕ) (r j : ℕ) → discrepancy-to c s r (j + 1) ≡ Octet.sum (discrepancy-to c s r j) (Octet.product (getD c j 0) (getD s (r - j) 0))
 unfolding discrepancy-to
-discrepancy-next c s r j h k =
+discrepancy-next c s r j =
     rw (add-one j) (ap octet (dot-suc elements (places c) (places s) r j) ∙ octet-add _ _
     ∙ ap (Octet.sum (octet (dot elements (places c) (places s) r j)))
-    (octet-mul _ _ ∙ ap₂ Octet.product (ap octet (places-at c j) ∙ octet-element _ h) (ap octet (places-at s (r - j)) ∙ octet-element _ k)))
+    (ap octet (ap₂ (λ (x y : F). x ⊙ y) (places-at c j) (places-at s (r - j)) ∙ sym (element-product _ _)) ∙ octet-element _ (product-octet _ _)))
 
 pub discrepancy-is : (c s : List ℕ) (r l j : ℕ) → j ≡ l + 1 → discrepancy-to c s r j ≡ discrepancyOf c s r l
 unfolding discrepancy-to discrepancyOf
@@ -67,20 +65,18 @@ unfolding mended-at
 mended-low q n c b k e =
     ap (λ (x : F). places c k ⊕ element q ⊙ x) e ∙ ap (λ (x : F). places c k ⊕ x) (⊙-𝟘 elements (element q)) ∙ ⊕-𝟘 elements (places c k)
 
-pub mended-start : {q n : ℕ} {c b : List ℕ} → Octets c → Mended n q n c b c
+pub mended-start : {q n : ℕ} {c b : List ℕ} → Mended n q n c b c
 unfolding mended-at
-mended-start {q} {n} {c} {b} o = record {
+mended-start {q} {n} {c} {b} = record {
   long = refl;
-  octets = o;
   done = λ k l. sym (mended-low q n c b k (raised-low elements n (places b) k l));
   left = λ k l. refl;
 }
 
-pub mended-next : {q n j v : ℕ} {c b d : List ℕ} → Mended j q n c b d → n ≤ j → j < length c → q < Octet.size → getD b (j - n) 0 < Octet.size
+pub mended-next : {q n j v : ℕ} {c b d : List ℕ} → Mended j q n c b d → n ≤ j → j < length c
     → v ≡ Octet.sum (getD d j 0) (Octet.product q (getD b (j - n) 0)) → Mended (j + 1) q n c b (set d j v)
-mended-next {q} {n} {j} {v} {c} {b} {d} h l m q< b< e = record {
+mended-next {q} {n} {j} {v} {c} {b} {d} h l m e = record {
   long = length-set d j v ∙ h .long;
-  octets = octets-set d j v (rw e (sum-octet _ _ (h .octets j) (product-octet _ _))) (h .octets);
   done = λ k o. places-at (set d j v) k
       ∙ set-below (λ k y. element y ≡ places c k ⊕ element q ⊙ raised elements n (places b) k) d j v (omega (arith, h .long))
       (λ k o. sym (places-at d k) ∙ h .done k o) new k o;
@@ -89,9 +85,9 @@ mended-next {q} {n} {j} {v} {c} {b} {d} h l m q< b< e = record {
   where
     new : element v ≡ places c j ⊕ element q ⊙ raised elements n (places b) j
     new =
-        ap element e ∙ element-sum _ _ (h .octets j) (product-octet _ _)
+        ap element e ∙ element-sum _ _
         ∙ ap₂ (λ (x y : F). x ⊕ y) (ap element (h .left j (omega arith)) ∙ sym (places-at c j))
-        (element-product q _ q< b< ∙ ap (λ (x : F). element q ⊙ x) (sym (raised-high elements n (places b) j l ∙ places-at b (j - n))))
+        (element-product q _ ∙ ap (λ (x : F). element q ⊙ x) (sym (raised-high elements n (places b) j l ∙ places-at b (j - n))))
 
 pub mended-whole : (top q n : ℕ) (c b d : List ℕ) → Mended top q n c b d → ((k : ℕ) → top ≤ k → raised elements n (places b) k ≡ 𝟘)
     → places d ≡ places c ⊞ element q ⊡ raised elements n (places b)

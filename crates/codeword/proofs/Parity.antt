@@ -4,7 +4,7 @@
 --   register-start, register-next     one octet of the message after another
 --
 -- Assumes nothing.
-use mathlib.Core.Path.{_≡_, sym, ap, fun-ext, _∙_, subst}
+use mathlib.Core.Path.{_≡_, refl, sym, ap, fun-ext, _∙_, subst}
 use mathlib.Core.List.{List, [], _∷_, _++_}
 use Prim.Native.Nat.{ℕ, zero, suc, _+_, _-_, _≤_, _<_}
 use native.Mathlib.Nat.{zero-add}
@@ -19,14 +19,12 @@ use Rattle.algebra.proofs.Laws.{⊞-none, divides-nothing, roots-divide, ⊕-�
 use Rattle.algebra.proofs.Laws.{below-rooted, rooted-top, remainder-step, turned-small, monomial-below}
 use Rattle.algebra.proofs.Laws.{polynomial-none, polynomial-at, polynomial-snoc, below-polynomial, raised-⊞, raised-sh}
 use Rattle.algebra.proofs.Laws.{raised-monomial, raised-none, below-raised}
-use Rattle.field.specs.Octet.{size}
 use Rattle.field.specs.Octet.Laws.{sum-octet, product-octet}
 use Rattle.codeword.specs.Element.{elements, element}
 use Rattle.codeword.specs.Element.Laws.{element-sum, element-product, element-zero}
 use Rattle.codeword.specs.CodeWord.{longestWord, word, Octets}
-use Rattle.codeword.specs.Array.{Array}
 use Rattle.codeword.specs.Register.{G, GeneratorIs, RegisterIs, Turned}
-use Rattle.codeword.proofs.Arrays.{zeros, zeros-at, array-zeros, take-next}
+use Rattle.codeword.proofs.Arrays.{zeros, zeros-at, zeros-octets, take-next}
 use Rattle.codeword.proofs.Word.{word-length, word-append, word-at, below-word}
 
 infixl 60 _⊕_ _⊞_
@@ -63,7 +61,8 @@ register-zeros m h = fun-ext (λ k. go k (decLe m k) ∙ sym (none-at elements k
 pub register-start : (m : ℕ) → m < longestWord → RegisterIs m [] zeros
 unfolding word
 register-start m h = record {
-  array = array-zeros;
+  long = refl;
+  octets = zeros-octets;
   unused = λ j l. zeros-at j;
   remainder = rw (register-zeros m (omega arith), polynomial-none elements, raised-none elements m) (record {
     small = λ k l. none-at elements k;
@@ -79,21 +78,21 @@ unfolding word
 raised-next m u a =
     sym (rw (word-append u (a ∷ []), polynomial-snoc elements (word u) (element a), raised-⊞, raised-sh, raised-monomial, zero-add))
 
-module _ (d a : ℕ) (g p q : List ℕ) (a< : a < size) (small : suc d < longestWord) (gi : GeneratorIs (suc d) (suc d + 1) g) (pa : Array p)
+module _ (d a : ℕ) (g p q : List ℕ) (small : suc d < longestWord) (gi : GeneratorIs (suc d) (suc d + 1) g) (p-long : length p ≡ longestWord)
     (unused : getD p (suc d) 0 ≡ 0) (t : Turned g (suc d) a p q) where
   fits : suc d ≤ length p
-  fits = omega (arith, pa .long)
+  fits = omega (arith, p-long)
 
   q-fits : suc d ≤ length q
-  q-fits = omega (arith, t .long, pa .long)
+  q-fits = omega (arith, t .long, p-long)
 
   -- place j of the turned register, as elements
   place : (j : ℕ) → j < suc d → element (getD q j 0) ≡ element (getD p (j + 1) 0) ⊕ (element (getD p 0 0) ⊕ element a) ⊙ element (getD g (j + 1) 0)
   place j l =
-      ap element (t .used j l) ∙ element-sum _ _ (pa .octets (j + 1)) (product-octet _ _)
+      ap element (t .used j l) ∙ element-sum _ _
       ∙ ap (λ (x : F). element (getD p (j + 1) 0) ⊕ x)
-      (element-product _ _ (sum-octet _ _ (pa .octets 0) a<) (gi .array .octets (j + 1))
-      ∙ ap (λ (x : F). x ⊙ element (getD g (j + 1) 0)) (element-sum _ _ (pa .octets 0) a<))
+      (element-product _ _
+      ∙ ap (λ (x : F). x ⊙ element (getD g (j + 1) 0)) (element-sum _ _))
 
   -- what moves up
   moved : (k : ℕ) → k < suc d → sh (register (suc d) p) k ≡ element (getD p (suc d - suc k + 1) 0)
@@ -144,16 +143,17 @@ register-empty u q = record {
       (λ i l. absurd (omega arith));
 }
 
-octets-turned : (m a : ℕ) (g p q : List ℕ) → a < size → Octets p → Turned g m a p q → Octets q
-octets-turned m a g p q h op t i = elim (decLe m i) [
+octets-turned : (m a : ℕ) (g p q : List ℕ) → Octets p → Turned g m a p q → Octets q
+octets-turned m a g p q op t i = elim (decLe m i) [
   | yes l ↦ rw (t .unused i l) (op i)
   | no l ↦ rw (t .used i (omega arith)) (sum-octet _ _ (op (i + 1)) (product-octet _ _))
 ]
 
-pub register-next : (m i a : ℕ) (u g p q : List ℕ) → m < longestWord → GeneratorIs m (m + 1) g → i < length u → a ≡ getD u i 0 → a < size
+pub register-next : (m i a : ℕ) (u g p q : List ℕ) → m < longestWord → GeneratorIs m (m + 1) g → i < length u → a ≡ getD u i 0
     → RegisterIs m (take i u) p → Turned g m a p q → RegisterIs m (take (i + 1) u) q
-register-next m i a u g p q h gi l e a< r t = record {
-  array = record { long = t .long ∙ r .array .long; octets = octets-turned m a g p q a< (r .array .octets) t };
+register-next m i a u g p q h gi l e r t = record {
+  long = t .long ∙ r .long;
+  octets = octets-turned m a g p q (r .octets) t;
   unused = λ j k. t .unused j k ∙ r .unused j k;
   remainder = subst (λ (v : List ℕ). Remainder elements (G m) m (raised elements m (polynomial elements (word v))) (register m q)) (sym (take-next u i a l e))
       (next m h gi r t);
@@ -165,4 +165,4 @@ register-next m i a u g p q h gi l e a< r t = record {
     next (suc d) h gi r t =
         subst (λ (f : Series elements). Remainder elements (G (suc d)) (suc d) f (register (suc d) q))
         (raised-next (suc d) (take i u) a)
-        (register-turn d a g p q a< h gi (r .array) (r .unused (suc d) (omega arith)) t _ (r .remainder))
+        (register-turn d a g p q h gi (r .long) (r .unused (suc d) (omega arith)) t _ (r .remainder))

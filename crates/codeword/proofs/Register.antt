@@ -5,7 +5,7 @@
 --   turned-next                       one octet of the register after another
 --
 -- Assumes nothing.
-use mathlib.Core.Path.{_≡_, sym, ap, ap₂, _∙_}
+use mathlib.Core.Path.{_≡_, refl, sym, ap, ap₂, _∙_}
 use mathlib.Core.Logic.{_≢_}
 use mathlib.Core.List.{List}
 use Prim.Native.Nat.{ℕ, suc, _+_, _-_, _≤_, _<_}
@@ -17,12 +17,12 @@ use Rattle.algebra.specs.Field.{Field}
 use Rattle.algebra.specs.Power.{pow, rising}
 use Rattle.algebra.proofs.Laws.{ring, ⊙-inv, ⊙-𝟙, ⊙-assoc, eq-of-sum, rooted-top, geometric-ratio}
 use Rattle.field.specs.Octet as Octet
-use Rattle.field.specs.Octet.Laws.{sum-octet, product-octet, inverse-octet, power-octet, powers-distinct}
+use Rattle.field.specs.Octet.Laws.{sum-octet, power-octet, powers-distinct}
 use Rattle.codeword.specs.Element.{elements, element, octet, α}
 use Rattle.codeword.specs.Element.Laws.{element-sum, element-product, element-inverse, element-power, element-one, octet-pow}
 use Rattle.codeword.specs.CodeWord.{longestWord}
 use Rattle.codeword.specs.Register.{G, GeneratorIs, Turned}
-use Rattle.codeword.proofs.Arrays.{zeros, array-zeros, array-set, set-below}
+use Rattle.codeword.proofs.Arrays.{zeros, set-below}
 
 infixl 60 _⊕_
 infixl 70 _⊙_
@@ -32,7 +32,7 @@ open Field elements using (Carrier as F, add as _⊕_, mul as _⊙_, inv, nil as
 
 pub generator-start : (m : ℕ) → GeneratorIs m 1 (set zeros 0 1)
 generator-start m = record {
-  array = array-set zeros 0 1 (lit< tt) array-zeros;
+  long = refl;
   coefficients = λ i h.
       let e : i ≡ 0 = omega arith in
       let z : m - 0 ≡ m = omega arith in
@@ -57,13 +57,13 @@ module _ (m k : ℕ) (small : m < Octet.order) (below : k < m) where
   ratio-element : element (ratio m k) ≡ pow elements α m ⊙ (pow elements α (k + 1) ⊕ 𝟙) ⊙ inv divisor
   unfolding divisor
   ratio-element =
-      element-product _ _ (product-octet _ _) (inverse-octet _)
+      element-product _ _
       ∙ ap₂ (λ (x y : F). x ⊙ y)
-      (element-product _ _ (power-octet _ m) (sum-octet _ _ (power-octet _ (k + 1)) (lit< tt))
+      (element-product _ _
       ∙ ap₂ (λ (x y : F). x ⊙ y) (element-power m)
-      (element-sum _ _ (power-octet _ (k + 1)) (lit< tt) ∙ ap₂ (λ (x y : F). x ⊕ y) (element-power (k + 1)) element-one))
+      (element-sum _ _ ∙ ap₂ (λ (x y : F). x ⊕ y) (element-power (k + 1)) element-one))
       (element-inverse _ (sum-octet _ _ (power-octet _ k) (power-octet _ m))
-      ∙ ap inv (element-sum _ _ (power-octet _ k) (power-octet _ m) ∙ ap₂ (λ (x y : F). x ⊕ y) (element-power k) (element-power m)))
+      ∙ ap inv (element-sum _ _ ∙ ap₂ (λ (x y : F). x ⊕ y) (element-power k) (element-power m)))
 
   coefficient-next : G m k ≡ G m (k + 1) ⊙ element (ratio m k)
   unfolding divisor
@@ -76,14 +76,14 @@ module _ (m k : ℕ) (small : m < Octet.order) (below : k < m) where
 pub generator-next : (m j v : ℕ) (g : List ℕ) → m < longestWord → 1 ≤ j → j ≤ m → GeneratorIs m j g
     → v ≡ Octet.product (getD g (j - 1) 0) (ratio m (m - j)) → GeneratorIs m (j + 1) (set g j v)
 generator-next m j v g h lo hi t e = record {
-  array = array-set g j v (rw e (product-octet _ _)) (t .array);
-  coefficients = set-below (λ i y. element y ≡ G m (m - i)) g j v (omega (arith, t .array .long)) (t .coefficients) new;
+  long = length-set g j v ∙ t .long;
+  coefficients = set-below (λ i y. element y ≡ G m (m - i)) g j v (omega (arith, t .long)) (t .coefficients) new;
 }
   where
     new : element v ≡ G m (m - j)
     new =
         let s : m - (j - 1) ≡ m - j + 1 = omega arith in
-        rw e (element-product _ _ (t .array .octets _) (product-octet _ _)
+        rw e (element-product _ _
         ∙ ap (λ (x : F). x ⊙ element (ratio m (m - j))) (t .coefficients (j - 1) (omega arith) ∙ ap (G m) s)
         ∙ sym (coefficient-next m (m - j) h (omega arith)))
 

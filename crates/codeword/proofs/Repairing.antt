@@ -32,7 +32,7 @@ use Rattle.algebra.specs.Derivative.{deriv}
 use Rattle.algebra.proofs.Laws.{⊕-self, ⊕-cancel, ⊕-𝟘, ⊙-assoc, ⊙-comm, ⊙-inv, ⊙-𝟙, ⊞-at, ev-local, length-complete}
 use Rattle.algebra.proofs.Laws.{search-complete, divisor-ne, search-sound}
 use Rattle.field.specs.Octet.{size, order}
-use Rattle.field.specs.Octet.Laws.{product-octet, inverse-octet}
+use Rattle.field.specs.Octet.Laws.{product-octet}
 use Rattle.codeword.specs.Element.{elements, element, octet, α}
 use Rattle.codeword.specs.Element.Laws.{octet-lt, element-octet, element-sum, element-product, element-inverse}
 use Rattle.codeword.specs.CodeWord.{longestWord, Octets, distance, Within}
@@ -127,7 +127,7 @@ module _ (e : ℕ) (w s c : List ℕ) (l : ℕ) (n-small : length w ≤ longestW
         ≡ ev elements l (places c ⊛ places s) (inverses (length w) k) ⊙ inv (ev elements l (deriv elements (places c)) (inverses (length w) k))
     unfolding errorOf
     error-element k =
-        element-product _ _ (valueOf-octet ov l _) (inverse-octet _)
+        element-product _ _
         ∙ ap₂ (λ (x y : F). x ⊙ y) (value-element ov (places c ⊛ places s) k (evaluator .used))
         (element-inverse _ (valueOf-octet de l _) ∙ ap inv (value-element de (deriv elements (places c)) k (derivative .used)))
 
@@ -174,7 +174,7 @@ module _ (e : ℕ) (w s c : List ℕ) (l : ℕ) (n-small : length w ≤ longestW
       listed j h =
           difference-at (getD at j 0)
           ∙ (rw (repaired-at (getD at j 0) inside, co .changed j h, copied (getD at j 0) inside)
-          (ap (λ (x : F). element (getD w (getD at j 0) 0) ⊕ x) (element-sum _ _ (o (getD at j 0)) (errorOf-octet ov de l _)) ∙ ⊕-cancel elements _ _))
+          (ap (λ (x : F). element (getD w (getD at j 0) 0) ⊕ x) (element-sum _ _) ∙ ⊕-cancel elements _ _))
         where
           inside : getD at j 0 < length w
           inside = se .search .inside j h

@@ -1,6 +1,6 @@
 -- Horner's rule, and the search for the roots, place by place.
 --
---   horner-from c n x i                               what Horner's rule has after the coefficients from i on
+--   HornerFrom c n x i v                              v is what Horner's rule has after the coefficients from i on
 --   horner-start, horner-next, horner-done            .. from the highest coefficient down
 --   search-start, search-hit, search-miss, search-done    one place after another
 --
@@ -11,6 +11,7 @@ use Prim.Native.Nat.{ℕ, suc, _+_, _-_, _<_}
 use native.Mathlib.Numerals.{add-one}
 use native.Mathlib.Omega.{arith}
 use native.Mathlib.Decide.{ℕ-discrete, decLt}
+use lib.Dec.{lit<}
 use lib.ListN.{length, getD, set, length-set}
 use lib.Seq.{getD-set-same, getD-set-other}
 use Rattle.algebra.specs.Field.{Field}
@@ -18,7 +19,7 @@ use Rattle.algebra.specs.Value.{ev, from}
 use Rattle.algebra.proofs.Laws.{⊕-comm, ⊙-comm, ev-zero, from-zero, horner}
 use Rattle.field.specs.Octet as Octet
 use Rattle.codeword.specs.Element.{elements, element, octet}
-use Rattle.codeword.specs.Element.Laws.{octet-element, octet-same, octet-add, octet-mul, octet-nil}
+use Rattle.codeword.specs.Element.Laws.{octet-element, octet-same, octet-nil, element-sum, element-product, element-zero}
 use Rattle.codeword.specs.CodeWord.{longestWord}
 use Rattle.codeword.specs.Places.{places, inverses}
 use Rattle.codeword.specs.Search.{valueOf, SearchIs}
@@ -32,26 +33,25 @@ open Field elements using (Carrier as F, add as _⊕_, mul as _⊙_, nil as 𝟘
 -- ---- Horner's rule
 
 -- what it has after the coefficients from i on
-pub horner-from : List ℕ → ℕ → ℕ → ℕ → ℕ
-horner-from c n x i = octet (ev elements (n - i) (from elements i (places c)) (element x))
+pub record HornerFrom (c : List ℕ) (n x i v : ℕ) : Type 0 where
+  pub small : v < Octet.size
+  pub is : element v ≡ ev elements (n - i) (from elements i (places c)) (element x)
 
-pub horner-start : (c : List ℕ) (n x : ℕ) → horner-from c n x n ≡ 0
-unfolding horner-from
-horner-start c n x = let e : n - n ≡ 0 = omega arith in rw (e, ev-zero) octet-nil
+pub horner-start : {c : List ℕ} {n x : ℕ} → HornerFrom c n x n 0
+horner-start {c} {n} {x} = let e : n - n ≡ 0 = omega arith in record { small = lit< tt; is = element-zero ∙ (rw (e, ev-zero)) }
 
-pub horner-next : (c : List ℕ) (n x i : ℕ) → i < n → getD c i 0 < Octet.size → x < Octet.size
-    → horner-from c n x i ≡ Octet.sum (Octet.product (horner-from c n x (i + 1)) x) (getD c i 0)
-unfolding horner-from
-horner-next c n x i l h k =
-    rw (add-one i)
-    (ap octet (horner elements n i (places c) (element x) l ∙ ⊕-comm elements _ _ ∙ ap (λ (y : F). y ⊕ places c i) (⊙-comm elements _ _))
-    ∙ octet-add _ _ ∙ ap₂ Octet.sum
-    (octet-mul _ _ ∙ ap (Octet.product (octet (ev elements (n - suc i) (from elements (suc i) (places c)) (element x)))) (octet-element x k))
-    (ap octet (places-at c i) ∙ octet-element _ h))
+pub horner-next : {c : List ℕ} {n x i u v : ℕ} → i < n → v < Octet.size → v ≡ Octet.sum (Octet.product u x) (getD c i 0)
+    → HornerFrom c n x (i + 1) u → HornerFrom c n x i v
+horner-next {c} {n} {x} {i} {u} {v} l small e h = record {
+  small = small;
+  is = ap element e ∙ element-sum _ _
+      ∙ ap₂ (λ (y z : F). y ⊕ z) (element-product u x ∙ ap (λ (y : F). y ⊙ element x) (rw (add-one i) at (h .is))) (sym (places-at c i))
+      ∙ sym (horner elements n i (places c) (element x) l ∙ ⊕-comm elements _ _ ∙ ap (λ (y : F). y ⊕ places c i) (⊙-comm elements _ _));
+}
 
-pub horner-done : (c : List ℕ) (n x : ℕ) → horner-from c n x 0 ≡ valueOf c n x
-unfolding horner-from valueOf
-horner-done c n x = let e : n - 0 ≡ n = omega arith in rw (e, from-zero)
+pub horner-done : {c : List ℕ} {n x v : ℕ} → HornerFrom c n x 0 v → v ≡ valueOf c n x
+unfolding valueOf
+horner-done {c} {n} {x} {v} h = let e : n - 0 ≡ n = omega arith in sym (octet-element v (h .small)) ∙ ap octet (rw (e, from-zero) at (h .is))
 
 -- ---- the search
 

@@ -92,7 +92,7 @@ codeWord-only e u c d lc ld cc dc bc bd =
 
 pub register-parity : (e : ℕ) (u p : List ℕ) → 2 * e ≤ length p → RegisterIs (2 * e) u p → Parity e u (take (2 * e) p)
 unfolding generator
-register-parity e u p l r = record { long = length-take-le (2 * e) p l; octets = octets-take (2 * e) p (r .array .octets); remainder = r .remainder }
+register-parity e u p l r = record { long = length-take-le (2 * e) p l; octets = octets-take (2 * e) p (r .octets); remainder = r .remainder }
 
 pub encoded-unique : (e : ℕ) (u before : List ℕ) (n m : ℕ) (after left : List ℕ)
     → Encoded e u before n after → Encoded e u before m left → (n ≡ m) × (after ≡ left)

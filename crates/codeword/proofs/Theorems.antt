@@ -1,7 +1,7 @@
 -- The claims of specs/Claims.antt.
 --
 --   encodedIsCodeWord, encodedIsOnly, encodedUnique              of encoding
---   codeWordsApart, zeroSyndromes, neverSecond                   of code words
+--   codeWordsApart, withoutParity, zeroSyndromes, neverSecond    of code words
 --   foundExactly, foundIsIt, lostUntouched, repairedUnique       of the repair
 --
 -- Assumes nothing.
@@ -10,14 +10,15 @@ use mathlib.Core.Bool.{true}
 use mathlib.Core.List.{List, _++_}
 use Prim.Native.Nat.{ℕ, _+_}
 use native.Mathlib.Omega.{arith}
+use lib.Dec.{lit<}
 use lib.ListN.{length, take, drop, length-append}
 use lib.Seq.{take-take}
 use Rattle.octets.specs.Tests.{never}
 use Rattle.octets.specs.Written.{written, written-part, written-behind}
 use Rattle.codeword.specs.CodeWord.{distance}
 use Rattle.codeword.specs.Encoding.{encodes, Done, Encoded}
-use Rattle.codeword.specs.Claims.{EncodedIsCodeWord, EncodedIsOnly, CodeWordsApart, ZeroSyndromes, FoundExactly, FoundIsIt}
-use Rattle.codeword.specs.Claims.{NeverSecond, LostUntouched, EncodedUnique, RepairedUnique}
+use Rattle.codeword.specs.Claims.{EncodedIsCodeWord, EncodedIsOnly, CodeWordsApart, WithoutParity, ZeroSyndromes}
+use Rattle.codeword.specs.Claims.{FoundExactly, FoundIsIt, NeverSecond, LostUntouched, EncodedUnique, RepairedUnique}
 use Rattle.codeword.specs.declared.Reach.the-variants.{Found, OutOfReach}
 use Rattle.codeword.proofs.Criterion.{codeWord-zero, zero-codeWord}
 use Rattle.codeword.proofs.Distance.{codeWords-apart, within-unique}
@@ -71,6 +72,9 @@ encodedUnique = encoded-unique
 
 pub codeWordsApart : CodeWordsApart
 codeWordsApart = codeWords-apart
+
+pub withoutParity : WithoutParity
+withoutParity w o = zero-codeWord 0 w (lit< tt) o (λ i m. absurd (omega arith))
 
 pub zeroSyndromes : ZeroSyndromes
 zeroSyndromes e w h o = (codeWord-zero e w, zero-codeWord e w h o)

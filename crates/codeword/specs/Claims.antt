@@ -5,6 +5,7 @@
 --   EncodedIsCodeWord    encoding gives a code word that begins with the message
 --   EncodedIsOnly        .. and the only one of its length that does
 --   CodeWordsApart       two code words of one length that differ in at most 2e octets are equal
+--   WithoutParity        with e = 0 every word of octets is a code word
 --   ZeroSyndromes        a word is a code word exactly when the values of its polynomial at α, α², .., α^2e are zero
 --   FoundExactly         a repair finds a code word exactly when one of that length differs from the word in at most e octets
 --   FoundIsIt            .. what is found is that code word, and the number is that of the octets that differ
@@ -46,6 +47,9 @@ EncodedIsOnly =
 
 abbrev pub CodeWordsApart : Type 0
 CodeWordsApart = (e : ℕ) (v w : List ℕ) → length v ≡ length w → length v ≤ longestWord → CodeWord e v → CodeWord e w → distance v w ≤ 2 * e → v ≡ w
+
+abbrev pub WithoutParity : Type 0
+WithoutParity = (w : List ℕ) → Octets w → CodeWord 0 w
 
 abbrev pub ZeroSyndromes : Type 0
 ZeroSyndromes = (e : ℕ) (w : List ℕ) → 2 * e < order → Octets w → CodeWord e w ↔ ((i : ℕ) → i < 2 * e → value w (pow elements α (suc i)) ≡ elements .nil)

@@ -1,7 +1,7 @@
 pub mod Element
 pub mod CodeWord
-pub mod Array
 pub mod Encoding
+pub mod Remainder
 pub mod Register
 pub mod Repair
 pub mod Places

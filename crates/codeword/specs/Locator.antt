@@ -17,14 +17,9 @@ use Rattle.algebra.specs.Massey.{MasseyState}
 use Rattle.algebra.specs.Convolution.{dot}
 use Rattle.field.specs.Octet.{size}
 use Rattle.codeword.specs.Element.{elements, element, octet}
-use Rattle.codeword.specs.CodeWord.{longestWord, Octets}
-use Rattle.codeword.specs.Array.{Array}
 use Rattle.codeword.specs.Places.{places}
 
 pub record MasseyStateIs (s c b : List ℕ) (r l shift q : ℕ) : Type 0 where
-  pub s-long : length s ≡ longestWord
-  pub c-array : Array c
-  pub b-array : Array b
   pub q-octet : q < size
   pub shift-small : shift ≤ suc r
   pub state : MasseyState elements (places s) (places c) (raised elements shift (places b)) r l (element q)
@@ -34,12 +29,10 @@ discrepancyOf c s r l = octet (dot elements (places c) (places s) r (suc l))
 
 pub record Mended (top q n : ℕ) (c b d : List ℕ) : Type 0 where
   pub long : length d ≡ length c
-  pub octets : Octets d
   pub done : (k : ℕ) → k < top → places d k ≡ elements .add (places c k) (elements .mul (element q) (raised elements n (places b) k))
   pub left : (k : ℕ) → top ≤ k → getD d k 0 ≡ getD c k 0
 
 pub record LocatorIs (m : ℕ) (s c : List ℕ) (l : ℕ) : Type 0 where
-  pub array : Array c
   pub B : Series elements
   pub q : elements .Carrier
   pub state : MasseyState elements (places s) (places c) B m l q

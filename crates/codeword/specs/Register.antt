@@ -15,18 +15,18 @@ use Rattle.algebra.specs.Power.{rising}
 use Rattle.algebra.specs.Polynomial.{polynomial, raised, rooted, Remainder}
 use Rattle.field.specs.Octet as Octet
 use Rattle.codeword.specs.Element.{elements, element, α}
-use Rattle.codeword.specs.CodeWord.{word}
-use Rattle.codeword.specs.Array.{Array}
+use Rattle.codeword.specs.CodeWord.{longestWord, word, Octets}
 
 abbrev pub G : ℕ → Series elements
 G m = rooted elements m (rising elements α)
 
 pub record GeneratorIs (m j : ℕ) (g : List ℕ) : Type 0 where
-  pub array : Array g
+  pub long : length g ≡ longestWord
   pub coefficients : (i : ℕ) → i < j → element (getD g i 0) ≡ G m (m - i)
 
 pub record RegisterIs (m : ℕ) (u p : List ℕ) : Type 0 where
-  pub array : Array p
+  pub long : length p ≡ longestWord
+  pub octets : Octets p
   pub unused : (j : ℕ) → m ≤ j → getD p j 0 ≡ 0
   pub remainder : Remainder elements (G m) m (raised elements m (polynomial elements (word u))) (polynomial elements (word (take m p)))
 

@@ -17,11 +17,10 @@ use Rattle.algebra.specs.Power.{pow}
 use Rattle.field.specs.Octet as Octet
 use Rattle.codeword.specs.Element.{elements, element, α}
 use Rattle.codeword.specs.CodeWord.{longestWord}
-use Rattle.codeword.specs.Array.{Array}
 use Rattle.codeword.specs.Places.{value}
 
 pub record PointsAre (m : ℕ) (x : List ℕ) : Type 0 where
-  pub array : Array x
+  pub long : length x ≡ longestWord
   pub used : (i : ℕ) → i < m → element (getD x i 0) ≡ pow elements α (suc i)
 
 pub record Absorbed (m a : ℕ) (x s t : List ℕ) : Type 0 where
@@ -30,7 +29,6 @@ pub record Absorbed (m a : ℕ) (x s t : List ℕ) : Type 0 where
   pub unused : (i : ℕ) → m ≤ i → getD t i 0 ≡ getD s i 0
 
 pub record SyndromesAre (m : ℕ) (w s : List ℕ) : Type 0 where
-  pub array : Array s
   pub used : (i : ℕ) → i < m → element (getD s i 0) ≡ value w (pow elements α (suc i))
   pub unused : (i : ℕ) → m ≤ i → getD s i 0 ≡ 0
 

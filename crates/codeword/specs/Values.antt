@@ -14,17 +14,15 @@ use Rattle.algebra.specs.Series as Ser
 use Rattle.algebra.specs.Derivative.{deriv}
 use Rattle.field.specs.Octet as Octet
 use Rattle.codeword.specs.Element.{elements, octet}
-use Rattle.codeword.specs.CodeWord.{Octets}
-use Rattle.codeword.specs.Array.{Array}
+use Rattle.codeword.specs.CodeWord.{longestWord, Octets}
 use Rattle.codeword.specs.Places.{places, inverses}
 use Rattle.codeword.specs.Search.{valueOf}
 
 pub record EvaluatorIs (l : ℕ) (c s o : List ℕ) : Type 0 where
-  pub array : Array o
+  pub long : length o ≡ longestWord
   pub used : (k : ℕ) → k < l → places o k ≡ Ser._⊛_ elements (places c) (places s) k
 
 pub record DerivativeIs (l : ℕ) (c d : List ℕ) : Type 0 where
-  pub array : Array d
   pub used : (k : ℕ) → k < l → places d k ≡ deriv elements (places c) k
 
 unfoldable pub errorOf : List ℕ → List ℕ → ℕ → ℕ → ℕ

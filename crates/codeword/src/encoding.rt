@@ -1,9 +1,7 @@
 // Encoding, by the shift register of figure D.3/H.223.
 use crate::LONGEST_WORD;
 use field::TABLES;
-ghost use mathlib.Core.Path.{_≡_};
-ghost use Prim.Native.Nat.{_+_, _<_, _≤_};
-ghost use lib.ListN.{length};
+ghost use Prim.Native.Nat.{_+_, _<_};
 ghost use Rattle.field.specs.Octet.Table.{Tables};
 ghost use Rattle.codeword.specs.CodeWord.{longestWord};
 ghost use Rattle.codeword.specs.Register.{GeneratorIs, RegisterIs, Turned};
@@ -30,11 +28,12 @@ pub(crate) fn generator(m: usize, t: &[u8; TABLES]) -> [u8; LONGEST_WORD]
 }
 
 // One turn of the register: every octet moves up by one, and the feedback times the generator is added.
-fn turn(p: &mut [u8], g: &[u8], m: usize, a: u8, t: &[u8; TABLES])
-    requires { ⌜ (m < length (now p)) × (m < length (now g)) ⌝ }
+fn turn(p: &mut [u8; LONGEST_WORD], g: &[u8; LONGEST_WORD], m: usize, a: u8, t: &[u8; TABLES])
+    requires { ⌜ m < longestWord ⌝ }
     requires { ⌜ Tables (now t) ⌝ }
     ensures { λ _. ⌜ Turned (now (g .entry)) m a (now (p .entry)) (now (p .exit)) ⌝ }
 {
+    let p = &mut p[..];
     let feedback = field::sum(p[0], a);
     let mut j = 0;
     while j < m {

@@ -6,10 +6,6 @@ mod syndromes;
 mod values;
 
 use field::TABLES;
-ghost use lib.ListN.{length};
-ghost use mathlib.Core.Path.{_≡_};
-ghost use mathlib.Core.Bool.{true};
-ghost use Prim.Native.Nat.{_*_, _<_, _≤_};
 ghost use Rattle.field.specs.Octet.Table.{Tables};
 ghost use Rattle.codeword.specs.Encoding.{Encoded};
 ghost use Rattle.codeword.specs.Syndromes.{Decodable};
@@ -51,7 +47,13 @@ pub fn encode(message: &[u8], e: usize, sent: &mut [u8]) -> usize
 }
 
 // The code word within e octets of a word with the syndromes s, if there is one.
-fn decode(received: &[u8], s: &[u8], e: usize, repaired: &mut [u8], t: &[u8; TABLES]) -> Reach
+fn decode(
+    received: &[u8],
+    s: &[u8; LONGEST_WORD],
+    e: usize,
+    repaired: &mut [u8],
+    t: &[u8; TABLES],
+) -> Reach
     requires { ⌜ Decodable e (now received) (now repaired) (now s) ⌝ }
     requires { ⌜ Tables (now t) ⌝ }
     ensures { λ r. ⌜ Repaired e (now (received .entry)) (now (repaired .entry)) r (now (repaired .exit)) ⌝ }

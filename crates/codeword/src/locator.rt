@@ -2,8 +2,7 @@
 use crate::LONGEST_WORD;
 use field::TABLES;
 ghost use mathlib.Core.Path.{_≡_};
-ghost use Prim.Native.Nat.{suc, _+_, _<_, _≤_};
-ghost use lib.ListN.{length};
+ghost use Prim.Native.Nat.{_+_, _<_, _≤_};
 ghost use Rattle.field.specs.Octet.Table.{Tables};
 ghost use Rattle.codeword.specs.CodeWord.{longestWord};
 ghost use Rattle.codeword.specs.Locator.{MasseyStateIs, Mended, LocatorIs, discrepancyOf};
@@ -23,8 +22,14 @@ pub struct Recurrence {
 }
 
 // c[0] s[r] + c[1] s[r - 1] + .. + c[l] s[r - l]: what the recurrence c of length l fails by at r.
-pub(crate) fn discrepancy(c: &[u8], s: &[u8], r: usize, l: usize, t: &[u8; TABLES]) -> u8
-    requires { ⌜ (l ≤ r) × (r < length (now s)) × (l < length (now c)) ⌝ }
+pub(crate) fn discrepancy(
+    c: &[u8; LONGEST_WORD],
+    s: &[u8; LONGEST_WORD],
+    r: usize,
+    l: usize,
+    t: &[u8; TABLES],
+) -> u8
+    requires { ⌜ (l ≤ r) × (r < longestWord) ⌝ }
     requires { ⌜ Tables (now t) ⌝ }
     ensures { λ d. ⌜ d ≡ discrepancyOf (now (c .entry)) (now (s .entry)) r l ⌝ }
 {
@@ -38,11 +43,19 @@ pub(crate) fn discrepancy(c: &[u8], s: &[u8], r: usize, l: usize, t: &[u8; TABLE
 }
 
 // Adds q x^shift b to c, as far as the coefficients below top go.
-fn mend(c: &mut [u8], b: &[u8], q: u8, shift: usize, top: usize, t: &[u8; TABLES])
-    requires { ⌜ (shift ≤ top) × (top ≤ length (now c)) × (top ≤ length (now b)) ⌝ }
+fn mend(
+    c: &mut [u8; LONGEST_WORD],
+    b: &[u8; LONGEST_WORD],
+    q: u8,
+    shift: usize,
+    top: usize,
+    t: &[u8; TABLES],
+)
+    requires { ⌜ (shift ≤ top) × (top ≤ longestWord) ⌝ }
     requires { ⌜ Tables (now t) ⌝ }
     ensures { λ _. ⌜ Mended top q shift (now (c .entry)) (now (b .entry)) (now (c .exit)) ⌝ }
 {
+    let c = &mut c[..];
     let mut j = shift;
     while j < top {
         c[j] = field::sum(c[j], field::product_by(q, b[j - shift], t));
@@ -52,9 +65,9 @@ fn mend(c: &mut [u8], b: &[u8], q: u8, shift: usize, top: usize, t: &[u8; TABLES
 
 // One step: the recurrence is made to hold at r too.
 fn step(
-    s: &[u8],
-    c: &mut [u8],
-    b: &mut [u8],
+    s: &[u8; LONGEST_WORD],
+    c: &mut [u8; LONGEST_WORD],
+    b: &mut [u8; LONGEST_WORD],
     r: usize,
     top: usize,
     g: Progress,
@@ -77,10 +90,9 @@ fn step(
     }
     let q = field::product_by(d, field::inverse_by(failed, t), t);
     if l + l <= r {
-        let mut old = [0u8; LONGEST_WORD];
-        octets::write(&mut old, 0, c);
+        let old = *c;
         mend(c, b, q, shift, top, t);
-        octets::write(b, 0, &old);
+        *b = old;
         return Progress {
             long: r + 1 - l,
             shift: 1,
@@ -96,8 +108,8 @@ fn step(
 }
 
 // The shortest recurrence for the first m syndromes.
-pub(crate) fn locator(s: &[u8], m: usize, t: &[u8; TABLES]) -> Recurrence
-    requires { ⌜ (m < longestWord) × (length (now s) ≡ longestWord) ⌝ }
+pub(crate) fn locator(s: &[u8; LONGEST_WORD], m: usize, t: &[u8; TABLES]) -> Recurrence
+    requires { ⌜ m < longestWord ⌝ }
     requires { ⌜ Tables (now t) ⌝ }
     ensures { λ r. ⌜ LocatorIs m (now (s .entry)) (r .coefficients) (r .degree) ⌝ }
 {

@@ -4,7 +4,6 @@ use field::ORDER;
 use field::TABLES;
 ghost use mathlib.Core.Path.{_≡_};
 ghost use Prim.Native.Nat.{_<_, _≤_};
-ghost use lib.ListN.{length};
 ghost use Rattle.field.specs.Octet.Table.{Tables};
 ghost use Rattle.codeword.specs.CodeWord.{longestWord};
 ghost use Rattle.codeword.specs.Element.{octet};
@@ -18,8 +17,8 @@ pub struct Places {
 }
 
 // c[0] + c[1] x + .. + c[n - 1] x^(n - 1), by Horner's rule.
-pub(crate) fn horner(c: &[u8], n: usize, x: u8, t: &[u8; TABLES]) -> u8
-    requires { ⌜ n ≤ length (now c) ⌝ }
+pub(crate) fn horner(c: &[u8; LONGEST_WORD], n: usize, x: u8, t: &[u8; TABLES]) -> u8
+    requires { ⌜ n ≤ longestWord ⌝ }
     requires { ⌜ Tables (now t) ⌝ }
     ensures { λ r. ⌜ r ≡ valueOf (now (c .entry)) n x ⌝ }
 {
@@ -42,8 +41,8 @@ pub(crate) fn inverse_locator(n: usize, p: usize, t: &[u8; TABLES]) -> u8
 }
 
 // All places of n at the inverse of whose locator the polynomial c, of degree at most l, is zero.
-pub(crate) fn search(c: &[u8], l: usize, n: usize, t: &[u8; TABLES]) -> Places
-    requires { ⌜ (l < length (now c)) × (n ≤ longestWord) ⌝ }
+pub(crate) fn search(c: &[u8; LONGEST_WORD], l: usize, n: usize, t: &[u8; TABLES]) -> Places
+    requires { ⌜ (l < longestWord) × (n ≤ longestWord) ⌝ }
     requires { ⌜ Tables (now t) ⌝ }
     ensures { λ r. ⌜ SearchIs n n l (now (c .entry)) (r .at) (r .count) ⌝ }
 {

@@ -3,7 +3,6 @@ use crate::LONGEST_WORD;
 use field::TABLES;
 ghost use mathlib.Core.Path.{_≡_};
 ghost use Prim.Native.Nat.{_<_, _≤_};
-ghost use lib.ListN.{length};
 ghost use Rattle.field.specs.Octet.Table.{Tables};
 ghost use Rattle.codeword.specs.CodeWord.{longestWord};
 ghost use Rattle.codeword.specs.Syndromes.{PointsAre, Absorbed, SyndromesAre, allZero};
@@ -24,11 +23,12 @@ fn points(m: usize, t: &[u8; TABLES]) -> [u8; LONGEST_WORD]
 }
 
 // The octet a of the word taken into every syndrome.
-fn absorb(s: &mut [u8], x: &[u8], m: usize, a: u8, t: &[u8; TABLES])
-    requires { ⌜ (m ≤ length (now s)) × (m ≤ length (now x)) ⌝ }
+fn absorb(s: &mut [u8; LONGEST_WORD], x: &[u8; LONGEST_WORD], m: usize, a: u8, t: &[u8; TABLES])
+    requires { ⌜ m ≤ longestWord ⌝ }
     requires { ⌜ Tables (now t) ⌝ }
     ensures { λ _. ⌜ Absorbed m a (now (x .entry)) (now (s .entry)) (now (s .exit)) ⌝ }
 {
+    let s = &mut s[..];
     let mut i = 0;
     while i < m {
         s[i] = field::sum(field::product_by(x[i], s[i], t), a);
@@ -53,8 +53,8 @@ pub(crate) fn syndromes(word: &[u8], m: usize, t: &[u8; TABLES]) -> [u8; LONGEST
 }
 
 // Whether the first m octets are zero: the word is a code word.
-pub(crate) fn clean(s: &[u8], m: usize) -> bool
-    requires { ⌜ m ≤ length (now s) ⌝ }
+pub(crate) fn clean(s: &[u8; LONGEST_WORD], m: usize) -> bool
+    requires { ⌜ m ≤ longestWord ⌝ }
     ensures { λ r. ⌜ r ≡ allZero m (now (s .entry)) ⌝ }
 {
     let mut i = 0;

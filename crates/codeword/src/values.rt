@@ -11,8 +11,13 @@ ghost use Rattle.codeword.specs.CodeWord.{longestWord};
 ghost use Rattle.codeword.specs.Values.{EvaluatorIs, DerivativeIs, errorOf, Corrected};
 
 // The error evaluator: the first l coefficients of the product of the locator c and the syndromes s; zero where unused.
-pub(crate) fn evaluator(c: &[u8], s: &[u8], l: usize, t: &[u8; TABLES]) -> [u8; LONGEST_WORD]
-    requires { ⌜ (l < longestWord) × (length (now c) ≡ longestWord) × (length (now s) ≡ longestWord) ⌝ }
+pub(crate) fn evaluator(
+    c: &[u8; LONGEST_WORD],
+    s: &[u8; LONGEST_WORD],
+    l: usize,
+    t: &[u8; TABLES],
+) -> [u8; LONGEST_WORD]
+    requires { ⌜ l < longestWord ⌝ }
     requires { ⌜ Tables (now t) ⌝ }
     ensures { λ r. ⌜ EvaluatorIs l (now (c .entry)) (now (s .entry)) r ⌝ }
 {
@@ -26,8 +31,8 @@ pub(crate) fn evaluator(c: &[u8], s: &[u8], l: usize, t: &[u8; TABLES]) -> [u8; 
 }
 
 // The first l coefficients of the locator's derivative: c[1], 0, c[3], 0, ..; zero where unused.
-pub(crate) fn derivative(c: &[u8], l: usize) -> [u8; LONGEST_WORD]
-    requires { ⌜ (l + 1 < longestWord) × (length (now c) ≡ longestWord) ⌝ }
+pub(crate) fn derivative(c: &[u8; LONGEST_WORD], l: usize) -> [u8; LONGEST_WORD]
+    requires { ⌜ l + 1 < longestWord ⌝ }
     ensures { λ r. ⌜ DerivativeIs l (now (c .entry)) r ⌝ }
 {
     let mut d = [0u8; LONGEST_WORD];
@@ -40,8 +45,8 @@ pub(crate) fn derivative(c: &[u8], l: usize) -> [u8; LONGEST_WORD]
 }
 
 // The error value at the point x: the evaluator's value over the derivative's.
-fn error(o: &[u8], d: &[u8], l: usize, x: u8, t: &[u8; TABLES]) -> u8
-    requires { ⌜ (l ≤ length (now o)) × (l ≤ length (now d)) ⌝ }
+fn error(o: &[u8; LONGEST_WORD], d: &[u8; LONGEST_WORD], l: usize, x: u8, t: &[u8; TABLES]) -> u8
+    requires { ⌜ l ≤ longestWord ⌝ }
     requires { ⌜ Tables (now t) ⌝ }
     ensures { λ r. ⌜ r ≡ errorOf (now (o .entry)) (now (d .entry)) l x ⌝ }
 {
@@ -56,13 +61,13 @@ fn error(o: &[u8], d: &[u8], l: usize, x: u8, t: &[u8; TABLES]) -> u8
 pub(crate) fn correct(
     w: &mut [u8],
     n: usize,
-    at: &[u8],
+    at: &[u8; LONGEST_WORD],
     l: usize,
-    o: &[u8],
-    d: &[u8],
+    o: &[u8; LONGEST_WORD],
+    d: &[u8; LONGEST_WORD],
     t: &[u8; TABLES],
 )
-    requires { ⌜ (n ≤ longestWord) × (n ≤ length (now w)) × (l ≤ length (now at)) × (l ≤ length (now o)) × (l ≤ length (now d)) ⌝ }
+    requires { ⌜ (n ≤ longestWord) × (n ≤ length (now w)) × (l ≤ longestWord) ⌝ }
     requires { ⌜ ((j : ℕ) → j < l → getD (now at) j 0 < n) ⌝ }
     requires { ⌜ ((i j : ℕ) → i < j → j < l → getD (now at) i 0 < getD (now at) j 0) ⌝ }
     requires { ⌜ Tables (now t) ⌝ }

@@ -3,11 +3,24 @@
 --   demands     each of them is met
 --
 -- Assumes nothing.
-use Rattle.multiplex.proofs.Laws.{demand-met, calls-refuse, always-sound}
+use Rattle.multiplex.proofs.Laws.{calls-refuse, always-sound}
+use Rattle.runs.proofs.Laws.{demand-met, unit-to-unit}
 use Rattle.demands.specs.Demands.{Demands}
 use Rattle.demands.proofs.First.{demand1}
 use Rattle.demands.proofs.Ordered.{orders}
+use Rattle.demands.proofs.Limited.{limits}
 use Rattle.demands.proofs.Reached.{demand3}
+use Rattle.demands.proofs.Hosted.{host}
 
 pub demands : Demands
-demands = record { first = demand1; orders = orders; calls = calls-refuse; sound = always-sound; second = demand-met; third = demand3 }
+demands = record {
+  first = demand1;
+  orders = orders;
+  limits = limits;
+  calls = calls-refuse;
+  sound = always-sound;
+  second = demand-met;
+  units = unit-to-unit;
+  third = demand3;
+  host = host;
+}

@@ -13,18 +13,17 @@ use mathlib.Core.List.{List, [], _∷_}
 use Prim.Native.Nat.{ℕ, zero, suc, _<_}
 use native.Mathlib.Omega.{arith}
 use lib.Bits.{bitXor}
-use lib.ListN.{length, getD}
+use lib.ListN.{length}
 use Rattle.algebra.specs.Series.{_⊞_, _⊡_, none, unit, sh}
 use Rattle.algebra.specs.Power.{rising}
 use Rattle.algebra.specs.Polynomial.{monomial, polynomial, root, rooted}
 use Rattle.field.specs.Octet.{sum, product, order}
 use Rattle.field.specs.Octet.Laws.{sum-xor, product-zero, product-one}
-use Rattle.field.specs.Octet.Table.{powers, powers-at}
 use Rattle.codeword.specs.Element.{elements, element, octet, α}
-use Rattle.codeword.specs.Element.Laws.{octet-lt, octet-element, octet-add, octet-mul, octet-nil, octet-one, octet-pow}
+use Rattle.codeword.specs.Element.Laws.{octet-element, octet-add, octet-mul, octet-nil, octet-one, octet-pow}
 use Rattle.codeword.specs.CodeWord.{Octets, word}
 use Rattle.codeword.proofs.Laws.{word-length}
-use Rattle.demands.proofs.Working.{times, product-times}
+use Rattle.demands.proofs.Working.{times, product-times, alphas, alphas-at}
 
 abbrev pub shifted : (ℕ → ℕ) → ℕ → ℕ
 shifted f zero = 0
@@ -33,7 +32,7 @@ shifted f (suc k) = f k
 unfoldable pub coefficient : ℕ → ℕ → ℕ
 coefficient zero zero = 1
 coefficient zero (suc k) = 0
-coefficient (suc n) k = bitXor (shifted (coefficient n) k) (times (getD powers (suc n) 0) (coefficient n k))
+coefficient (suc n) k = bitXor (shifted (coefficient n) k) (times (alphas (suc n)) (coefficient n k))
 
 pub rooted-worked : (n : ℕ) → n < order → (k : ℕ) → octet (rooted elements n (rising elements α) k) ≡ coefficient n k
 unfolding rooted root rising coefficient _⊞_ _⊡_ unit sh
@@ -42,7 +41,7 @@ rooted-worked zero h (suc k) = octet-nil
 rooted-worked (suc n) h k =
     octet-add _ _
     ∙ ap₂ sum (before (λ k. rooted-worked n (omega arith) k) k)
-    (octet-mul _ _ ∙ product-times _ _ (octet-lt _) (octet-lt _) ∙ ap₂ times (octet-pow (suc n) ∙ sym (powers-at (suc n) h)) (rooted-worked n (omega arith) k))
+    (octet-mul _ _ ∙ product-times _ _ ∙ ap₂ times (octet-pow (suc n) ∙ sym (alphas-at (suc n))) (rooted-worked n (omega arith) k))
     ∙ sum-xor _ _
   where
     before : ((k : ℕ) → octet (rooted elements n (rising elements α) k) ≡ coefficient n k)

@@ -4,7 +4,12 @@ pub mod Generating
 pub mod Vectors
 pub mod First
 pub mod Ordered
+pub mod Limited
 pub mod Reached
+pub mod Trying
+pub mod Kept
+pub mod Answering
 pub mod Refuted
+pub mod Hosted
 pub mod Demands
 pub mod Unique

@@ -3,7 +3,7 @@
 --   demand3     demand 3
 --
 -- Assumes nothing.
-use mathlib.Core.Path.{_≡_, _∙_}
+use mathlib.Core.Path.{_≡_, refl, _∙_}
 use mathlib.Core.List.{List}
 use Prim.Native.Nat.{ℕ, _+_, _*_, _-_, _≤_}
 use borrow.Author.Tests.{leb-true}
@@ -19,12 +19,13 @@ use Rattle.adaptation.specs.Check.{agrees}
 use Rattle.adaptation.specs.Width.{kindAt}
 use Rattle.calls.specs.Refusal.{told, refusal}
 use Rattle.adaptation.specs.AL1M.{isSetting}
-use Rattle.adaptation.specs.Receiving.{isWord, receiveTests, isBare, badgeOf, changedOf, Receives}
-use Rattle.adaptation.specs.declared.Badge.the-variants.{OutOfReach}
+use Rattle.adaptation.specs.Receiving.{isWord, receiveTests, isBare, badgeOf, changedOf, handedUnit, Receives}
+use Rattle.adaptation.specs.declared.Badge.{Badge}
+use Rattle.adaptation.specs.declared.Badge.the-variants.{Clean, Corrected, OutOfReach, CheckFailed, Unchecked}
 use Rattle.adaptation.specs.declared.al1m.Judgement.{Judgement}
 use Rattle.adaptation.specs.declared.al1m.Received.the-variants as al1m
 use Rattle.adaptation.proofs.Laws.{refused-none}
-use Rattle.adaptation.proofs.Laws.{sentIsHandedUp, faultlessIsCodeWord, outOfReachExactly}
+use Rattle.adaptation.proofs.Laws.{sentIsHandedUp, badge-exactly, outOfReachExactly, outOfReachLeaves, faultlessIsCodeWord}
 use Rattle.demands.specs.Repairs.{Repairs, Demand3}
 
 short : (n e : ℕ) (w before : List ℕ) → refusal (receiveTests (length w) n e (length before)) ≡ told tt → length w ≤ longestWord
@@ -32,6 +33,13 @@ unfolding isWord
 short n e w before a =
     let b = refused-none (isSetting n e) (isWord (length w) n e) (ltb (length before) (length w)) a .1 in
     leb-true (length w) longestWord (both-true (leb (length w) longestWord) (leb (1 + kindAt n .octets + 2 * e) (length w)) b .0)
+
+as-received : (x : Badge) (w after : List ℕ) (t : ℕ) → (x ≡ Corrected → ⊥) → handedUnit x w after t ≡ take t w
+as-received Clean w after t f = refl
+as-received Corrected w after t f = absurd (f refl)
+as-received OutOfReach w after t f = refl
+as-received CheckFailed w after t f = refl
+as-received Unchecked w after t f = refl
 
 module _ (n e : ℕ) (w before after : List ℕ) (j : Judgement) (a : Receives n e w before (al1m.Unit j) after) where
   found : (x : Reach) → Repaired e w before x after → j .badge ≡ badgeOf (isBare (kindAt n) e) x (agrees (kindAt n) (take (length w - 2 * e) after))
@@ -43,15 +51,17 @@ module _ (n e : ℕ) (w before after : List ℕ) (j : Judgement) (a : Receives n
       → j .changed ≡ changedOf x
       → (c : List ℕ) → Within e w c → (take (length w) after ≡ c) × (drop (length w) after ≡ drop (length w) before) × (j .changed ≡ distance w c)
   repaired (reach.Found k) p b q c i = let f = foundIsIt e w before after k p c i in (f .0, f .2, q ∙ f .1)
-  repaired reach.OutOfReach p b q c i = absurd (outOfReachExactly n e w before after j a .0 .0 b c i)
+  repaired reach.OutOfReach p b q c i = absurd (outOfReachExactly n e w before after j a .0 b c i)
 
   repairs : Repairs n e w before after j
   repairs = record {
-    found = (found (a .1 .reach) (a .1 .repaired) (a .1 .badge-is), λ c b. outOfReachExactly n e w before after j a .0 .0 b (c .0) (c .1));
+    found = (found (a .1 .reach) (a .1 .repaired) (a .1 .badge-is), λ c b. outOfReachExactly n e w before after j a .0 b (c .0) (c .1));
     repaired = repaired (a .1 .reach) (a .1 .repaired) (a .1 .badge-is) (a .1 .changed-is);
     once = λ c d p q. neverSecond e w c d (short n e w before (a .0)) p q;
+    badge = λ x. badge-exactly x n e w before after j a;
     faultless = faultlessIsCodeWord n e w before after j a;
-    lost = λ h. let o = outOfReachExactly n e w before after j a in let b = o .0 .1 h in (b, o .1 b .0, o .1 b .1);
+    asReceived = as-received (j .badge) w after (j .length);
+    lost = λ h. let b = outOfReachExactly n e w before after j a .1 h in let l = outOfReachLeaves n e w before after j a b in (b, l .0, l .1);
   }
 
 pub demand3 : Demand3

@@ -23,25 +23,24 @@ use lib.ListN.{length, getD, set}
 use Rattle.octets.specs.Tests.{never}
 use Rattle.octets.specs.Every.{every, every-at}
 use Rattle.algebra.specs.Power.{pow}
-use Rattle.field.specs.Octet.Table.{powers, powers-at}
 use Rattle.codeword.specs.Element.{elements, octet, α}
 use Rattle.codeword.specs.Element.Laws.{octet-same, octet-pow, octet-nil}
 use Rattle.codeword.specs.CodeWord.{Octets, CodeWord, distance, Within, longestWord}
 use Rattle.codeword.specs.Places.{value}
 use Rattle.codeword.proofs.Laws.{value-none, codeWord-zero, zero-codeWord, distance-zero}
-use Rattle.demands.proofs.Working.{horner, horner-value}
+use Rattle.demands.proofs.Working.{alphas, alphas-at, horner, horner-value}
 
 unfoldable pub isZeroAt : List ℕ → ℕ → Bool
-isZeroAt w i = eqb (horner (getD powers (suc i) 0) 0 w) 0
+isZeroAt w i = eqb (horner (alphas (suc i)) 0 w) 0
 
 unfoldable pub isCode : ℕ → List ℕ → Bool
 isCode e w = every (isZeroAt w) (2 * e)
 
 -- the test works out the value
 module _ (w : List ℕ) (o : Octets w) (i : ℕ) (h : suc i < longestWord) where
-  worked : horner (getD powers (suc i) 0) 0 w ≡ octet (value w (pow elements α (suc i)))
+  worked : horner (alphas (suc i)) 0 w ≡ octet (value w (pow elements α (suc i)))
   worked =
-      ap₂ (λ (x v : ℕ). horner x v w) (powers-at (suc i) h ∙ sym (octet-pow (suc i))) (sym (ap octet (value-none (pow elements α (suc i))) ∙ octet-nil))
+      ap₂ (λ (x v : ℕ). horner x v w) (alphas-at (suc i) ∙ sym (octet-pow (suc i))) (sym (ap octet (value-none (pow elements α (suc i))) ∙ octet-nil))
       ∙ horner-value [] w (pow elements α (suc i)) o
 
 all-every : (f : ℕ → Bool) (n : ℕ) → ((k : ℕ) → k < n → f k ≡ true) → every f n ≡ true

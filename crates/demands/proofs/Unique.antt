@@ -4,7 +4,7 @@
 --   equation-once                          of a promise that is an equation, `r ≡ definition arguments`
 --   codeword-encoded, codeword-repaired    the code word's
 --   outcome-once, length-once, lengths-once   of answers that say 'done' or 'so many octets', alone and with what is left
---   al1m-encoded, al1m-received, passed-once, read-once, received-once   the adaptation layers'
+--   check8-once, al1m-encoded, al1m-received, passed-once, read-once, received-once   the adaptation layers'
 --   encode-once, receive-once              the C entries'
 --   replacedUnique                         the table's
 --   afterUnique, postUnique, sendUnique, takeUnique   the channels'
@@ -15,7 +15,7 @@
 use mathlib.Core.Path.{_≡_, sym, _∙_}
 pub use Rattle.codeword.proofs.Laws.{encodedUnique as codeword-encoded, repairedUnique as codeword-repaired}
 pub use Rattle.calls.proofs.Laws.{length-once, lengths-once, outcome-once}
-pub use Rattle.adaptation.proofs.Laws.{encodedUnique as al1m-encoded, receivedUnique as al1m-received, passed-once, read-once, received-once}
+pub use Rattle.adaptation.proofs.Laws.{check8-once, encodedUnique as al1m-encoded, receivedUnique as al1m-received, passed-once, read-once, received-once}
 pub use Rattle.kyteblossom.proofs.Laws.{encode-once, receive-once}
 pub use Rattle.table.proofs.Laws.{replacedUnique}
 pub use Rattle.channels.proofs.Laws.{afterUnique, postUnique, sendUnique, takeUnique}

@@ -2,8 +2,12 @@
 --
 --   small        A1 to A10
 --   c3, c5       the code words of A3 and A5; w4, w6, w7, w8: the words of A4, A6, A7 and A8
---   found-as     how a word within e octets of a code word is received
---   lost-as      .. and one that is not
+--   receives     what receiving a word within e octets of a code word answers and leaves
+--   misses       .. and one that is not
+--   found-as     how the first is received, whatever is lent
+--   lost-as      .. and the second
+--   areOctets    whether numbers are octets
+--   octets-by    .. so they are
 --
 -- Assumes nothing.
 use mathlib.Core.Path.{_≡_, refl, sym, ap, _∙_, fun-ext}
@@ -18,7 +22,6 @@ use lib.Seq.{take-append-le}
 use Rattle.octets.specs.Every.{both-left, both-right}
 use Rattle.octets.specs.Written.{written}
 use Rattle.algebra.specs.Polynomial.{polynomial}
-use Rattle.field.specs.Octet.Table.{powers, logs}
 use Rattle.codeword.specs.Element.{elements}
 use Rattle.codeword.specs.Element.Laws.{octet-same}
 use Rattle.codeword.specs.CodeWord as code
@@ -38,10 +41,12 @@ use Rattle.adaptation.specs.declared.Badge.the-variants.{Clean, Corrected, OutO
 use Rattle.adaptation.specs.declared.al1m.Received.the-variants as al1m
 use Rattle.adaptation.proofs.Laws.{refused-not}
 use Rattle.adaptation.proofs.Laws.{receivedUnique}
-use Rattle.table.specs.Form.{many, headAt, elementAt, listAt, isEntry}
-use Rattle.table.specs.Slots.{copies, skip, inTurn, elementSlots, listSlots, slots, cut, payloadSlots, channelsOf}
+use Rattle.table.specs.Entry.{size, allElements, depth, isList, isEntryTree, elementNumbers}
+use Rattle.table.specs.Cursor.{many, headAt, elementAt, skip}
+use Rattle.table.specs.Form.{inTurn, elementAs, listAs, treeOf, isEntry}
+use Rattle.table.specs.Slots.{copies, slots, cut, payloadSlots, channelsOf}
 use Rattle.demands.specs.Small.{ReceivedAs, Small}
-use Rattle.demands.proofs.Working.{times, horner}
+use Rattle.demands.proofs.Working.{times, alphas, horner}
 use Rattle.demands.proofs.Testing.{isZeroAt, isCode, isCode-true, noneAt, noneNear, noneNear-none}
 use Rattle.demands.proofs.Generating.{coefficient, ofList, rooted-worked, polynomial-worked}
 
@@ -63,7 +68,7 @@ module _ (n e : ℕ) (w : List ℕ) (setting : isSetting n e ≡ true) (isOne : 
     module _ (c : List ℕ) (near : Within e w c) (b : Badge) (t : ℕ)
         (badge : badgeOf (isBare (kindAt n) e) (reach.Found (distance w c)) (agrees (kindAt n) (take (length w - 2 * e) c)) ≡ b)
         (unit : unitLength (kindAt n) e (length w) ≡ t) where
-      receives : Receives n e w before (al1m.Unit (record { badge = b; changed = distance w c; length = t })) (written before 0 c)
+      pub receives : Receives n e w before (al1m.Unit (record { badge = b; changed = distance w c; length = t })) (written before 0 c)
       receives = (
         allowed,
         record {
@@ -77,7 +82,7 @@ module _ (n e : ℕ) (w : List ℕ) (setting : isSetting n e ≡ true) (isOne : 
       )
 
     module _ (none : (c : List ℕ) → Within e w c → ⊥) (t : ℕ) (unit : unitLength (kindAt n) e (length w) ≡ t) where
-      misses : Receives n e w before (al1m.Unit (record { badge = OutOfReach; changed = 0; length = t })) before
+      pub misses : Receives n e w before (al1m.Unit (record { badge = OutOfReach; changed = 0; length = t })) before
       misses = (
         allowed,
         record {
@@ -112,11 +117,11 @@ module _ (n e : ℕ) (w : List ℕ) (setting : isSetting n e ≡ true) (isOne : 
 
 -- ---- words
 
-abbrev areOctets : List ℕ → Bool
+abbrev pub areOctets : List ℕ → Bool
 areOctets [] = true
 areOctets (a ∷ w) = ltb a 256 && areOctets w
 
-octets-by : (w : List ℕ) → T (areOctets w) → Octets w
+pub octets-by : (w : List ℕ) → T (areOctets w) → Octets w
 octets-by [] t i = lit< tt
 octets-by (a ∷ w) t zero = ltb→lt a 256 (both-left (ltb a 256) (areOctets w) t)
 octets-by (a ∷ w) t (suc i) = octets-by w (both-right (ltb a 256) (areOctets w) t) i
@@ -128,7 +133,7 @@ module _ (e : ℕ) (w c : List ℕ) (long : length c ≡ length w) (fits : 2 * e
 
 -- A2, coefficient by coefficient
 four : (k : ℕ) → coefficient 4 k ≡ ofList (0x01 ∷ 0x1E ∷ 0xD8 ∷ 0xE7 ∷ 0x74 ∷ []) k
-unfolding coefficient ofList times powers logs
+unfolding coefficient ofList times alphas
 four zero = refl
 four (suc zero) = refl
 four (suc (suc zero)) = refl
@@ -169,8 +174,9 @@ w8 = 0x10 ∷ 0x80 ∷ 0xAF ∷ []
 -- each row is worked out by antt; A7 goes through all words that differ in one octet
 pub small : Small
 unfolding isOdd bitsOf bits number octetsOf sum lowered divided remainder check.generator plain preset checkBits checkOf agrees
-    eight sixteen none widthOf isSetting isSendable sentLength isWord distance isCode isZeroAt noneAt noneNear horner times powers
-    logs many headAt elementAt listAt isEntry copies skip inTurn elementSlots listSlots slots cut payloadSlots channelsOf
+    eight sixteen none widthOf isSetting isSendable sentLength isWord distance isCode isZeroAt noneAt noneNear horner times alphas
+    size allElements depth isList isEntryTree elementNumbers many headAt elementAt skip inTurn elementAs listAs treeOf isEntry copies slots cut
+    payloadSlots channelsOf
 small = (
   refl,
   generator-two,
@@ -183,5 +189,5 @@ small = (
   refl,
   refl,
   refl,
-  (refl, refl),
+  (refl, refl, refl, refl),
 )

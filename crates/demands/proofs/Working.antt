@@ -1,46 +1,43 @@
--- The field's product and the values of a word, in a form that a machine works out: by Table D.I.1 and its logarithms.
+-- The field's product and the values of a word, in a form that a machine works out.
 --
---   added i j       the power of α that two powers make
---   times a b       the product through the table
+--   times a b       the product; who unfolds this computes it
 --   product-times   it is the product
+--   alphas k        α to the k, by so many products
+--   alphas-at       it is
 --   horner x v w    the value at x of a word that goes on with w, where v is its value so far
 --   horner-value    it is the value of the word's polynomial
 --
 -- Assumes nothing.
 use mathlib.Core.Path.{_≡_, sym, ap, ap₂, _∙_}
 use mathlib.Core.List.{List, [], _∷_, _++_, append-assoc}
-use Prim.Native.Nat.{ℕ, zero, suc, _+_, _%_, _<_}
-use native.Mathlib.Omega.{arith}
+use Prim.Native.Nat.{ℕ, zero, suc}
 use lib.Bits.{bitXor}
-use lib.ListN.{getD}
-use Rattle.field.specs.Octet.{sum, product, order}
+use Rattle.field.specs.Octet.{sum, product}
 use Rattle.field.specs.Octet as field
-use Rattle.field.specs.Octet.Laws.{sum-xor, zero-product, product-zero, power-add, power-wrap}
-use Rattle.field.specs.Octet.Table.{powers, logs, powers-at, power-logs}
+use Rattle.field.specs.Octet.Laws.{sum-xor, power-zero, power-suc}
+use Rattle.field.specs.Octet.Table.{worked, worked-is}
 use Rattle.codeword.specs.Element.{elements, octet}
-use Rattle.codeword.specs.Element.Laws.{octet-lt, octet-element, octet-add, octet-mul}
+use Rattle.codeword.specs.Element.Laws.{octet-element, octet-add, octet-mul}
 use Rattle.codeword.specs.CodeWord.{Octets}
 use Rattle.codeword.specs.Places.{value}
 use Rattle.codeword.proofs.Laws.{value-snoc}
 
-abbrev pub added : ℕ → ℕ → ℕ
-added i j = getD powers ((i + j) % order) 0
-
 unfoldable pub times : ℕ → ℕ → ℕ
-times zero b = 0
-times (suc a) zero = 0
-times (suc a) (suc b) = added (getD logs (suc a) 0) (getD logs (suc b) 0)
+unfolding worked
+times a b = worked a b
 
-pub product-times : (a b : ℕ) → a < 256 → b < 256 → product a b ≡ times a b
+pub product-times : (a b : ℕ) → product a b ≡ times a b
 unfolding times
-product-times zero b h k = zero-product b
-product-times (suc a) zero h k = product-zero (suc a)
-product-times (suc a) (suc b) h k =
-    let i = getD logs (suc a) 0 in
-    let j = getD logs (suc b) 0 in
-    sym
-    (powers-at ((i + j) % order) (omega arith) ∙ power-wrap (i + j) ∙ power-add field.α i j
-    ∙ ap₂ product (power-logs (suc a) (omega arith) h) (power-logs (suc b) (omega arith) k))
+product-times a b = sym (worked-is a b)
+
+unfoldable pub alphas : ℕ → ℕ
+alphas zero = 1
+alphas (suc k) = times field.α (alphas k)
+
+pub alphas-at : (k : ℕ) → alphas k ≡ field.power field.α k
+unfolding alphas
+alphas-at zero = sym (power-zero field.α)
+alphas-at (suc k) = sym (product-times field.α _) ∙ ap (product field.α) (alphas-at k) ∙ sym (power-suc field.α k)
 
 unfoldable pub horner : ℕ → ℕ → List ℕ → ℕ
 horner x v [] = v
@@ -55,7 +52,7 @@ horner-value v [] x o = ap (λ (u : List ℕ). octet (value u x)) (sym (mathlib.
 horner-value v (a ∷ w) x o =
     let step : octet (value (v ++ a ∷ []) x) ≡ bitXor (times (octet x) (octet (value v x))) a
     = ap octet (value-snoc v a x) ∙ octet-add _ _
-    ∙ ap₂ sum (octet-mul x (value v x) ∙ product-times (octet x) (octet (value v x)) (octet-lt x) (octet-lt (value v x))) (octet-element a (o 0))
+    ∙ ap₂ sum (octet-mul x (value v x) ∙ product-times (octet x) (octet (value v x))) (octet-element a (o 0))
     ∙ sum-xor (times (octet x) (octet (value v x))) a in
     ap (λ (n : ℕ). horner (octet x) n w) (sym step) ∙ horner-value (v ++ a ∷ []) w x (tail-octets a w o)
     ∙ ap (λ (u : List ℕ). octet (value u x)) (append-assoc v (a ∷ []) w)

@@ -4,26 +4,32 @@
 --
 --   1  specs/Answers.antt, `Demand1`: any octets, settings, tables and order of calls are answered; what is refused, is refused under the
 --      first number that applies, and a refusal leaves the state and every lent buffer as it came. Which numbers, and in which order:
---      specs/Orders.antt, `Orders`; the same of any call as a run makes it: the multiplexer's `CallsRefuse`. (Any order of calls: the definitions
+--      specs/Orders.antt, `Orders`; at which limits: specs/Limits.antt, `Limits`; the same of any call as a run makes it: the multiplexer's `CallsRefuse`. (Any order of calls: the definitions
 --      are total, and the multiplexer's `AlwaysSound` says that no call leads to a state that would not be one of document 01's.)
---   2  the multiplexer's specs/Runs.antt, `Demand2`: both ends fresh, the same table changes and openings at the same points, any posts and
---      any calls for payloads between, each payload given once, in order, with enough room: the demultiplexer refuses none, and delivers
---      on each channel exactly the units wholly sent, in order
+--   2  `Demand2` in the specs/Demand.antt of `runs`: both ends fresh, the same table changes and openings at the same points, both sending and
+--      receiving, each payload given once, in order, with enough room: no payload is refused, and each end delivers on each channel
+--      exactly the units wholly sent at the other, in order. `UnitToUnit` in its specs/Carried.antt: from the unit handed in to the unit handed up
 --   3  specs/Repairs.antt, `Demand3`: a repaired word is found exactly when a code word lies within e octets, never a second one
+--   1 and 3 of what the C host calls: specs/Host.antt, `Host`
 --
 -- Assumes nothing.
-use Rattle.multiplex.specs.Demultiplexer.{demultiplexed}
-use Rattle.multiplex.specs.Runs.{Demand2}
+use Rattle.runs.specs.Claims.{DemandMet}
+use Rattle.runs.specs.Carried.{UnitToUnit}
 use Rattle.multiplex.specs.Calls.{AlwaysSound}
 use Rattle.multiplex.specs.Claims.{CallsRefuse}
 use Rattle.demands.specs.Answers.{Demand1}
 use Rattle.demands.specs.Orders.{Orders}
+use Rattle.demands.specs.Limits.{Limits}
 use Rattle.demands.specs.Repairs.{Demand3}
+use Rattle.demands.specs.Host.{Host}
 
-pub record Demands : Type 0 where
+pub record Demands : Type 1 where
   pub first : Demand1
   pub orders : Orders
+  pub limits : Limits
   pub calls : CallsRefuse
   pub sound : AlwaysSound
-  pub second : Demand2 (λ before. demultiplexed)
+  pub second : DemandMet
+  pub units : UnitToUnit
   pub third : Demand3
+  pub host : Host

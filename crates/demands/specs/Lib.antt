@@ -1,6 +1,9 @@
 pub mod Small
 pub mod Answers
 pub mod Orders
+pub mod Limits
 pub mod Repairs
+pub mod Host
 pub mod Wrong
+pub mod Refusers
 pub mod Demands

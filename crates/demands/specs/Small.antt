@@ -23,8 +23,9 @@ use Rattle.adaptation.specs.declared.Badge.{Badge}
 use Rattle.adaptation.specs.declared.Badge.the-variants.{Clean, Corrected, OutOfReach, CheckFailed}
 use Rattle.adaptation.specs.declared.al1m.Received.{Received}
 use Rattle.adaptation.specs.declared.al1m.Received.the-variants as al1m
+use Rattle.table.specs.Entry.{times, untilClosing, Elements, none, channel, list, isEntryTree, numbers}
 use Rattle.table.specs.Form.{isEntry}
-use Rattle.table.specs.Slots.{payloadSlots, channelsOf}
+use Rattle.table.specs.Slots.{entrySlots, payloadSlots, channelsOf}
 use mathlib.Core.Bool.{true}
 
 pub data Vector : Type 0 where
@@ -39,7 +40,7 @@ pub data Vector : Type 0 where
   -- the length question: unit, check, e
   lengths : ℕ → ℕ → ℕ → Told ℕ → Vector
   -- an entry, and the channels of so many octets under it
-  channels : List ℕ → ℕ → List ℕ → Vector
+  channels : Elements → ℕ → List ℕ → Vector
 
 -- whatever is lent for the repair, if it is enough
 abbrev pub ReceivedAs : ℕ → ℕ → List ℕ → Badge → ℕ → List ℕ → Type 0
@@ -53,9 +54,10 @@ Holds (generator e g) = code.generator e ≡ polynomial elements (code.word g)
 Holds (sent b e u c) = Coded (kindAt b) e u c
 Holds (received b e w x k u) = ReceivedAs b e w x k u
 Holds (lengths t b e r) = sentLength t b e ≡ r
-Holds (channels s n l) = (isEntry s ≡ true) × (channelsOf (payloadSlots s n) ≡ l)
+Holds (channels x n l) =
+    (isEntryTree x ≡ true) × (isEntry (numbers x) ≡ true) × (channelsOf (entrySlots x n) ≡ l) × (channelsOf (payloadSlots (numbers x) n) ≡ l)
 
--- A10's entry is [channel 1 twice, [channel 2 once, channel 3 twice] until closing], by its numbers
+-- A10's entry is [channel 1 twice, [channel 2 once, channel 3 twice] until closing]; it holds of its numbers too
 abbrev pub Small : Type 0
 Small =
     Holds (check 8 (0x10 ∷ 0x80 ∷ []) (0xF5 ∷ []))
@@ -69,4 +71,4 @@ Small =
     × Holds (lengths 47 16 2 (told 53))
     × Holds (lengths 47 16 101 (told 251))
     × Holds (lengths 47 16 104 (refused 2))
-    × Holds (channels (2 ∷ 2 ∷ 0 ∷ 1 ∷ 0 ∷ 2 ∷ 1 ∷ 0 ∷ 2 ∷ 2 ∷ 0 ∷ 3 ∷ []) 8 (1 ∷ 1 ∷ 2 ∷ 3 ∷ 3 ∷ 2 ∷ 3 ∷ 3 ∷ []))
+    × Holds (channels (channel (times 2) 1 (list untilClosing (channel (times 1) 2 (channel (times 2) 3 none)) none)) 8 (1 ∷ 1 ∷ 2 ∷ 3 ∷ 3 ∷ 2 ∷ 3 ∷ 3 ∷ []))

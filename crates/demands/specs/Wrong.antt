@@ -1,9 +1,13 @@
--- Wrong receivers, set against AL1M's promise (document 01, "How firmly the answers stand"): none of them keeps it. What is over
--- sequences of calls, a demultiplexer that serves the first payload and afterwards moves no octet and one that refuses everything,
--- stands in the multiplexer's claims.
+-- Wrong receivers, set against AL1M's promise (document 01, "How firmly the answers stand"): none of them keeps it, and some receiver
+-- does. What they do with numbers that are no octets is nobody's business: word and lent octets are octets throughout. What is over
+-- sequences of calls, a demultiplexer that serves the first payload and afterwards moves no octet, one that refuses everything, and a
+-- multiplexer that refuses everything or never sends, stands in the claims of `runs`; a library that refuses every call of one operation, in
+-- specs/Refusers.antt.
 --
 --   Receiver        anything that answers a received word, and leaves octets where it was lent some for the repair
+--   OfOctets P      P holds of every width, e, word of octets and lent octets
 --   Keeps R         every answer of R is one that receiving's promise allows
+--   SomeKeeps       there is a receiver that does; proofs/Kept.antt proves it
 --   Always R P      P holds of every unit that R hands up
 --   RefusesAll      it refuses everything
 --   FindsNothing    it finds nothing ever
@@ -17,7 +21,7 @@ use mathlib.Core.Path.{_≡_}
 use mathlib.Core.List.{List}
 use Prim.Native.Nat.{ℕ}
 use Rattle.octets.specs.Written.{written}
-use Rattle.codeword.specs.CodeWord.{distance, Within}
+use Rattle.codeword.specs.CodeWord.{Octets, distance, Within}
 use Rattle.adaptation.specs.Receiving.{Receives, handedUnit}
 use Rattle.adaptation.specs.declared.Badge.the-variants.{Clean, OutOfReach}
 use Rattle.adaptation.specs.declared.al1m.Judgement.{Judgement}
@@ -28,15 +32,21 @@ pub record Receiver : Type 0 where
   pub answer : (width e : ℕ) → (word lent : List ℕ) → Received
   pub leaves : (width e : ℕ) → (word lent : List ℕ) → List ℕ
 
+abbrev pub OfOctets : ((width e : ℕ) → (word lent : List ℕ) → Type 0) → Type 0
+OfOctets P = (b e : ℕ) (w before : List ℕ) → Octets w → Octets before → P b e w before
+
 abbrev pub Keeps : Receiver → Type 0
-Keeps R = (b e : ℕ) (w before : List ℕ) → Receives b e w before (R .answer b e w before) (R .leaves b e w before)
+Keeps R = OfOctets (λ b e w before. Receives b e w before (R .answer b e w before) (R .leaves b e w before))
+
+abbrev pub SomeKeeps : Type 0
+SomeKeeps = (R : Receiver) × Keeps R
 
 -- P holds of every unit that R hands up
 abbrev pub Always : Receiver → ((e : ℕ) → (word lent after : List ℕ) → Judgement → Type 0) → Type 0
-Always R P = (b e : ℕ) (w before : List ℕ) (j : Judgement) → R .answer b e w before ≡ Unit j → P e w before (R .leaves b e w before) j
+Always R P = OfOctets (λ b e w before. (j : Judgement) → R .answer b e w before ≡ Unit j → P e w before (R .leaves b e w before) j)
 
 abbrev pub RefusesAll : Receiver → Type 0
-RefusesAll R = (b e : ℕ) (w before : List ℕ) → (k : ℕ) × (R .answer b e w before ≡ Refused k)
+RefusesAll R = OfOctets (λ b e w before. (k : ℕ) × (R .answer b e w before ≡ Refused k))
 
 abbrev pub FindsNothing : Receiver → Type 0
 FindsNothing R = Always R (λ e w before after j. j .badge ≡ OutOfReach)
@@ -52,6 +62,8 @@ pub record Miscounts (R : Receiver) : Type 0 where
   pub e : ℕ
   pub word : List ℕ
   pub lent : List ℕ
+  pub word-octets : Octets word
+  pub lent-octets : Octets lent
   pub found : List ℕ
   pub told : Judgement
   pub answers : R .answer width e word lent ≡ Unit told

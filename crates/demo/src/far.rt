@@ -50,13 +50,13 @@ fn by_al1(s: Channels, output: &[u8], start: usize, length: usize, sent: &[u8]) 
 
 fn by_al2(
     s: Channels,
-    channel: u16,
+    number: ChannelNumber,
     output: &[u8],
     start: usize,
     length: usize,
     sent: &[u8],
 ) -> Verdict {
-    let r = layers::al2_at(s, ChannelNumber(channel), true, output, start, length);
+    let r = layers::al2_at(s, number, true, output, start, length);
     let after = r.channels;
     let received = r.received;
     match received {
@@ -121,12 +121,13 @@ fn by_al1m(
 // Judges a channel's unit of a round, which lies at `start` in the output.
 pub fn judge(
     s: Channels,
-    channel: u16,
+    number: ChannelNumber,
     round: usize,
     output: &[u8],
     start: usize,
     length: usize,
 ) -> Verdict {
+    let channel = number.0;
     let mut unit = [0u8; 128];
     near::make(channel, round, &mut unit);
     let sent = near::first(&unit, plan::unit_length(channel));
@@ -134,7 +135,7 @@ pub fn judge(
         return by_al1(s, output, start, length, sent);
     }
     if channel == plan::DATA {
-        return by_al2(s, channel, output, start, length, sent);
+        return by_al2(s, number, output, start, length, sent);
     }
     by_al1m(s, channel, output, start, length, sent)
 }
@@ -151,7 +152,8 @@ fn is_wrongly_green(v: Verdict) -> bool {
 }
 
 // The tally with a judged unit.
-pub fn count(t: Tally, channel: u16, v: Verdict) -> Tally {
+pub fn count(t: Tally, number: ChannelNumber, v: Verdict) -> Tally {
+    let channel = number.0;
     let mut next = tally::add(t, channel, tally::UNITS, 1);
     if 0 < v.column {
         next = tally::add(next, channel, v.column, 1);

@@ -111,13 +111,13 @@ fn judge_one(call: Call, round: usize, output: &[u8], units: &[u16], j: usize) -
     let Listed::At(unit) = units::unit_at(units, j) else {
         return next;
     };
-    let channel = unit.channel;
+    let number = unit.channel;
     let before = call.far;
-    let v = far::judge(before, channel, round, output, unit.start, unit.length);
+    let v = far::judge(before, number, round, output, unit.start, unit.length);
     let after = v.channels;
     next.far = after;
     let counted = call.tally;
-    let all = far::count(counted, channel, v);
+    let all = far::count(counted, number, v);
     next.tally = all;
     next
 }

@@ -22,6 +22,7 @@ mod Product
 mod Basis
 mod Ring
 mod Power
+mod Order
 pub mod Table
 mod Inverse
 pub mod Laws

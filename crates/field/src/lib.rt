@@ -58,17 +58,23 @@ pub fn sum(a: u8, b: u8) -> u8
     a ^ b
 }
 
+// The logarithms behind the powers.
+fn joined(powers: &[u8; ORDER], logarithms: &[u8; SIZE]) -> [u8; TABLES]
+    requires { ⌜ Table.Halves (now powers) (now logarithms) ⌝ }
+    ensures { λ r. ⌜ Table.Tables r ⌝ }
+{
+    let mut t = [0u8; TABLES];
+    octets::write(&mut t, 0, powers);
+    octets::write(&mut t, ORDER, logarithms);
+    t
+}
+
 // Both tables, the powers and behind them the logarithms. A constant is laid out anew wherever it is used; whoever multiplies much lays
 // the tables out once by this and lends them to `power_by`, `product_by` and `inverse_by`.
 pub fn tables() -> [u8; TABLES]
     ensures { λ r. ⌜ Table.Tables r ⌝ }
 {
-    let mut t = [0u8; TABLES];
-    let powers = POWERS;
-    octets::write(&mut t, 0, &powers);
-    let logarithms = LOGARITHMS;
-    octets::write(&mut t, ORDER, &logarithms);
-    t
+    joined(&POWERS, &LOGARITHMS)
 }
 
 // α to the k.

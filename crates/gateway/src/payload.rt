@@ -56,7 +56,7 @@ fn deliver_one(output: &[u8], units: &[u16], j: usize) {
     };
     answer::number_and_octets(
         b"unit",
-        unit.channel as usize,
+        unit.channel.0 as usize,
         layers::unit_at(output, unit.start, unit.length),
     );
 }

@@ -1,6 +1,7 @@
--- Any two answers that a promise of the C entries allows are equal, and so is what they leave in the lent octets. (`kyte_length` answers
--- by an equation: `p ∙ sym q` is the proof.) The crates above take these and nothing else.
+-- What the crates above take from the C entries' proofs, and nothing else: the claims; and that any two answers that a promise of theirs
+-- allows are equal, and so is what they leave in the lent octets. (`kyte_length` answers by an equation: `p ∙ sym q` is the proof.)
 --
+--   lengthAnswered, encodeAnswered, receiveAnswered, checkedExactly    the claims (Theorems)
 --   encode-once     sending
 --   receive-once    receiving
 --
@@ -13,6 +14,7 @@ use Rattle.calls.specs.Refusal.{lengthSays}
 use Rattle.adaptation.proofs.Laws.{encodedUnique, receivedUnique}
 use Rattle.calls.specs.declared.Length.{Length}
 use Rattle.kyteblossom.specs.Answer.{answer, receiveAnswer, EncodeIs, ReceiveIs}
+pub use Rattle.kyteblossom.proofs.Theorems.{lengthAnswered, encodeAnswered, receiveAnswered, checkedExactly}
 
 module _ (n e : ℕ) (u before after left : List ℕ) (r q : ℤ) where
   pub encode-once : EncodeIs n e u before r after → EncodeIs n e u before q left → (r ≡ q) × (after ≡ left)

@@ -1,7 +1,8 @@
 -- What the C host is answered: one number for each case of the library's answers.
 --
 --   answer t                       a length, or minus a refusal's number
---   packed j                       badge + 256 changed + 65,536 unit length
+--   oneNumber b c t                badge + 256 changed + 65,536 unit length
+--   packed j                       .. of what was judged of a unit
 --   receiveAnswer r                .. or minus a refusal's number
 --   EncodeIs b e u before r after  what kyte_encode answers and leaves, by AL1M's sending
 --   ReceiveIs b e w before r after .. and kyte_receive, by AL1M's receiving
@@ -24,8 +25,11 @@ abbrev pub answer : Told ℕ → ℤ
 answer (told n) = pos n
 answer (refused k) = negℤ (pos k)
 
+abbrev pub oneNumber : ℕ → ℕ → ℕ → ℕ
+oneNumber b c t = b + 256 * c + 65536 * t
+
 abbrev pub packed : Judgement → ℕ
-packed j = badgeNumber (j .badge) + 256 * j .changed + 65536 * j .length
+packed j = oneNumber (badgeNumber (j .badge)) (j .changed) (j .length)
 
 abbrev pub receiveAnswer : Received → ℤ
 receiveAnswer (Unit j) = pos (packed j)

@@ -1,1 +1,3 @@
 pub mod Answer
+pub mod Header
+pub mod Claims

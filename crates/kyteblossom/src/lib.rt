@@ -38,7 +38,7 @@ pub extern "C" fn kyte_length(unit: usize, width: u32, e: u32) -> i32
     }
 }
 
-// Sends a unit: how many octets of `sent` were written, or minus the refusal's number.
+// Encodes a unit: how many octets of `sent` were written, or minus the refusal's number.
 #[no_mangle]
 pub extern "C" fn kyte_encode(unit: &[u8], width: u32, e: u32, sent: &mut [u8]) -> i32
     ensures { λ r. ⌜ EncodeIs width e (now (unit .entry)) (now (sent .entry)) r (now (sent .exit)) ⌝ }

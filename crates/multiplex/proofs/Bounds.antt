@@ -11,26 +11,29 @@ use Prim.Native.Nat.{ℕ, _≤_, _<_}
 use native.Mathlib.Omega.{arith}
 use borrow.Author.Tests.{ltb-true}
 use lib.ListN.{length, take}
+use Rattle.octets.specs.Tests.{never}
 use Rattle.calls.specs.Refusal.{Told, refused, told, leaving}
 use Rattle.calls.proofs.Laws.{checked-leaves, checked-keeps}
 use Rattle.table.specs.Slots.{Slot, payloadSlots}
 use Rattle.table.specs.Table.{entryOf}
-use Rattle.table.proofs.Laws.{replacedKeeps}
+use Rattle.table.proofs.Laws.{freshEntries, replacedEntries}
 use Rattle.channels.specs.declared.Channel.{Channel}
 use Rattle.channels.specs.declared.Channels.{Channels}
-use Rattle.channels.specs.Channels.{placeCount, placeOctets, placeOf, isIn, channelAt}
-use Rattle.channels.specs.Claims.{Orderly, Bounded, KeepsBounds}
-use Rattle.channels.proofs.Laws.{waits-put, bounded-put, startBounded, callsKeepBounds}
+use Rattle.channels.specs.Channels.{placeCount, placeOctets, vacant, placeOf, isIn, channelAt, put, holding}
+use Rattle.channels.specs.Claims.{Orderly, Seated, Bounded, KeepsBounds}
+use Rattle.channels.proofs.Laws.{seated-kept, seated-put, waits-put, bounded-put, startBounded, callsKeepBounds}
 use Rattle.multiplex.specs.Pieces.{Piece, placed, lastPlace}
 use Rattle.multiplex.specs.Demultiplexer as demux
 use Rattle.multiplex.specs.Demultiplexer.{Delivery}
 use Rattle.multiplex.specs.Multiplexer as mux
 use Rattle.multiplex.specs.Calls as calls
-use Rattle.multiplex.specs.Calls.{Link, Call, calledBy, called, led, begun, Sound, AlwaysSound}
+use Rattle.multiplex.specs.Calls.{Link, Call, ours, calledBy, called, led, begun, Sound, AlwaysSound}
 use Rattle.multiplex.proofs.Theorems.{order-kept}
 
-abbrev Waits : Channels → Type 0
-Waits s = (p : ℕ) → channelAt s p .waiting ≤ placeOctets
+-- the bounds that have nothing to do with what is held: what waits, and the seats
+record Kept (s : Channels) : Type 0 where
+  waits : (p : ℕ) → channelAt s p .waiting ≤ placeOctets
+  seated : Seated s
 
 -- ---- the multiplexer: what is sent leaves what waits
 
@@ -47,7 +50,9 @@ module _ (h w : List ℕ) (y : Slot) (l : List Slot) (s : Channels) (b : Bounded
 
   module _ (rest : Bounded gone h w → Bounded (mux.walked gone l .channels) h w) where
     leaves : p < placeCount → Bounded gone h w
-    leaves i = bounded-put s h w b p _ i (b .orderly .bounded p) (b .orderly .whole p) (omega arith)
+    leaves i =
+        bounded-put s h w b p _ i (b .orderly .bounded p) (b .orderly .whole p) (omega arith)
+        (seated-put s (b .orderly .full) (b .seated) (y .channel) _ i refl)
 
     visited : (e g : Bool) → p < placeCount
         → Bounded (cond e (mux.stopped s true)
@@ -74,36 +79,45 @@ multiplexing x b c room payload =
     checked-keeps lent (mux.multiplexTests lent (x .table) c room) (λ (r : mux.MuxLent). Bounded (r .channels) (x .held) (x .waiting)) _ b
     λ e. walk-bounded (x .held) (x .waiting) (payloadSlots (entryOf (x .table) c) room) (x .channels) b
 
--- ---- the demultiplexer: what waits is not touched
+-- ---- the demultiplexer: what waits is not touched, nor any seat
 
-waits-took : (l : List Piece) (r : Delivery) (xs : List ℕ) → Waits (r .channels) → Waits (demux.tookAll r l xs .channels)
+kept-held : (s : Channels) (p k : ℕ) → Kept s → (channelAt s p .«open» ≡ false → holding (channelAt s p) k ≡ vacant) → Kept (put s p (holding (channelAt s p) k))
+kept-held s p k w f = record {
+  waits = waits-put s p (holding (channelAt s p) k) (w .waits) (w .waits p);
+  seated = seated-kept s p (holding (channelAt s p) k) (w .seated) refl f;
+}
+
+kept-took : (l : List Piece) (r : Delivery) (xs : List ℕ) → Kept (r .channels) → Kept (demux.tookAll r l xs .channels)
 unfolding demux.tookAll
-waits-took [] r xs w = w
-waits-took (q ∷ l) r xs w = waits-took l _ _ (by (channelAt (r .channels) (q .place) .segmentable))
+kept-took [] r xs w = w
+kept-took (q ∷ l) r xs w = kept-took l _ _ (by (channelAt (r .channels) (q .place) .segmentable) refl)
   where
-    by : (b : Bool)
-        → Waits (cond b (demux.joined r (q .place) (take (q .octets) xs))
-        (demux.finished r (channelAt (r .channels) (q .place) .number) (take (q .octets) xs)) .channels)
-    by true = waits-put (r .channels) (q .place) _ w (w (q .place))
-    by false = w
+    by : (b : Bool) → channelAt (r .channels) (q .place) .segmentable ≡ b
+        → Kept (cond b (demux.joined r (q .place) (take (q .octets) xs))
+        (demux.finished r (channelAt (r .channels) (q .place) .number .0) (take (q .octets) xs)) .channels)
+    by true e =
+        kept-held (r .channels) (q .place) _ w λ f.
+        let g = ap (λ (c : Channel). c .segmentable) (w .seated .free (q .place) f) in
+        never (cc)
+    by false e = w
 
-waits-delivery : (s : Channels) (held : List ℕ) (mark : Bool) (l : List Piece) (xs : List ℕ) → Waits s → Waits (demux.delivery s held mark l xs .channels)
+kept-delivery : (s : Channels) (held : List ℕ) (mark : Bool) (l : List Piece) (xs : List ℕ) → Kept s → Kept (demux.delivery s held mark l xs .channels)
 unfolding demux.delivery
-waits-delivery s held true l xs w =
-    let k = waits-took l (demux.nothing s held) xs w in
-    waits-put (demux.tookAll (demux.nothing s held) l xs .channels) (lastPlace l) _ k (k (lastPlace l))
-waits-delivery s held false l xs w = waits-took l (demux.nothing s held) xs w
+kept-delivery s held true l xs w =
+    let k = kept-took l (demux.nothing s held) xs w in
+    kept-held (demux.tookAll (demux.nothing s held) l xs .channels) (lastPlace l) 0 k (λ f. ap (λ (c : Channel). holding c 0) (k .seated .free (lastPlace l) f))
+kept-delivery s held false l xs w = kept-took l (demux.nothing s held) xs w
 
 module _ (x : demux.DemuxLent) (t : List ℕ) (c : ℕ) (mark : Bool) (xs : List ℕ) where
   abbrev d : Delivery
   d = demux.delivery (x .channels) (x .held) mark (placed (x .channels) (payloadSlots (entryOf t c) (length xs))) xs
 
-  waits-demux : Waits (x .channels) → Waits (demux.demultiplexed x t c mark xs .left .channels)
+  kept-demux : Kept (x .channels) → Kept (demux.demultiplexed x t c mark xs .left .channels)
   unfolding demux.demultiplexed
-  waits-demux w =
-      checked-keeps x (demux.demultiplexTests x t c mark xs) (λ (r : demux.DemuxLent). Waits (r .channels))
+  kept-demux w =
+      checked-keeps x (demux.demultiplexTests x t c mark xs) (λ (r : demux.DemuxLent). Kept (r .channels))
       (leaving (d .count) (demux.writes d (x .output) (x .units))) w
-      λ e. waits-delivery (x .channels) (x .held) mark (placed (x .channels) (payloadSlots (entryOf t c) (length xs))) xs w
+      λ e. kept-delivery (x .channels) (x .held) mark (placed (x .channels) (payloadSlots (entryOf t c) (length xs))) xs w
 
   refused-demux : (k : ℕ) → demux.demultiplexed x t c mark xs .answer ≡ refused k → demux.demultiplexed x t c mark xs .left ≡ x
   unfolding demux.demultiplexed
@@ -125,18 +139,20 @@ sound-after x c h = by c
     keeps : KeepsBounds (x .channels) (x .held) (x .waiting)
     keeps = callsKeepBounds (x .channels) (x .held) (x .waiting) (h .bounded)
 
-    by : (c : Call) → Sound (calledBy demux.demultiplexed x c .left)
+    by : (c : Call) → Sound (calledBy ours x c .left)
     by (calls.opening n g) = record { bounded = keeps .opening n g; entries = h .entries }
     by (calls.closing n) = record { bounded = keeps .closing n; entries = h .entries }
     by (calls.resetting n) = record { bounded = keeps .resetting n; entries = h .entries }
     by (calls.posting n u) = record { bounded = keeps .posting n u; entries = h .entries }
-    by (calls.replacing c e) = record { bounded = h .bounded; entries = replacedKeeps (x .table) e c (h .entries) }
+    by (calls.replacing c e) = record { bounded = h .bounded; entries = replacedEntries (x .table) e c (h .entries) }
     by (calls.demultiplexing c mark xs output units) =
         let y : demux.DemuxLent = record { channels = x .channels; held = x .held; output = output; units = units } in
+        let k = kept-demux y (x .table) c mark xs (record { waits = h .bounded .waits; seated = h .bounded .seated }) in
         record {
           bounded = record {
             orderly = orderly-demux y (x .table) c mark xs (h .bounded .orderly) (demux.demultiplexed y (x .table) c mark xs .answer) refl;
-            waits = waits-demux y (x .table) c mark xs (h .bounded .waits);
+            seated = k .seated;
+            waits = k .waits;
             space = h .bounded .space;
           };
           entries = h .entries;
@@ -151,4 +167,4 @@ sound-led [] x h = h
 sound-led (c ∷ cs) x h = sound-led cs (called x c .left) (sound-after x c h)
 
 pub always-sound : AlwaysSound
-always-sound h w eh ew cs = sound-led cs (begun h w) (record { bounded = startBounded h w eh ew; entries = refl })
+always-sound h w eh ew cs = sound-led cs (begun h w) (record { bounded = startBounded h w eh ew; entries = freshEntries })

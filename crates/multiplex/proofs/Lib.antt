@@ -1,12 +1,6 @@
 pub mod Records
-pub mod Matching
-pub mod Opening
 pub mod Agreeing
-pub mod Passing
-pub mod Carrying
-pub mod Accepting
-pub mod Running
-pub mod Failing
+pub mod Exceeding
 pub mod Keeping
 pub mod Walking
 pub mod Laying
@@ -22,6 +16,11 @@ pub mod Sorting
 pub mod Unique
 pub mod Calling
 pub mod Listing
+pub mod Lying
+pub mod Leaving
+pub mod Unrefused
+pub mod Rising
+pub mod Ordering
 pub mod Theorems
 pub mod Bounds
 pub mod Laws

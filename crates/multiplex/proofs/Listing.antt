@@ -1,5 +1,6 @@
 -- The list of finished units, read one at a time.
 --
+--   unit-there    unit j of a list that has it
 --   list-read     unit j, as it is read, is unit j of those that the list tells of
 --
 -- Assumes nothing.
@@ -14,8 +15,8 @@ use Rattle.multiplex.specs.declared.units.Listed.the-variants.{At}
 use Rattle.multiplex.specs.Units.{UnitOn, unitAt, unitIn, unitsIn}
 use Rattle.multiplex.specs.Claims.{ListRead}
 
-unit-there : (l : List ℕ) (j : ℕ) → 3 * j + 3 ≤ length l
-    → unitAt l j ≡ At (record { channel = getD l (3 * j) 0; start = getD l (3 * j + 1) 0; length = getD l (3 * j + 2) 0 })
+pub unit-there : (l : List ℕ) (j : ℕ) → 3 * j + 3 ≤ length l
+    → unitAt l j ≡ At (record { channel = record { 0 = getD l (3 * j) 0 }; start = getD l (3 * j + 1) 0; length = getD l (3 * j + 2) 0 })
 unfolding unitAt
 unit-there l j h = rw (lt-leb (length l / 3) j (omega arith))
 

@@ -53,12 +53,12 @@ module _ {c : Channel} {p octets count : ℕ} {x : List ℕ} {held output units 
   }
 
   pub takes-unit : c .segmentable ≡ false → now (held .exit) ≡ now (held .entry) → now (output .exit) ≡ written (now (output .entry)) octets x
-      → now (units .exit) ≡ written (now (units .entry)) (3 * count) (listed (c .number) octets (length x)) → Takes c p octets count x held output units
+      → now (units .exit) ≡ written (now (units .entry)) (3 * count) (listed (c .number .0) octets (length x)) → Takes c p octets count x held output units
   takes-unit g h o u = record {
     more = λ {d = d} e w room v.
         let on : channelAt (d .channels) p ≡ c = rw (w .channels) at e in
         let f : channelAt (d .channels) p .segmentable ≡ false = ap (λ (c : Channel). c .segmentable) on ∙ g in
-        let y = shows-unit w room v (c .number) x (length x) refl in
+        let y = shows-unit w room v (c .number .0) x (length x) refl in
         record { held = rw f (h ∙ y .held); output = rw f (o ∙ y .output); units = rw (f, on) (u ∙ y .units) };
   }
 
@@ -75,7 +75,7 @@ closed-tallies d t p w e =
       channels = rw (w .channels);
       octets = rw (w .channels, w .octets, length-append (d .octets) x, e);
       units = rw (w .units);
-      even = length-append (d .units) (listed (channelAt (d .channels) p .number) (length (d .octets)) (length x)) ∙ omega (arith, w .even);
+      even = length-append (d .units) (listed (channelAt (d .channels) p .number .0) (length (d .octets)) (length x)) ∙ omega (arith, w .even);
     }
 
 pub closes-least : (d : Delivery) (mark : Bool) (p : ℕ) → (length (d .octets) ≤ length (closes d mark p .octets))
@@ -83,7 +83,7 @@ pub closes-least : (d : Delivery) (mark : Bool) (p : ℕ) → (length (d .octets
 closes-least d false p = (le-refl _, le-refl _, omega arith)
 closes-least d true p =
     let x = heldOf (d .channels) (d .held) p in
-    let u = listed (channelAt (d .channels) p .number) (length (d .octets)) (length x) in
+    let u = listed (channelAt (d .channels) p .number .0) (length (d .octets)) (length x) in
     (omega (arith, length-append (d .octets) x), omega (arith, length-append (d .units) u), le-refl _)
 
 pub leaving-shown : {o u : List ℕ} {d : Delivery} {t : Tally} {h o' u' : List ℕ} → Poured o u d t h o' u'
@@ -94,13 +94,13 @@ module _ {mark : Bool} {p : ℕ} {t : Tally} {held output units : Slice} where
   pub finishes-marked : mark ≡ true → length (heldOf (t .channels) (now (held .entry)) p) ≡ channelAt (t .channels) p .held
       → now (output .exit) ≡ written (now (output .entry)) (t .octets) (heldOf (t .channels) (now (held .entry)) p)
       → now (units .exit)
-      ≡ written (now (units .entry)) (3 * t .units) (listed (channelAt (t .channels) p .number) (t .octets) (channelAt (t .channels) p .held))
+      ≡ written (now (units .entry)) (3 * t .units) (listed (channelAt (t .channels) p .number .0) (t .octets) (channelAt (t .channels) p .held))
       → {t₁ : Tally} → ((d : Delivery) → Tallies d t → (mark ≡ true → Exact d p) → Tallies (closes d mark p) t₁) → Finishes mark p t held output units t₁
   finishes-marked m e o u f = record {
     more = λ {d = d} room v.
         let w = v .tallies .channels in
         let x : Exact d p = rw (w, v .shows .held) at e in
-        let y = shows-unit (v .tallies) room (v .shows) (channelAt (d .channels) p .number) (heldOf (d .channels) (d .held) p) _ x in
+        let y = shows-unit (v .tallies) room (v .shows) (channelAt (d .channels) p .number .0) (heldOf (d .channels) (d .held) p) _ x in
         record {
           tallies = f d (v .tallies) (λ _. x);
           shows = record { held = rw m (v .shows .held); output = rw (m, o, w, v .shows .held) (y .output); units = rw (m, u, w) (y .units) };

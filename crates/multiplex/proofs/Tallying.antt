@@ -52,11 +52,11 @@ room-held c n h g = leb-true _ _ (sym (ap (λ (b : Bool). not b || leb (c .held 
 
 -- by the two kinds of channel
 pub took-ind : (d : Delivery) (p : ℕ) (x : List ℕ) (P : Delivery → Type 0) → (channelAt (d .channels) p .segmentable ≡ true → P (joined d p x))
-    → (channelAt (d .channels) p .segmentable ≡ false → P (finished d (channelAt (d .channels) p .number) x)) → P (took d p x)
+    → (channelAt (d .channels) p .segmentable ≡ false → P (finished d (channelAt (d .channels) p .number .0) x)) → P (took d p x)
 took-ind d p x P = by (channelAt (d .channels) p .segmentable)
   where
-    by : (b : Bool) → (b ≡ true → P (joined d p x)) → (b ≡ false → P (finished d (channelAt (d .channels) p .number) x))
-        → P (cond b (joined d p x) (finished d (channelAt (d .channels) p .number) x))
+    by : (b : Bool) → (b ≡ true → P (joined d p x)) → (b ≡ false → P (finished d (channelAt (d .channels) p .number .0) x))
+        → P (cond b (joined d p x) (finished d (channelAt (d .channels) p .number .0) x))
     by true f g = f refl
     by false f g = g refl
 
@@ -82,7 +82,7 @@ counted-is s p n = by (channelAt s p .segmentable) refl
 
 module _ (d : Delivery) (p : ℕ) (x : List ℕ) where
   abbrev units : List ℕ
-  units = listed (channelAt (d .channels) p .number) (length (d .octets)) (length x)
+  units = listed (channelAt (d .channels) p .number .0) (length (d .octets)) (length x)
 
   pub took-channels : took d p x .channels ≡ counted (d .channels) p (length x)
   took-channels = took-ind d p x (λ r. r .channels ≡ counted (d .channels) p (length x)) (λ e. rw e) (λ e. rw e)

@@ -1,44 +1,33 @@
 -- The claims of specs/Claims.antt, proved.
 --
---   demand-met, idle-fails, refuser-fails, calls-refuse, list-read, octets-once, order-kept   the claims
+--   calls-refuse, list-read, octets-once, order-kept, sent-once, lasts-rise, six-exactly, closing-never-six   the claims
 --
 -- Assumes nothing.
-use mathlib.Core.Path.{_≡_, refl, sym, ap, ap₂, subst, _∙_}
+use mathlib.Core.Path.{_≡_, sym, ap₂, subst, _∙_}
 use mathlib.Core.Bool.{Bool, true, false, not, _&&_}
-use mathlib.Core.List.{List, [], _++_, flatten}
-use Prim.Native.Nat.{ℕ, _≤_, _<_}
-use native.Mathlib.Omega.{arith}
+use mathlib.Core.List.{List, _++_, flatten}
+use Prim.Native.Nat.{ℕ, _≤_}
 use borrow.Author.Tests.{not-false}
 use lib.ListN.{length}
-use Rattle.octets.specs.Tests.{never}
-use Rattle.calls.specs.Refusal.{Told, refused, told, Ended, leaving, refusing}
-use Rattle.table.specs.Slots.{Slot, payloadSlots, octetsOf, channelsOf, numbersOf}
+use Rattle.table.specs.Slots.{Slot, payloadSlots, octetsOf, channelsOf}
 use Rattle.table.proofs.Laws.{payloadSlots-most}
 use Rattle.table.specs.Table.{entryOf}
 use Rattle.channels.specs.declared.Channels.{Channels}
-use Rattle.channels.specs.Channels.{placeOf, channelAt, heldOf, allOpen}
-use Rattle.multiplex.specs.Pieces.{Piece, placed, lastPlace}
-use Rattle.multiplex.specs.Demultiplexer.{DemuxLent, Delivery, nothing, fits, tookAll, delivery, writes, demultiplexTests, demultiplexed}
+use Rattle.channels.specs.Channels.{placeOf, channelAt, heldOf}
+use Rattle.multiplex.specs.Pieces.{placed, lastPlace}
+use Rattle.multiplex.specs.Demultiplexer.{DemuxLent, nothing, tookAll, delivery}
 use Rattle.multiplex.specs.Units.{UnitOn, unitsOn, unitsIn}
 use Rattle.channels.specs.Claims.{Orderly}
-use Rattle.multiplex.specs.Claims.{DemandMet, IdleFails, RefuserFails, CallsRefuse, ListRead, goingTo, OctetsOnce, OrderKept}
-use Rattle.calls.proofs.Laws.{by-tests, told-refused}
+use Rattle.multiplex.specs.Claims.{CallsRefuse, ListRead, goingTo, OctetsOnce, OrderKept, SentOnce, LastsRise, SixExactly, ClosingNeverSix}
 use Rattle.channels.proofs.Laws.{place-seats, segmentable-place}
-use Rattle.multiplex.proofs.Records.{tells-nothing, tells-read}
-use Rattle.multiplex.proofs.Keeping.{Holds, slots-hold, closed-holds, last-known}
-use Rattle.multiplex.proofs.Running as running
-use Rattle.multiplex.proofs.Failing as failing
+use Rattle.multiplex.proofs.Records.{tells-read}
+use Rattle.multiplex.proofs.Keeping.{Holds, nothing-holds, slots-hold, closed-holds, last-known}
+use Rattle.multiplex.proofs.Unrefused.{Unrefused, is-accepted}
 use Rattle.multiplex.proofs.Calling as calling
 use Rattle.multiplex.proofs.Listing as listing
-
-pub demand-met : DemandMet
-demand-met = running.demand-met
-
-pub idle-fails : IdleFails
-idle-fails = failing.idle-fails
-
-pub refuser-fails : RefuserFails
-refuser-fails = failing.refuser-fails
+use Rattle.multiplex.proofs.Leaving as leaving
+use Rattle.multiplex.proofs.Ordering as ordering
+use Rattle.multiplex.proofs.Exceeding as exceeding
 
 pub calls-refuse : CallsRefuse
 calls-refuse = calling.calls-refuse
@@ -46,48 +35,13 @@ calls-refuse = calling.calls-refuse
 pub list-read : ListRead
 list-read = listing.list-read
 
+pub sent-once : SentOnce
+sent-once = leaving.sent-once
+
+pub lasts-rise : LastsRise
+lasts-rise = ordering.lasts-rise
+
 -- ---- an accepted payload
-
--- what was accepted met none of the refusals, and leaves its delivery
-record Unrefused (x y : DemuxLent) (mark : Bool) (l : List Slot) (xs : List ℕ) (k : ℕ) : Type 0 where
-  opened : allOpen (x .channels) (numbersOf l) ≡ true
-  marked : (mark && not (channelAt (x .channels) (lastPlace (placed (x .channels) l)) .segmentable)) ≡ false
-  fitting : fits (x .channels) (placed (x .channels) l) ≡ true
-  count : delivery (x .channels) (x .held) mark (placed (x .channels) l) xs .count ≡ k
-  left : writes (delivery (x .channels) (x .held) mark (placed (x .channels) l) xs) (x .output) (x .units) ≡ y
-
-is-accepted : (x y : DemuxLent) (t : List ℕ) (c : ℕ) (mark : Bool) (xs : List ℕ) (k : ℕ) → demultiplexed x t c mark xs ≡ leaving k y
-    → Unrefused x y mark (payloadSlots (entryOf t c) (length xs)) xs k
-unfolding demultiplexed
-is-accepted x y t c mark xs k =
-    by-tests Ends (refusing x) (demultiplexTests x t c mark xs) (leaving (d .count) (writes d (x .output) (x .units))) (refuses x) (λ rest e.
-    let closed : not (allOpen (x .channels) (numbersOf l)) ≡ false = search rest in
-    let full : not (fits (x .channels) ps) ≡ false = search rest in
-    record {
-      opened = not-false (allOpen (x .channels) (numbersOf l)) closed;
-      marked = search rest;
-      fitting = not-false (fits (x .channels) ps) full;
-      count = same-told (d .count) k (ap (λ (r : Ended ℕ DemuxLent). r .answer) e);
-      left = ap (λ (r : Ended ℕ DemuxLent). r .left) e;
-    })
-  where
-    l : List Slot
-    l = payloadSlots (entryOf t c) (length xs)
-
-    ps : List Piece
-    ps = placed (x .channels) l
-
-    d : Delivery
-    d = delivery (x .channels) (x .held) mark ps xs
-
-    Ends : Ended ℕ DemuxLent → Type 0
-    Ends r = r ≡ leaving k y → Unrefused x y mark l xs k
-
-    refuses : (z : DemuxLent) (i : ℕ) → Ends (refusing z i)
-    refuses z i e = told-refused (ap (λ (r : Ended ℕ DemuxLent). r .answer) e) refl
-
-    same-told : (a b : ℕ) → _≡_ {A = Told ℕ} (told a) (told b) → a ≡ b
-    same-told a b e = cc
 
 module _ (x y : DemuxLent) (mark : Bool) (l : List Slot) (xs : List ℕ) (k n : ℕ) (o : Orderly (x .channels) (x .held)) (most : octetsOf l ≤ length xs)
     (a : Unrefused x y mark l xs k) where
@@ -97,12 +51,8 @@ module _ (x y : DemuxLent) (mark : Bool) (l : List Slot) (xs : List ℕ) (k n : 
   abbrev all : List ℕ
   all = heldOf s (x .held) (placeOf s n) ++ goingTo n (channelsOf l) xs
 
-  first : Holds s n (heldOf s (x .held) (placeOf s n)) (nothing s (x .held))
-  unfolding flatten unitsOn
-  first = record { units = []; tells = tells-nothing s (x .held); orderly = o; alike = refl; all = refl }
-
   all-taken : Holds s n all (tookAll (nothing s (x .held)) (placed s l) xs)
-  all-taken = slots-hold l xs first (a .opened) (a .fitting) most
+  all-taken = slots-hold l xs (nothing-holds s (x .held) n o) (a .opened) (a .fitting) most
 
   payload-holds : Holds s n all (delivery s (x .held) mark (placed s l) xs)
   unfolding delivery
@@ -132,3 +82,11 @@ order-kept x y t c mark xs k o e =
     let a = is-accepted x y t c mark xs k e in
     let h = payload-holds x y mark (payloadSlots (entryOf t c) (length xs)) xs k 0 o (payloadSlots-most (entryOf t c) (length xs)) a in
     subst (λ (z : DemuxLent). Orderly (z .channels) (z .held)) (a .left) (h .orderly)
+
+-- ---- refusal 6
+
+pub six-exactly : SixExactly
+six-exactly = exceeding.six-exactly
+
+pub closing-never-six : ClosingNeverSix
+closing-never-six = exceeding.closing-never-six

@@ -5,6 +5,7 @@
 --   byTurn           the walk from a slot on, by what becomes of it
 --   walked-closed    a walk stops where a channel is not open
 --   walked-open      .. and else goes by what becomes of the slot
+--   by-place         .. either way
 --   walked-sendable  the pieces of a walk can be sent
 --   walked-most      .. and have at most the slots' octets
 --
@@ -128,7 +129,7 @@ module _ (s : Channels) (p n : ℕ) (rest : Channels → Walk) where
   turn-most (Last k) m h more = omega arith
 
 -- whether a slot's channel is open
-by-place : (P : Walk → Type 0) (s : Channels) (x : Slot) (l : List Slot) → P (stopped s false)
+pub by-place : (P : Walk → Type 0) (s : Channels) (x : Slot) (l : List Slot) → P (stopped s false)
     → (placeOf s (x .channel) < placeCount → P
     (byTurn s (placeOf s (x .channel)) (λ r. walked r l) (turned (channelAt s (placeOf s (x .channel))) (x .octets))))
     → P (walked s (x ∷ l))

@@ -76,7 +76,7 @@ joined r p x = record {
 }
 
 abbrev pub took : Delivery → ℕ → List ℕ → Delivery
-took r p x = cond (channelAt (r .channels) p .segmentable) (joined r p x) (finished r (channelAt (r .channels) p .number) x)
+took r p x = cond (channelAt (r .channels) p .segmentable) (joined r p x) (finished r (channelAt (r .channels) p .number .0) x)
 
 unfoldable pub tookAll : Delivery → List Piece → List ℕ → Delivery
 tookAll r [] xs = r
@@ -92,7 +92,7 @@ emptied r p = record {
 }
 
 abbrev pub closed : Delivery → ℕ → Delivery
-closed r p = emptied (finished r (channelAt (r .channels) p .number) (heldOf (r .channels) (r .held) p)) p
+closed r p = emptied (finished r (channelAt (r .channels) p .number .0) (heldOf (r .channels) (r .held) p)) p
 
 -- ---- refusal 8
 

@@ -5,5 +5,4 @@ pub mod Tally
 pub mod Multiplexer
 pub mod Walks
 pub mod Calls
-pub mod Runs
 pub mod Claims

@@ -32,10 +32,10 @@ abbrev pub listed : (channel start len : ℕ) → List ℕ
 listed n a b = n ∷ a ∷ b ∷ []
 
 unfoldable pub unitAt : List ℕ → ℕ → Listed
-unitAt l j = cond (leb (length l / 3) j) Nothing (At (record { channel = getD l (3 * j) 0; start = getD l (3 * j + 1) 0; length = getD l (3 * j + 2) 0 }))
+unitAt l j = cond (leb (length l / 3) j) Nothing (At (record { channel = record { 0 = getD l (3 * j) 0 }; start = getD l (3 * j + 1) 0; length = getD l (3 * j + 2) 0 }))
 
 abbrev pub unitIn : (output : List ℕ) → Listed → UnitOn
-unitIn output (At u) = record { channel = u .channel; octets = take (u .length) (drop (u .start) output) }
+unitIn output (At u) = record { channel = u .channel .0; octets = take (u .length) (drop (u .start) output) }
 unitIn output Nothing = record { channel = 0; octets = [] }
 
 unfoldable pub unitsIn : (output units : List ℕ) → (count : ℕ) → List UnitOn

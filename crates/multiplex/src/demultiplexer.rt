@@ -1,6 +1,7 @@
 // The demultiplexer: every check first, by value; then the writes.
 use channels::ALL_OCTETS;
 use channels::Channel;
+use channels::ChannelNumber;
 use channels::Channels;
 use channels::PLACE_OCTETS;
 use channels::PLACES;
@@ -124,11 +125,11 @@ fn count_all(s: Channels, places: &[u16], lengths: &[u16]) -> Counted
 }
 
 // Writes down a finished unit: its channel, start and length.
-fn note(units: &mut [u16], at: usize, channel: u16, start: usize, len: usize)
+fn note(units: &mut [u16], at: usize, channel: ChannelNumber, start: usize, len: usize)
     requires { ⌜ (at + 3 ≤ length (now units)) × (start < 65536) × (len < 65536) ⌝ }
-    ensures { λ _. ⌜ now (units .exit) ≡ written (now (units .entry)) at (listed channel start len) ⌝ }
+    ensures { λ _. ⌜ now (units .exit) ≡ written (now (units .entry)) at (listed (channel .0) start len) ⌝ }
 {
-    units[at] = channel;
+    units[at] = channel.0;
     units[at + 1] = start as u16;
     units[at + 2] = len as u16;
 }

@@ -1,4 +1,5 @@
 // The list that the demultiplexer writes of its finished units: three numbers to a unit.
+use channels::ChannelNumber;
 use channels::PLACE_OCTETS;
 use table::LONGEST_PAYLOAD;
 ghost use mathlib.Core.Path.{_≡_};
@@ -25,7 +26,7 @@ pub fn enough_units() -> usize
 
 // A finished unit: the number of its channel, and where in the output it starts and how long it is.
 pub struct Unit {
-    pub channel: u16,
+    pub channel: ChannelNumber,
     pub start: usize,
     pub length: usize,
 }
@@ -46,7 +47,7 @@ pub fn unit_at(units: &[u16], j: usize) -> Listed
     let start = units[3 * j + 1] as usize;
     let length = units[3 * j + 2] as usize;
     Listed::At(Unit {
-        channel: units[3 * j],
+        channel: ChannelNumber(units[3 * j]),
         start,
         length,
     })

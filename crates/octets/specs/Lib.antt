@@ -1,3 +1,4 @@
+pub mod Each
 pub mod Every
 pub mod Same
 pub mod Written

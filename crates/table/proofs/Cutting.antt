@@ -4,6 +4,7 @@
 --   filled-append      slots one behind another, if both are filled
 --   filled-length      filled slots are at most as many as their octets
 --   cut-none           no octets: no slots
+--   by-octets          by whether there is an octet at all
 --   cut-append         what is cut from two lists of slots: of the second, what the first leaves
 --   cut-octets         the octets that a cut leaves
 --   cut-most           .. are at most as many as were asked for
@@ -15,26 +16,22 @@
 --   channels-append    .. and the channels of those
 --   channels-length    there is a channel for each octet
 --   channels-cut       .. so that a cut takes the channels of the first octets
---   passes-most        an element is passed at least once
 --   copies-nothing     nothing, over and over, is nothing
---   element-filled     the slots of an element are filled
---   list-filled        .. and those of a list
---   slots-filled       an entry's slots are filled
---   payloadSlots-filled      .. and a payload's
---   payloadSlots-most        a payload's slots have at most its octets
---   payloadSlots-cut         .. and what is cut from them are those of a shorter one
+--   copies-filled      filled slots, over and over, are filled
+--   copies-octets      .. and have their octets as often
+--   cut-both           a cut of two lists of slots, by what it leaves of each
+--   copies-alike       passes of two lists of which a cut leaves the same
+--   copies-enough      a cut leaves the same of enough passes and of more
 --
 -- Assumes nothing.
 use mathlib.Core.Path.{_≡_, refl, sym, ap, ap₂, _∙_}
-use mathlib.Core.Bool.{Bool, true, false, cond}
 use mathlib.Core.List.{List, [], _∷_, _++_, append-assoc}
-use Prim.Native.Nat.{ℕ, zero, suc, _+_, _-_, _≤_, min}
+use Prim.Native.Nat.{ℕ, zero, suc, _+_, _*_, _-_, _≤_, min}
 use native.Mathlib.Nat.{suc-min-suc}
 use native.Mathlib.Omega.{arith}
 use borrow.Author.Tests.{ne-eqb}
-use lib.Dec.{eqb}
-use lib.ListN.{length, getD, take, length-append}
-use Rattle.table.specs.Slots.{Slot, passes, copies, skip, inTurn, slotsWith, elementSlots, listSlots, slots, cut, payloadSlots, octetsOf, channelsOf}
+use lib.ListN.{length, take, length-append}
+use Rattle.table.specs.Slots.{Slot, copies, cut, octetsOf, channelsOf}
 
 -- ---- filled slots
 
@@ -66,7 +63,7 @@ unfolding cut
 cut-more n x l h = rw (ne-eqb n 0 h)
 
 -- whether there is an octet at all
-by-octets : (P : ℕ → Type 0) (n : ℕ) → P 0 → ((n ≡ 0 → ⊥) → P n) → P n
+pub by-octets : (P : ℕ → Type 0) (n : ℕ) → P 0 → ((n ≡ 0 → ⊥) → P n) → P n
 by-octets P zero p q = p
 by-octets P (suc n) p q = q (λ z. omega arith)
 
@@ -168,60 +165,43 @@ channels-cut n (x ∷ l) =
     (sym (take-both n (copies (x .octets) (x .channel ∷ [])) (channelsOf l)
     ∙ ap₂ (λ (a : List ℕ) (m : ℕ). a ++ take (n - m) (channelsOf l)) (take-copies n (x .octets) (x .channel)) (copies-length (x .octets) (x .channel)))))
 
--- ---- the slots of entries
-
-pub passes-most : (r : ℕ) → 1 ≤ passes r
-passes-most zero = omega arith
-passes-most (suc r) = rw (ne-eqb (suc r) 0 (λ z. omega arith)) (omega arith)
-
-copies-filled : (n : ℕ) (l : List Slot) → Filled l → Filled (copies n l)
-unfolding copies Filled
-copies-filled zero l p = tt
-copies-filled (suc n) l p = filled-append l (copies n l) p (copies-filled n l p)
+-- ---- passes
 
 pub copies-nothing : (n : ℕ) → copies {A = Slot} n [] ≡ []
 unfolding copies
 copies-nothing zero = refl
 copies-nothing (suc n) = copies-nothing n
 
-turns-filled : (one : ℕ → List Slot) (next : ℕ → ℕ) → ((at : ℕ) → Filled (one at)) → (n at : ℕ) → Filled (inTurn one next n at)
-unfolding inTurn Filled
-turns-filled one next p zero at = tt
-turns-filled one next p (suc n) at = filled-append (one at) (inTurn one next n (next at)) (p at) (turns-filled one next p n (next at))
+pub copies-filled : (n : ℕ) (l : List Slot) → Filled l → Filled (copies n l)
+unfolding copies Filled
+copies-filled zero l p = tt
+copies-filled (suc n) l p = filled-append l (copies n l) p (copies-filled n l p)
 
-either-filled : (b : Bool) (k l : List Slot) → Filled k → Filled l → Filled (cond b k l)
-either-filled true k l p q = p
-either-filled false k l p q = q
+pub copies-octets : (n : ℕ) (l : List Slot) → octetsOf (copies n l) ≡ n * octetsOf l
+unfolding copies octetsOf
+copies-octets zero l = omega arith
+copies-octets (suc n) l = octets-append l (copies n l) ∙ rw (copies-octets n l) (omega arith)
 
-with-filled : (inner : List Slot) (s : List ℕ) (at : ℕ) → Filled inner → Filled (slotsWith inner s at)
-unfolding Filled
-with-filled inner s at p =
-    either-filled (eqb (getD s (at + 1) 0) 0) (record { channel = getD s (at + 2) 0; octets = passes (getD s at 0) } ∷ []) (copies (passes (getD s at 0)) inner)
-    (passes-most (getD s at 0), tt) (copies-filled (passes (getD s at 0)) inner p)
+pub cut-both : (k : ℕ) (x y u v : List Slot) → cut k x ≡ cut k y → cut (k - octetsOf (cut k y)) u ≡ cut (k - octetsOf (cut k y)) v
+    → cut k (x ++ u) ≡ cut k (y ++ v)
+cut-both k x y u v p q =
+    cut-append k x u ∙ ap (λ (z : List Slot). z ++ cut (k - octetsOf z) u) p ∙ ap (λ (z : List Slot). cut k y ++ z) q ∙ sym (cut-append k y v)
 
-pub element-filled : (s : List ℕ) (depth at : ℕ) → Filled (elementSlots s depth at)
-unfolding elementSlots Filled
-element-filled s zero at = with-filled [] s at tt
-element-filled s (suc depth) at =
-    with-filled (inTurn (elementSlots s depth) (skip s depth) (getD s (at + 1) 0) (at + 2)) s at
-    (turns-filled (elementSlots s depth) (skip s depth) (element-filled s depth) (getD s (at + 1) 0) (at + 2))
+pub copies-alike : (most n : ℕ) (x y : List Slot) → ((k : ℕ) → k ≤ most → cut k x ≡ cut k y) → (k : ℕ) → k ≤ most → cut k (copies n x) ≡ cut k (copies n y)
+unfolding copies
+copies-alike most zero x y h k l = refl
+copies-alike most (suc n) x y h k l =
+    cut-both k x y (copies n x) (copies n y) (h k l) (copies-alike most n x y h (k - octetsOf (cut k y)) (omega arith))
 
-pub list-filled : (s : List ℕ) (depth n at : ℕ) → Filled (listSlots s depth n at)
-unfolding listSlots
-list-filled s depth = turns-filled (elementSlots s depth) (skip s depth) (element-filled s depth)
+some-enough : (x : List Slot) → 1 ≤ octetsOf x → (a b k : ℕ) → k ≤ a → k ≤ b → cut k (copies a x) ≡ cut k (copies b x)
+unfolding copies cut
+some-enough x s zero b k p q = let z : k ≡ 0 = omega arith in rw z (sym (cut-none (copies b x)))
+some-enough x s (suc a) zero k p q = let z : k ≡ 0 = omega arith in rw z (cut-none (copies (suc a) x))
+some-enough x s (suc a) (suc b) k p q =
+    let o = cut-octets k x in
+    cut-both k x x (copies a x) (copies b x) refl (some-enough x s a b (k - octetsOf (cut k x)) (omega arith) (omega arith))
 
-pub slots-filled : (s : List ℕ) → Filled (slots s)
-unfolding slots
-slots-filled s = list-filled s 2 (getD s 0 0) 1
-
-pub payloadSlots-filled : (s : List ℕ) (n : ℕ) → Filled (payloadSlots s n)
-unfolding payloadSlots
-payloadSlots-filled s n = cut-filled n (slots s) (slots-filled s)
-
-pub payloadSlots-most : (s : List ℕ) (n : ℕ) → octetsOf (payloadSlots s n) ≤ n
-unfolding payloadSlots
-payloadSlots-most s n = cut-most n (slots s)
-
-pub payloadSlots-cut : (s : List ℕ) (m n : ℕ) → cut m (payloadSlots s n) ≡ payloadSlots s (min m n)
-unfolding payloadSlots
-payloadSlots-cut s m n = cut-cut m n (slots s)
+pub copies-enough : (x : List Slot) → Filled x → (a b k : ℕ) → k ≤ a → k ≤ b → cut k (copies a x) ≡ cut k (copies b x)
+unfolding Filled octetsOf
+copies-enough [] f a b k p q = rw (copies-nothing a, copies-nothing b)
+copies-enough (x ∷ l) f a b k p q = some-enough (x ∷ l) (omega (arith, f .0)) a b k p q

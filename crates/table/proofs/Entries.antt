@@ -3,7 +3,7 @@
 --   entry-fixed, entry-put          entry 0, and another
 --   defined-not, defined-fixed, defined-put   whether there is one: not over 15, always at 0, else by its first number
 --   replaced-none, replaced-fixed, replaced-malformed, replaced-done   how replacing one ends
---   entry-short, entry-some         an entry has at most 97 numbers, and one element or more
+--   entry-fits, entry-short         an entry has at most the numbers for which there is room in the table
 --
 -- Assumes nothing.
 use mathlib.Core.Path.{_≡_, refl, ap, _∙_}
@@ -13,16 +13,16 @@ use Prim.Native.Nat.{ℕ, zero, suc, _-_, _*_, _≤_, _<_}
 use native.Mathlib.Nat.{add-zero}
 use native.Mathlib.Numerals.{sub-one}
 use native.Mathlib.Omega.{arith}
-use native.Mathlib.Decide.{decLe}
 use borrow.Author.Tests.{lt-ltb, le-ltb, le-leb, lt-leb, ne-eqb}
 use lib.Dec.{eqb}
 use lib.ListN.{length, getD, take, drop}
 use lib.Seq.{getD-take, getD-drop}
-use Rattle.octets.specs.Tests.{never}
 use Rattle.calls.specs.Refusal.{leaving, refusing}
-use Rattle.table.specs.Form.{longestEntry, isEntry}
-use Rattle.table.specs.Table.{highestCode, fixedEntry, entryOf, isDefined, withEntry, replaced}
-use Rattle.table.proofs.Reading.{entry-long, entry-empty}
+use Rattle.table.specs.Entry.{Elements, isEntryTree, numbers}
+use Rattle.table.specs.Form.{treeOf, isEntry}
+use Rattle.table.specs.Table.{highestCode, longestEntry, fixedEntry, entryOf, isDefined, withEntry, replaced}
+use Rattle.table.proofs.Parts.{entry-is, numbers-most}
+use Rattle.table.proofs.Joining.{entry-tree}
 
 module _ (t : List ℕ) (c : ℕ) where
   pub entry-fixed : c ≡ 0 → entryOf t c ≡ fixedEntry
@@ -68,12 +68,8 @@ defined-put t c h z =
     getD-take longestEntry (drop k t) 0 0 (omega arith) ∙ getD-drop k t 0 0 ∙ ap (λ (n : ℕ). getD t n 0) (add-zero k) in
     rw (le-leb _ _ h, entry-put t c z, e)
 
-pub entry-short : (s : List ℕ) → isEntry s ≡ true → length s ≤ longestEntry
-entry-short s e = go (decLe (length s) longestEntry)
-  where
-    go : Dec (length s ≤ longestEntry) → length s ≤ longestEntry
-    go (yes h) = h
-    go (no h) = let u = entry-long s (omega arith) in never (cc)
+pub entry-fits : (l : Elements) → isEntryTree l ≡ true → length (numbers l) ≤ longestEntry
+entry-fits l e = omega (arith, entry-is l e .few, numbers-most l)
 
-pub entry-some : (s : List ℕ) → isEntry s ≡ true → getD s 0 0 ≡ 0 → ⊥
-entry-some s e z = let u = entry-empty s (entry-short s e) z in never (cc)
+pub entry-short : (s : List ℕ) → isEntry s ≡ true → length s ≤ longestEntry
+entry-short s e = let t = entry-tree s e in omega (arith, entry-fits (treeOf s) (t .0), ap (λ (u : List ℕ). length u) (t .1))

@@ -1,7 +1,6 @@
 -- The slots of an element and of a list in each case that the code tells apart.
 --
 --   as-channel, as-flat, as-inner   an element by its numbers: a channel, a list that is too deep, a list
---   number-inside              a number that is not 0 stands inside the entry
 --   inner-inside               an inner list starts inside the entry
 --   list-rest, list-done       the elements that a loop has still to pass: one and those behind it, or none
 --   copies-rest, copies-done   .. and so the passes
@@ -10,54 +9,50 @@
 --
 -- Assumes nothing.
 use mathlib.Core.Path.{_≡_, refl, sym, ap, ap₂, _∙_}
-use mathlib.Core.Bool.{Bool, true, false, cond}
-use mathlib.Core.List.{List, [], _∷_, _++_, append-eq-nil-iff}
+use mathlib.Core.List.{List, [], _∷_, _++_, append-nil, append-eq-nil-iff}
 use Prim.Native.Nat.{ℕ, zero, suc, _+_, _-_, _≤_, _<_}
 use native.Mathlib.Nat.{add-zero}
 use native.Mathlib.Numerals.{sub-one}
 use native.Mathlib.Omega.{arith}
-use native.Mathlib.Decide.{decLe}
-use borrow.Author.Tests.{eq-eqb, ne-eqb}
-use lib.Dec.{eqb, ltb}
-use lib.ListN.{length, getD, List·getD-eq-default}
+use lib.ListN.{length, getD}
 use Rattle.octets.specs.Tests.{never}
 use Rattle.table.specs.declared.form.Head.{Head}
-use Rattle.table.specs.declared.form.Head.the-variants.{Inner, Malformed}
+use Rattle.table.specs.declared.form.Head.the-variants.{Channel, Inner, Malformed}
 use Rattle.table.specs.declared.form.Read.{Read}
 use Rattle.table.specs.declared.form.Read.the-variants.{Bad}
-use Rattle.table.specs.Form.{mostElements, many, headAt, onHead, elementAt}
-use Rattle.table.specs.Slots.{Slot, passes, copies, skip, inTurn, elementSlots, listSlots}
-use Rattle.table.proofs.Cutting.{passes-most, copies-nothing}
-
-pub number-inside : (s : List ℕ) (k : ℕ) → (getD s k 0 ≡ 0 → ⊥) → k < length s
-number-inside s k h = go (decLe (length s) k)
-  where
-    go : Dec (length s ≤ k) → k < length s
-    go (yes l) = absurd (h (List·getD-eq-default s 0 l))
-    go (no l) = omega arith
+use Rattle.table.specs.Entry.{none, mostElements}
+use Rattle.table.specs.Cursor.{many, headAt, onHead, elementAt, skip}
+use Rattle.table.specs.Form.{countAs, listAs}
+use Rattle.table.specs.Slots.{Slot, passes, copies, slots}
+use Rattle.table.specs.Table.{longestPayload}
+use Rattle.table.specs.Lays.{elementSlots, listSlots}
+use Rattle.table.proofs.Cutting.{copies-nothing}
+use Rattle.table.proofs.Expanding.{passes-most, element-before}
+use Rattle.table.proofs.Heads.{HeadIs, is-malformed, is-channel, is-inner, head-is}
+use Rattle.table.proofs.Reading.{number-inside, tree-none, tree-first, tree-channel, tree-inner, tree-flat}
 
 module _ (s : List ℕ) (at : ℕ) where
   element-channel : (d : ℕ) → getD s (at + 1) 0 ≡ 0
-      → elementSlots s d at ≡ record { channel = getD s (at + 2) 0; octets = passes (getD s at 0) } ∷ []
-  unfolding elementSlots
-  element-channel zero e = rw (eq-eqb _ _ e)
-  element-channel (suc d) e = rw (eq-eqb _ _ e)
+      → elementSlots s d at ≡ record { channel = getD s (at + 2) 0; octets = passes longestPayload (countAs (getD s at 0)) } ∷ []
+  unfolding elementSlots slots
+  element-channel d e = rw (tree-channel s d at none e)
 
   element-inner : (d : ℕ) → (getD s (at + 1) 0 ≡ 0 → ⊥) → (d ≡ 0 → ⊥)
-      → elementSlots s d at ≡ copies (passes (getD s at 0)) (listSlots s (d - 1) (getD s (at + 1) 0) (at + 2))
-  unfolding elementSlots listSlots
+      → elementSlots s d at ≡ copies (passes longestPayload (countAs (getD s at 0))) (listSlots s (d - 1) (getD s (at + 1) 0) (at + 2))
+  unfolding elementSlots listSlots slots
   element-inner zero e z = absurd (z refl)
-  element-inner (suc d) e z = rw (sub-one (suc d), ne-eqb _ _ e)
+  element-inner (suc d) e z = rw (sub-one (suc d), tree-inner s d at none e) (append-nil _)
 
   element-flat : (d : ℕ) → (getD s (at + 1) 0 ≡ 0 → ⊥) → d ≡ 0 → elementSlots s d at ≡ []
-  unfolding elementSlots
-  element-flat zero e z = rw (ne-eqb _ _ e) (copies-nothing (passes (getD s at 0)))
+  unfolding elementSlots slots
+  element-flat zero e z = rw (tree-flat s at none e) (append-nil _ ∙ copies-nothing (passes longestPayload (countAs (getD s at 0))))
   element-flat (suc d) e z = absurd (omega arith)
 
   -- the numbers as the code reads them: the repeat count r, how often the element is passed, and how many inner elements it has
-  module _ (d r n k : ℕ) (re : r ≡ getD s (at + 0) 0) (ne : n ≡ passes r) (ke : k ≡ getD s (at + 1) 0) where
-    times-at : passes (getD s at 0) ≡ n
-    times-at = ap (λ (m : ℕ). passes (getD s m 0)) (sym (add-zero at)) ∙ sym (ne ∙ ap passes re)
+  module _ (d r n k : ℕ) (re : r ≡ getD s (at + 0) 0) (ne : n ≡ passes longestPayload (countAs r)) (ke : k ≡ getD s (at + 1) 0) where
+    times-at : passes longestPayload (countAs (getD s at 0)) ≡ n
+    times-at =
+        ap (λ (m : ℕ). passes longestPayload (countAs (getD s m 0))) (sym (add-zero at)) ∙ sym (ne ∙ ap (λ (m : ℕ). passes longestPayload (countAs m)) re)
 
     pub as-channel : (x : ℕ) → x ≡ getD s (at + 2) 0 → k ≡ 0 → elementSlots s d at ≡ record { channel = x; octets = n } ∷ []
     as-channel x e z = element-channel d (sym ke ∙ z) ∙ ap₂ (λ (u v : ℕ). record { channel = u; octets = v } ∷ []) (sym e) times-at
@@ -75,9 +70,9 @@ module _ (s : List ℕ) (at : ℕ) where
 -- ---- what a loop has still to pass
 
 list-more : (s : List ℕ) (d n at : ℕ) → (n ≡ 0 → ⊥) → listSlots s d n at ≡ elementSlots s d at ++ listSlots s d (n - 1) (skip s d at)
-unfolding listSlots inTurn
-list-more s d zero at z = absurd (z refl)
-list-more s d (suc n) at z = rw (sub-one (suc n))
+unfolding listSlots elementSlots
+list-more s d n at z =
+    ap (slots longestPayload) (tree-first s d n at z) ∙ element-before longestPayload s d at (listAs s d (n - 1) (skip s d at))
 
 copies-more : (n : ℕ) (l : List Slot) → (n ≡ 0 → ⊥) → copies n l ≡ l ++ copies (n - 1) l
 unfolding copies
@@ -96,8 +91,8 @@ module _ (n t : ℕ) where
       list-more s d (n - t) at (λ z. omega arith) ∙ ap₂ (λ (m p : ℕ). elementSlots s d at ++ listSlots s d m p) (turn-more h) (sym e)
 
   pub list-done : (s : List ℕ) (d at : ℕ) → n ≤ t → listSlots s d (n - t) at ≡ []
-  unfolding listSlots inTurn
-  list-done s d at h = rw (turn-last h)
+  unfolding listSlots slots
+  list-done s d at h = rw (tree-none s d (n - t) at (turn-last h))
 
   pub copies-rest : (l : List Slot) → t < n → copies (n - t) l ≡ l ++ copies (n - (t + 1)) l
   copies-rest l h = copies-more (n - t) l (λ z. omega arith) ∙ ap (λ (m : ℕ). l ++ copies m l) (turn-more h)
@@ -111,10 +106,6 @@ copies-idle n l e = rw e (copies-nothing n)
 
 -- ---- an element without a slot
 
-either : {A : Type 0} (P : A → Type 0) (b : Bool) (x y : A) → P x → P y → P (cond b x y)
-either P true x y p q = p
-either P false x y p q = q
-
 many-bad : (one : ℕ → ℕ → Read) (n at left : ℕ) → (n ≡ 0 → ⊥) → one at left ≡ Bad → many one n at left ≡ Bad
 unfolding many
 many-bad one zero at left z e = absurd (z refl)
@@ -124,14 +115,12 @@ module _ (s : List ℕ) where
   -- the numbers of an element that is no channel
   by-head : (at left least : ℕ) → (getD s (at + 1) 0 ≡ 0 → ⊥) → (P : Head → Type 0) → P Malformed → P (Inner (getD s (at + 1) 0) (at + 2) (left - 1))
       → P (headAt s at left least)
-  unfolding headAt
-  by-head at left least e P p q =
-      rw (ne-eqb _ _ e)
-      (either P (ltb (length s) 3) _ _ p
-      (either P (ltb (length s - 3) at) _ _ p
-      (either P (eqb left 0) _ _ p
-      (either P (ltb (getD s at 0) least) _ _ p
-      (either P (eqb (getD s (at + 1) 0) 1) _ _ p q)))))
+  by-head at left least e P p q = go (headAt s at left least) (head-is s at left least)
+    where
+      go : (h : Head) → HeadIs s at left least h → P h
+      go Malformed is-malformed = p
+      go (Channel a l) (is-channel g z) = absurd (e z)
+      go (Inner n a l) (is-inner g w) = q
 
   no-channel : (d at : ℕ) → elementSlots s d at ≡ [] → getD s (at + 1) 0 ≡ 0 → ⊥
   no-channel d at e z =
@@ -144,7 +133,7 @@ module _ (s : List ℕ) where
       let n = getD s (at + 1) 0 in
       let u = sym (rw (sub-one (suc d)) at (element-inner s at (suc d) z (λ k. omega arith))) ∙ e in
       let v =
-      append-eq-nil-iff .0 (sym (copies-more (passes (getD s at 0)) (listSlots s d n (at + 2)) (λ k. omega (arith, passes-most (getD s at 0)))) ∙ u) .0 in
+      append-eq-nil-iff .0 (sym (copies-more (passes longestPayload (countAs (getD s at 0))) (listSlots s d n (at + 2)) (λ k. omega (arith, passes-most (getD s at 0)))) ∙ u) .0 in
       append-eq-nil-iff .0 (sym (list-more s d n (at + 2) z) ∙ v) .0
 
   empty-bad : (d at left least : ℕ) → elementSlots s d at ≡ [] → elementAt s d at left least ≡ Bad
@@ -159,11 +148,9 @@ module _ (s : List ℕ) where
   unfolding skip
   empty-stays d at e = rw (empty-bad d at mostElements 0 e)
 
-  empty-turns : (one : ℕ → List Slot) (next : ℕ → ℕ) (n at : ℕ) → one at ≡ [] → next at ≡ at → inTurn one next n at ≡ []
-  unfolding inTurn
-  empty-turns one next zero at e d = refl
-  empty-turns one next (suc n) at e d = rw (e, d) (empty-turns one next n at e d)
+  empty-list : (d n at : ℕ) → elementSlots s d at ≡ [] → skip s d at ≡ at → listSlots s d n at ≡ []
+  empty-list d zero at e k = list-done 0 0 s d at (omega arith)
+  empty-list d (suc n) at e k = list-more s d (suc n) at (λ z. omega arith) ∙ rw (e, k, sub-one (suc n)) (empty-list d n at e k)
 
   pub list-idle : (d n at : ℕ) → elementSlots s d at ≡ [] → listSlots s d n (skip s d at) ≡ []
-  unfolding listSlots
-  list-idle d n at e = rw (empty-stays d at e) (empty-turns (elementSlots s d) (skip s d) n at e (empty-stays d at e))
+  list-idle d n at e = rw (empty-stays d at e) (empty-list d n at e (empty-stays d at e))

@@ -1,6 +1,5 @@
 -- A table in which an entry was written.
 --
---   front-alike      a list and the same with more behind it
 --   withEntry-front     the entry stands where it was written
 --   withEntry-other     the other entries are as they were
 --
@@ -11,16 +10,11 @@ use mathlib.Core.List.{List, _++_}
 use Prim.Native.Nat.{ℕ, zero, suc, _+_, _-_, _*_, _≤_, _<_}
 use native.Mathlib.Omega.{arith}
 use native.Mathlib.Decide.{decLe}
-use lib.ListN.{length, getD, take, drop, length-append, length-take, length-drop, take-append-drop, List·getD-append}
+use lib.ListN.{length, getD, take, drop, length-take, length-drop, take-append-drop}
 use lib.Seq.{take-take, getD-take, getD-drop, ext-getD}
 use Rattle.octets.specs.Written.{written-part, written-length, written-outside}
-use Rattle.table.specs.Form.{longestEntry}
-use Rattle.table.specs.Table.{highestCode, tableNumbers, entryOf, withEntry}
+use Rattle.table.specs.Table.{highestCode, longestEntry, tableNumbers, entryOf, withEntry}
 use Rattle.table.proofs.Entries.{entry-put}
-use Rattle.table.proofs.Prefix.{Alike}
-
-pub front-alike : (s r : List ℕ) → Alike s (s ++ r)
-front-alike s r = record { longer = omega (arith, length-append s r); same = λ i h. List·getD-append s r 0 i h }
 
 module _ (t s : List ℕ) (c : ℕ) (size : length t ≡ tableNumbers) (some : 1 ≤ c) (low : c ≤ highestCode) (short : length s ≤ longestEntry) where
   fits : longestEntry * (c - 1) + length s ≤ length t

@@ -1,28 +1,84 @@
 -- What is claimed of the multiplex table, over every table, code and entry; proofs/Theorems.antt proves each claim.
 --
+--   NumbersRead        an entry's numbers, whatever stands behind them, are read as that entry
+--   SlotsAreThose      .. and a payload's slots under those numbers are those of the entry
+--   IsEntryExactly     numbers are an entry exactly where they are those of some entry
+--   EntryFits          an entry has at most the numbers for which there is room in the table
+--   FiniteOrClosing    an entry is finite, or its last element repeats until closing
+--   ClosingTakesAll    one that ends until closing takes every payload
+--   FiniteExactly      a payload has more octets than its entry exactly where that is finite and has fewer
+--   PassesApart        a channel element is one slot, and each pass of an inner list has all slots of the list: none are joined
+--   UncutWhole         a payload that is longer than its slots leaves them as they are: none are joined
+--   FixedIs            entry 0 is channel 0 until closing
+--   FreshEntries       a fresh table has an entry's numbers at each code that is defined
+--   ReplacedEntries    .. and so has one in which an entry was replaced, or not
 --   ReplacedUnique     any two answers that replacing's promise allows are equal, the table included
 --   LaidUnique         .. and any two that laying slots down does, both lists included
 --   ReplacedKeeps      the table keeps its length
 --   RefusalLeaves      a refusal leaves the table as it came
---   ReplacedIsRead     an entry that was accepted is there, and has the slots of the numbers handed over
+--   ReplacedIsRead     an entry that was accepted is there then, and is the one whose numbers were handed over
 --   OthersStay         .. and the other entries are as they were
 --   FreshHasNone       a table of zeros has entry 0 and no other
 --   OctetsInTurn       payload octet k is the k-th channel's of the entry's expansion
 --
 -- Assumes nothing.
 use mathlib.Core.Path.{_≡_}
-use mathlib.Core.Bool.{true}
-use mathlib.Core.List.{List}
-use Prim.Native.Nat.{ℕ, _≤_}
+use mathlib.Core.Logic.{_↔_}
+use mathlib.Core.Bool.{true, not}
+use mathlib.Core.List.{List, _++_}
+use Prim.Native.Nat.{ℕ, _+_, _*_, _≤_, _<_}
 use lib.Dec.{eqb}
 use lib.ListN.{length, replicate, take}
 use Rattle.calls.specs.declared.Outcome.{Outcome}
-use Rattle.calls.specs.Refusal.{refused, ended, outcomeSays}
+use Rattle.calls.specs.Refusal.{refused, ended, leaving, outcomeSays}
 use Rattle.table.specs.declared.walk.Laid.{Laid}
-use Rattle.table.specs.Form.{isEntry}
-use Rattle.table.specs.Slots.{Slot, slots, payloadSlots, channelsOf}
-use Rattle.table.specs.Table.{highestCode, tableNumbers, entryOf, isDefined, withEntry, replaced}
+use Rattle.table.specs.Entry.{Count, times, Elements, channel, list, isEntryTree, numbers, isFinite, isClosing, octetsIn, fixedTree}
+use Rattle.table.specs.Form.{treeOf, isEntry}
+use Rattle.table.specs.Slots.{Slot, slots, cut, entrySlots, payloadSlots, octetsOf, channelsOf}
+use Rattle.table.specs.Table.{highestCode, longestEntry, tableNumbers, entryOf, isDefined, Entries, withEntry, replaced}
 use Rattle.table.specs.Lays.{Lays}
+
+-- ---- entries
+
+abbrev pub NumbersRead : Type 0
+NumbersRead = (l : Elements) (rest : List ℕ) → isEntryTree l ≡ true → treeOf (numbers l ++ rest) ≡ l
+
+abbrev pub SlotsAreThose : Type 0
+SlotsAreThose = (l : Elements) (rest : List ℕ) (n : ℕ) → isEntryTree l ≡ true → payloadSlots (numbers l ++ rest) n ≡ entrySlots l n
+
+abbrev pub IsEntryExactly : Type 0
+IsEntryExactly = (s : List ℕ) → isEntry s ≡ true ↔ ((l : Elements) × (isEntryTree l ≡ true) × (numbers l ≡ s))
+
+abbrev pub EntryFits : Type 0
+EntryFits = (l : Elements) → isEntryTree l ≡ true → length (numbers l) ≤ longestEntry
+
+abbrev pub FiniteOrClosing : Type 0
+FiniteOrClosing = (l : Elements) → isEntryTree l ≡ true → isFinite l ≡ not (isClosing l)
+
+abbrev pub ClosingTakesAll : Type 0
+ClosingTakesAll = (l : Elements) (n : ℕ) → isEntryTree l ≡ true → isClosing l ≡ true → octetsOf (entrySlots l n) ≡ n
+
+abbrev pub FiniteExactly : Type 0
+FiniteExactly = (l : Elements) (n : ℕ) → isEntryTree l ≡ true → octetsOf (entrySlots l n) < n ↔ ((isFinite l ≡ true) × (octetsIn l < n))
+
+abbrev pub PassesApart : Type 0
+PassesApart =
+    (n k c : ℕ) (r : Count) (i l : Elements) → (length (slots n (channel r c l)) ≡ 1 + length (slots n l))
+    × (length (slots n (list (times k) i l)) ≡ k * length (slots n i) + length (slots n l))
+
+abbrev pub FixedIs : Type 0
+FixedIs = (t : List ℕ) → (isEntryTree fixedTree ≡ true) × (entryOf t 0 ≡ numbers fixedTree)
+
+abbrev pub UncutWhole : Type 0
+UncutWhole = (n : ℕ) (l : List Slot) → octetsOf l < n → cut n l ≡ l
+
+-- ---- tables
+
+abbrev pub FreshEntries : Type 0
+FreshEntries = Entries (replicate tableNumbers 0)
+
+abbrev pub ReplacedEntries : Type 0
+ReplacedEntries = (t s : List ℕ) (c : ℕ) → Entries t → Entries (replaced t c s .left)
 
 abbrev pub ReplacedUnique : Type 0
 ReplacedUnique =
@@ -42,15 +98,13 @@ RefusalLeaves = (t s after : List ℕ) (c k : ℕ) → ended (refused k) after �
 
 abbrev pub ReplacedIsRead : Type 0
 ReplacedIsRead =
-    (t s : List ℕ) (c : ℕ) → length t ≡ tableNumbers → 1 ≤ c → c ≤ highestCode → isEntry s ≡ true
-    → (isDefined (withEntry t c s) c ≡ true) × (slots (entryOf (withEntry t c s) c) ≡ slots s)
+    (t s u : List ℕ) (c : ℕ) → length t ≡ tableNumbers → replaced t c s ≡ leaving tt u → (isDefined u c ≡ true) × (treeOf (entryOf u c) ≡ treeOf s)
 
 abbrev pub OthersStay : Type 0
-OthersStay =
-    (t s : List ℕ) (c d : ℕ) → length t ≡ tableNumbers → 1 ≤ c → c ≤ highestCode → isEntry s ≡ true → (d ≡ c → ⊥) → entryOf (withEntry t c s) d ≡ entryOf t d
+OthersStay = (t s u : List ℕ) (c d : ℕ) → length t ≡ tableNumbers → replaced t c s ≡ leaving tt u → (d ≡ c → ⊥) → entryOf u d ≡ entryOf t d
 
 abbrev pub FreshHasNone : Type 0
 FreshHasNone = (n c : ℕ) → isDefined (replicate n 0) c ≡ eqb c 0
 
 abbrev pub OctetsInTurn : Type 0
-OctetsInTurn = (s : List ℕ) (n : ℕ) → channelsOf (payloadSlots s n) ≡ take n (channelsOf (slots s))
+OctetsInTurn = (s : List ℕ) (n : ℕ) → channelsOf (payloadSlots s n) ≡ take n (channelsOf (slots n (treeOf s)))

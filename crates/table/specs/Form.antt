@@ -1,73 +1,46 @@
--- The form of a multiplex table entry (000, 6.4.1.1; document 01, "Multiplex table"), coded flat in prefix order: the number of
--- elements, then the elements. An element is its repeat count (0: until closing), then 0 and a channel, or the number of inner
--- elements and those.
+-- The tree that numbers are read as, whatever they are, and which of them are an entry (000, 6.4.1.1; document 01, "Multiplex table").
+-- That the reading gives back the tree of an entry's numbers is the claim NumbersRead, in specs/Claims.antt.
 --
---   andThen r f     what comes after a reading, where it is good
---   many one n      n elements, each read by `one`
---   headAt          an element's own numbers: a channel, the start of an inner list of at least two, or nothing good
---   onHead inner    an element by its numbers; `inner` reads its list, where it is one
---   elementAt       an element of a list from which lists may go `depth` deeper, where `left` elements may still come, and which
---                   repeats at least `least` times
---   listAt          n elements that repeat at least once
---   mostElements    the most elements, counted at every depth
---   endsAt n r      a reading ended at place n
---   longestEntry    the most numbers that an entry has: 32 channels, each three, and how many they are
---   isEntry s       s is an entry: 1 to 32 elements counted at every depth, lists to depth 3, the last at the top alone may repeat
---                   until closing, and nothing behind it
+--   countAs k       a number as a repeat count: 0 is until closing
+--   elementWith     the element that stands at `at`, before the elements l, where `inner` is its list
+--   inTurn one next n at   n elements from `at` on, one behind another
+--   elementAs       the element at `at`, of a list from which lists may go `deeper` levels down, before the elements l
+--   listAs          n elements from `at` on
+--   treeOf s        the tree that the numbers s are read as
+--   isEntry s       s is an entry: its tree is one, and s has the tree's numbers and no more
 --
 -- Assumes nothing.
-use mathlib.Core.Bool.{Bool, false, cond}
+use mathlib.Core.Bool.{Bool, cond, _&&_}
 use mathlib.Core.List.{List}
-use Prim.Native.Nat.{ℕ, zero, suc, _+_, _-_}
-use lib.Dec.{ltb, eqb}
-use lib.ListN.{length, getD}
-use Rattle.table.specs.declared.form.Head.{Head}
-use Rattle.table.specs.declared.form.Head.the-variants.{Channel, Inner, Malformed}
-use Rattle.table.specs.declared.form.Read.{Read}
-use Rattle.table.specs.declared.form.Read.the-variants.{Next, Bad}
+use Prim.Native.Nat.{ℕ, zero, suc, _+_}
+use lib.Dec.{eqb}
+use lib.ListN.{getD}
+use Rattle.octets.specs.Same.{same}
+use Rattle.table.specs.Entry.{Count, times, untilClosing, Elements, none, channel, list, isEntryTree, numbers}
+use Rattle.table.specs.Cursor.{skip}
 
-abbrev pub andThen : Read → (ℕ → ℕ → Read) → Read
-andThen (Next at left) f = f at left
-andThen Bad f = Bad
+abbrev pub countAs : ℕ → Count
+countAs k = cond (eqb k 0) untilClosing (times k)
 
-unfoldable pub many : (ℕ → ℕ → Read) → ℕ → ℕ → ℕ → Read
-many one zero at left = Next at left
-many one (suc n) at left = andThen (one at left) (many one n)
+-- the element's numbers are its repeat count, how many inner elements it has, and its channel if it has none
+abbrev pub elementWith : Elements → List ℕ → ℕ → Elements → Elements
+elementWith inner s at l =
+    cond (eqb (getD s (at + 1) 0) 0) (channel (countAs (getD s at 0)) (getD s (at + 2) 0) l) (list (countAs (getD s at 0)) inner l)
 
-unfoldable pub headAt : List ℕ → ℕ → ℕ → ℕ → Head
-headAt s at left least =
-    cond (ltb (length s) 3) Malformed
-    (cond (ltb (length s - 3) at) Malformed
-    (cond (eqb left 0) Malformed
-    (cond (ltb (getD s at 0) least) Malformed
-    (cond (eqb (getD s (at + 1) 0) 0) (Channel (at + 3) (left - 1))
-    (cond (eqb (getD s (at + 1) 0) 1) Malformed
-    (Inner (getD s (at + 1) 0) (at + 2) (left - 1)))))))
+unfoldable pub inTurn : (ℕ → Elements → Elements) → (ℕ → ℕ) → ℕ → ℕ → Elements
+inTurn one next zero at = none
+inTurn one next (suc n) at = one at (inTurn one next n (next at))
 
-abbrev pub onHead : (ℕ → ℕ → ℕ → Read) → Head → Read
-onHead inner (Channel at left) = Next at left
-onHead inner (Inner n at left) = inner n at left
-onHead inner Malformed = Bad
+unfoldable pub elementAs : List ℕ → ℕ → ℕ → Elements → Elements
+elementAs s zero at l = elementWith none s at l
+elementAs s (suc deeper) at l =
+    elementWith (inTurn (elementAs s deeper) (skip s deeper) (getD s (at + 1) 0) (at + 2)) s at l
 
-unfoldable pub elementAt : List ℕ → ℕ → ℕ → ℕ → ℕ → Read
-elementAt s zero at left least = onHead (λ n a l. Bad) (headAt s at left least)
-elementAt s (suc depth) at left least = onHead (many (λ a l. elementAt s depth a l 1)) (headAt s at left least)
+unfoldable pub listAs : List ℕ → ℕ → ℕ → ℕ → Elements
+listAs s deeper n at = inTurn (elementAs s deeper) (skip s deeper) n at
 
-unfoldable pub listAt : List ℕ → ℕ → ℕ → ℕ → ℕ → Read
-listAt s depth n at left = many (λ a l. elementAt s depth a l 1) n at left
-
-abbrev pub endsAt : ℕ → Read → Bool
-endsAt n (Next at left) = eqb at n
-endsAt n Bad = false
-
-abbrev pub mostElements : ℕ
-mostElements = 32
-
-abbrev pub longestEntry : ℕ
-longestEntry = 97
+unfoldable pub treeOf : List ℕ → Elements
+treeOf s = listAs s 2 (getD s 0 0) 1
 
 unfoldable pub isEntry : List ℕ → Bool
-isEntry s =
-    cond (ltb longestEntry (length s)) false
-    (cond (eqb (getD s 0 0) 0) false
-    (endsAt (length s) (andThen (listAt s 2 (getD s 0 0 - 1) 1 mostElements) (λ a l. elementAt s 2 a l 0))))
+isEntry s = isEntryTree (treeOf s) && same (numbers (treeOf s)) s

@@ -1,6 +1,9 @@
+pub mod Entry
+pub mod Cursor
 pub mod Form
 pub mod Slots
 pub mod Table
+pub mod Limits
 pub mod Lays
 pub mod Small
 pub mod Claims

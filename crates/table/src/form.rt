@@ -1,11 +1,13 @@
 // The form of an entry (000, 6.4.1.1), coded flat in prefix order: the number of elements, then the elements.
 // An element is its repeat count (0: until closing), then 0 and a channel, or the number of inner elements and those.
 ghost use mathlib.Core.Path.{_≡_};
-ghost use Rattle.table.specs.Form.{headAt, elementAt, listAt, isEntry};
+ghost use Rattle.table.specs.Cursor.{headAt, elementAt, listAt};
+ghost use Rattle.table.specs.Form.{isEntry};
 
-// The most numbers that an entry has, the most elements, and how deep lists go below the top one.
+// The numbers for which an entry has room in the table: no entry has more.
 pub const LONGEST_ENTRY: usize = 97;
 
+// The most elements that an entry has, counted at every depth, and how deep lists go below the top one.
 pub const MOST_ELEMENTS: usize = 32;
 
 pub const DEPTH: usize = 2;
@@ -101,13 +103,10 @@ fn list(s: &[u16], at: usize, depth: usize, left: usize, count: u16) -> Read
     }
 }
 
-// Whether the numbers are an entry, and nothing stands behind it. Only its last element may repeat until closing.
+// Whether the numbers are those of an entry, and nothing stands behind them. Only its last element may repeat until closing.
 pub fn is_entry(s: &[u16]) -> bool
     ensures { λ r. ⌜ r ≡ isEntry (now (s .entry)) ⌝ }
 {
-    if LONGEST_ENTRY < s.len() {
-        return false;
-    }
     if s.len() == 0 {
         return false;
     }

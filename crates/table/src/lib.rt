@@ -8,8 +8,7 @@ ghost use mathlib.Core.Path.{_≡_};
 ghost use Prim.Native.Nat.{_+_, _*_, _≤_};
 ghost use lib.ListN.{length, take, drop};
 ghost use Rattle.calls.specs.Refusal.{ended, outcomeSays};
-ghost use Rattle.table.specs.Form.{longestEntry};
-ghost use Rattle.table.specs.Table.{highestCode, longestPayload, entryOf, isDefined, replaced};
+ghost use Rattle.table.specs.Table.{highestCode, longestEntry, longestPayload, entryOf, isDefined, replaced};
 ghost use Rattle.table.specs.Slots as slotted;
 ghost use Rattle.table.specs.Lays.{LaysInto};
 

@@ -5,8 +5,11 @@ ghost use mathlib.Core.Path.{_≡_};
 ghost use mathlib.Core.List.{[], _∷_};
 ghost use Prim.Native.Nat.{_+_, _≤_};
 ghost use lib.ListN.{length, getD};
-ghost use Rattle.table.specs.Slots.{passes, copies, skip, elementSlots, listSlots, cut, payloadSlots};
-ghost use Rattle.table.specs.Lays.{Room, LaysInto};
+ghost use Rattle.table.specs.Slots.{passes, copies, cut, payloadSlots};
+ghost use Rattle.table.specs.Cursor.{skip};
+ghost use Rattle.table.specs.Form.{countAs};
+ghost use Rattle.table.specs.Table.{longestPayload};
+ghost use Rattle.table.specs.Lays.{Room, LaysInto, elementSlots, listSlots};
 
 // The passes of what repeats until closing: as many as the longest payload has octets.
 pub const ENDLESS: u16 = 255;
@@ -32,7 +35,7 @@ fn number(s: &[u16], at: usize, plus: usize) -> u16
 
 // How often an element is passed.
 fn times(repeat: u16) -> u16
-    ensures { λ r. ⌜ r ≡ passes repeat ⌝ }
+    ensures { λ r. ⌜ r ≡ passes longestPayload (countAs repeat) ⌝ }
 {
     if repeat == 0 { ENDLESS } else { repeat }
 }
@@ -158,7 +161,7 @@ fn lay_list(
 
 // The slots of a payload of n octets under entry s.
 pub fn lay(s: &[u16], n: usize, channels: &mut [u16], lengths: &mut [u16]) -> Laid
-    requires { ⌜ (n ≤ length (now channels)) × (n ≤ length (now lengths)) ⌝ }
+    requires { ⌜ (n ≤ longestPayload) × (n ≤ length (now channels)) × (n ≤ length (now lengths)) ⌝ }
     ensures { λ r. ⌜ LaysInto (record { count = 0; left = n }) (payloadSlots (now (s .entry)) n) r channels lengths ⌝ }
 {
     let count = number(s, 0, 0);

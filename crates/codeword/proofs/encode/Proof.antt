@@ -26,14 +26,14 @@ returns-4 c = let a = c .before .before .before .before .before .before .args in
 
 slice-aggregate-write : tie.Need-slice-aggregate-write
 slice-aggregate-write c =
-    let p = c .before .before .before .before .before .before .parity in sym (length-take-le _ (p .result) (omega (arith, p .ensures .array .long)))
+    let p = c .before .before .before .before .before .before .parity in sym (length-take-le _ (p .result) (omega (arith, p .ensures .long)))
 
 write-requires-2 : tie.Need-write-requires-2
 write-requires-2 c κs =
     let divided = c .before .before .before .before .before .before in
     let p = divided .parity in
     rw (length-take-le (2 * divided .before .before .before .before .before .before .before .before .before .args .e) (p .result)
-    (omega (arith, p .ensures .array .long))) (search needs)
+    (omega (arith, p .ensures .long))) (search needs)
 
 returns-5 : tie.Need-returns-5
 returns-5 c =
@@ -42,7 +42,7 @@ returns-5 c =
     let u = now (a .message) in
     let p = divided .parity in
     let m = 2 * a .e in
-    let l : m ≤ length (p .result) = omega (arith, p .ensures .array .long) in
+    let l : m ≤ length (p .result) = omega (arith, p .ensures .long) in
     let t : length (take m (p .result)) ≡ m = length-take-le m (p .result) l in
     encoded-done (a .e) _ u (now (a .sent)) (take m (p .result)) _ (omega arith) (omega arith) (omega arith)
     (register-parity (a .e) u (p .result) l (p .ensures)) refl

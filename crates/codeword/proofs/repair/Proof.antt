@@ -39,5 +39,5 @@ pub repair-spec : {M : Type 1} → statement M
 repair-spec =
     tie.close
     (tie.spec returns returns-2 (λ c. search needs) returns-3 returns-4 (λ c κs. search needs) (λ c. search needs)
-    (λ c κs. search needs) (λ c. search needs) (λ c. search needs) (λ c κs. search needs) (λ c κs. search needs)
-    (λ c. search needs) returns-5 (λ c. search needs) decode-requires (λ c. search needs) (λ c. search needs))
+    (λ c κs. search needs) (λ c. search needs) (λ c κs. search needs) (λ c κs. search needs) (λ c. search needs) returns-5
+    decode-requires (λ c. search needs) (λ c. search needs))

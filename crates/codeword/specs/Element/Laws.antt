@@ -5,7 +5,7 @@
 --   octet-same                        two elements with the same octet are one
 --   octet-add, octet-mul, octet-inv   the operations, on octets
 --   octet-nil, octet-one, octet-pow   0, 1 and the powers of α
---   element-sum, element-product,     .. and the other way
+--   element-sum, element-product,     .. and the other way: of any numbers, since their low octets count
 --   element-inverse, element-power,
 --   element-zero, element-one
 --   element-ne                        an octet that is not 0 is not the element 0
@@ -19,7 +19,7 @@ use lib.Dec.{lit<}
 use Rattle.algebra.specs.Power.{pow}
 use Rattle.algebra.proofs.Laws.{pow-zero, pow-suc}
 use Rattle.field.specs.Octet as Octet
-use Rattle.field.specs.Octet.Laws.{power-zero, power-suc}
+use Rattle.field.specs.Octet.Laws.{sum-low, product-octet, product-low, power-zero, power-suc}
 use Rattle.codeword.specs.Element.{elements, element, octet, α, same-octet}
 
 pub octet-lt : (x : elements .Carrier) → octet x < Octet.size
@@ -69,11 +69,13 @@ octet-pow (suc k) =
 by-octet : (x : elements .Carrier) (a : ℕ) → octet x ≡ a → element a ≡ x
 by-octet x a e = ap element (sym e) ∙ element-octet x
 
-pub element-sum : (a b : ℕ) → a < Octet.size → b < Octet.size → element (Octet.sum a b) ≡ elements .add (element a) (element b)
-element-sum a b h k = by-octet _ _ (octet-add _ _ ∙ ap₂ Octet.sum (octet-element a h) (octet-element b k))
+pub element-sum : (a b : ℕ) → element (Octet.sum a b) ≡ elements .add (element a) (element b)
+unfolding elements element
+element-sum a b = same-octet _ _ (sum-low a b)
 
-pub element-product : (a b : ℕ) → a < Octet.size → b < Octet.size → element (Octet.product a b) ≡ elements .mul (element a) (element b)
-element-product a b h k = by-octet _ _ (octet-mul _ _ ∙ ap₂ Octet.product (octet-element a h) (octet-element b k))
+pub element-product : (a b : ℕ) → element (Octet.product a b) ≡ elements .mul (element a) (element b)
+unfolding elements element
+element-product a b = same-octet _ _ (mod-eq-of-lt (product-octet a b) ∙ sym (product-low a b))
 
 pub element-inverse : (a : ℕ) → a < Octet.size → element (Octet.inverse a) ≡ elements .inv (element a)
 element-inverse a h = by-octet _ _ (octet-inv _ ∙ ap Octet.inverse (octet-element a h))

@@ -3,9 +3,7 @@ use borrow.Author.Needs.{needs}
 use mathlib.Core.Path.{_∙_, sym, ap, ap₂}
 use Prim.Native.Nat.{ℕ, _+_, _-_}
 use native.Mathlib.Omega.{arith}
-use denote.Ref.{now}
 use Rattle.field.specs.Octet.Laws.{product-zero, zero-product, power-add, power-less}
-use Rattle.field.specs.Octet.Table.{tables-power}
 use Rattle.field.specs.Octet.{product, α, order}
 use Rattle.field.proofs.product_by.Statement.{statement}
 use Rattle.field.proofs.product_by.Tie as tie
@@ -20,7 +18,7 @@ returns-3 : tie.Need-returns-3
 returns-3 c =
     let i = c .before .before .before .logarithm in
     let j = c .before .before .logarithm2 in
-    tables-power (now (c .before .before .before .before .before .before .args .t)) (c .before .before .before .before .before .before .pre)
+    c .before .before .before .before .before .before .pre .halves .powers
     (i .result + j .result) (c .before .if3 .taken)
     ∙ power-add α (i .result) (j .result) ∙ ap₂ product (i .ensures .1 (omega arith)) (j .ensures .1 (omega arith))
 
@@ -28,7 +26,7 @@ returns-4 : tie.Need-returns-4
 returns-4 c =
     let i = c .before .before .before .logarithm in
     let j = c .before .before .logarithm2 in
-    tables-power (now (c .before .before .before .before .before .before .args .t)) (c .before .before .before .before .before .before .pre)
+    c .before .before .before .before .before .before .pre .halves .powers
     (i .result + j .result - order) (omega arith) ∙ power-less (i .result + j .result) (c .before .if3 .left)
     ∙ power-add α (i .result) (j .result) ∙ ap₂ product (i .ensures .1 (omega arith)) (j .ensures .1 (omega arith))
 

@@ -1,7 +1,5 @@
--- α has order `order`, and every element but 0 has an inverse.
+-- Powers of α wrap at its order, and every element but 0 has an inverse.
 --
---   powers-distinct   the powers of α below the order are distinct
---   powers-all        .. and are all the octets but 0
 --   power-wrap        αᵏ depends on k modulo the order
 --   power-less        .. so one turn may be taken off
 --   power-order       a to the order is 1
@@ -16,18 +14,11 @@ use mathlib.Core.Path.{_≡_, sym, ap, _∙_}
 use Prim.Native.Nat.{ℕ, zero, suc, _+_, _-_, _*_, _/_, _%_, _≤_, _<_}
 use native.Mathlib.Nat.{mul-comm}
 use native.Mathlib.Omega.{arith}
-use lib.ListN.{getD}
 use Rattle.octets.specs.Tests.{never}
 use Rattle.field.specs.Octet.{product, α, power, inverse, order, size}
 use Rattle.field.specs.Octet.Ring.{product-assoc, product-comm, zero-product, one-product}
 use Rattle.field.specs.Octet.Power.{power-suc, power-octet, power-add, power-mul, one-power}
-use Rattle.field.specs.Octet.Table.{logs, alpha-around, logs-power, logs-lt, power-logs}
-
-pub powers-distinct : (i j : ℕ) → i < order → j < order → power α i ≡ power α j → i ≡ j
-powers-distinct i j hi hj e = sym (logs-power i hi) ∙ ap (λ (x : ℕ). getD logs x 0) e ∙ logs-power j hj
-
-pub powers-all : (a : ℕ) → 0 < a → a < size → (k : ℕ) × (k < order) × (power α k ≡ a)
-powers-all a p h = (getD logs a 0, logs-lt a h, power-logs a p h)
+use Rattle.field.specs.Octet.Order.{alpha-around, powers-all}
 
 power-turns : (q : ℕ) → power α (order * q) ≡ 1
 power-turns q = sym (power-mul α order q) ∙ ap (λ (x : ℕ). power x q) alpha-around ∙ one-power q

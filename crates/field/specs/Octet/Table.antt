@@ -1,161 +1,117 @@
--- Table D.I.1 (003, appendix I), and the table of logarithms that undoes it.
+-- The tables that the code keeps: Table D.I.1 (003, appendix I), the powers of α in their order, and the logarithms that undo it.
 --
---   powers          the entries of Table D.I.1 in their order, from α⁰ on; its row "0" is the zero element and no power.
---                   One worked: entry 7 is 80; twice 80 is 100, less the modulus 11D that is 1D, which is entry 8.
---   logs            entry a is the k below the order of which a is αᵏ; entry 0 is not used, and is 0
---   Tables t        t is both tables, the powers and behind them the logarithms
---   powers-double   each entry is twice the one before; the last, 8E, doubles to the first, 01
---   powers-at       entry k is αᵏ
---   alpha-around    α to the order is 1
---   logs-lt         a logarithm is below the order
---   logs-power      the logarithm of αᵏ is k
---   power-logs      α to the logarithm of a is a
---   tables-both     both tables behind each other are t
---   tables-power    what stands where in t
---   tables-log
+--   worked a b      `product a b`; who unfolds this computes it
+--   worked-is       .. and it is that
+--   Halves p l      entry k of p is αᵏ, for each k below the order; entry a of l is, for each octet a, the k below the order of which
+--                   a is αᵏ. 0 is no power, and has 0 there
+--   Tables t        t is both, the powers and behind them the logarithms
+--   isDoubled p     the test of all entries of Table D.I.1: the first is 1, and each other twice the one before
+--   isUndone p l    the test of all logarithms: entry a of l is a place of p at which a stands
+--   halves-of       lists that pass are the two tables
+--   tables-of       .. and the one behind the other are both
+--   tables-log      an entry of the logarithms
+--   tables-once     there is one such list
 --
--- Each rule is tested once over all the entries, and a lemma carries it to each. Assumes nothing.
+-- Each rule is tested once over all the entries of the code's constant, and a lemma carries it to each. Assumes nothing.
 use mathlib.Core.Path.{_≡_, refl, sym, ap, _∙_}
-use mathlib.Core.Bool.{Bool}
-use mathlib.Core.List.{List, [], _∷_, _++_}
-use Prim.Native.Nat.{ℕ, zero, suc, _+_, _-_, _%_, _<_}
-use native.Mathlib.Nat.{le-trans, le-suc, le-of-suc-le-suc, not-suc-le-zero, mod-eq-of-lt}
+use mathlib.Core.Bool.{Bool, _&&_}
+use mathlib.Core.List.{List, _++_}
+use Prim.Native.Nat.{ℕ, zero, suc, _+_, _-_, _<_}
+use native.Mathlib.Nat.{le-of-suc-le-suc}
+use native.Mathlib.Decide.{decLt}
+use native.Mathlib.Omega.{arith}
 use lib.Dec.{T, eqb, eqb→eq, ltb, ltb→lt, lit<}
-use lib.ListN.{length, getD, List·getD-append}
-use lib.Seq.{getD-append-add}
-use Rattle.octets.specs.Every.{every, every-at}
-use Rattle.field.specs.Octet.{sum, modulus, double, α, power, order, size}
-use Rattle.field.specs.Octet.Ring.{alpha-product}
-use Rattle.field.specs.Octet.Power.{power-zero, power-suc, power-octet}
+use lib.ListN.{length, getD, drop, length-append, List·getD-append}
+use lib.Seq.{drop-append-seam, getD-drop, ext-getD}
+use Rattle.octets.specs.Every.{both-left, both-right, every, every-at}
+use Rattle.field.specs.Octet.{sum, modulus, double, times, product, α, power, order, size}
+use Rattle.field.specs.Octet.Power.{power-zero, power-suc}
+use Rattle.field.specs.Octet.Order.{powers-distinct}
 
-unfoldable pub powers : List ℕ
-powers =
-    0x01 ∷ 0x02 ∷ 0x04 ∷ 0x08 ∷ 0x10 ∷ 0x20 ∷ 0x40 ∷ 0x80 ∷ 0x1d ∷ 0x3a ∷ 0x74 ∷ 0xe8 ∷ 0xcd ∷ 0x87 ∷ 0x13 ∷ 0x26 ∷
-    0x4c ∷ 0x98 ∷ 0x2d ∷ 0x5a ∷ 0xb4 ∷ 0x75 ∷ 0xea ∷ 0xc9 ∷ 0x8f ∷ 0x03 ∷ 0x06 ∷ 0x0c ∷ 0x18 ∷ 0x30 ∷ 0x60 ∷ 0xc0 ∷
-    0x9d ∷ 0x27 ∷ 0x4e ∷ 0x9c ∷ 0x25 ∷ 0x4a ∷ 0x94 ∷ 0x35 ∷ 0x6a ∷ 0xd4 ∷ 0xb5 ∷ 0x77 ∷ 0xee ∷ 0xc1 ∷ 0x9f ∷ 0x23 ∷
-    0x46 ∷ 0x8c ∷ 0x05 ∷ 0x0a ∷ 0x14 ∷ 0x28 ∷ 0x50 ∷ 0xa0 ∷ 0x5d ∷ 0xba ∷ 0x69 ∷ 0xd2 ∷ 0xb9 ∷ 0x6f ∷ 0xde ∷ 0xa1 ∷
-    0x5f ∷ 0xbe ∷ 0x61 ∷ 0xc2 ∷ 0x99 ∷ 0x2f ∷ 0x5e ∷ 0xbc ∷ 0x65 ∷ 0xca ∷ 0x89 ∷ 0x0f ∷ 0x1e ∷ 0x3c ∷ 0x78 ∷ 0xf0 ∷
-    0xfd ∷ 0xe7 ∷ 0xd3 ∷ 0xbb ∷ 0x6b ∷ 0xd6 ∷ 0xb1 ∷ 0x7f ∷ 0xfe ∷ 0xe1 ∷ 0xdf ∷ 0xa3 ∷ 0x5b ∷ 0xb6 ∷ 0x71 ∷ 0xe2 ∷
-    0xd9 ∷ 0xaf ∷ 0x43 ∷ 0x86 ∷ 0x11 ∷ 0x22 ∷ 0x44 ∷ 0x88 ∷ 0x0d ∷ 0x1a ∷ 0x34 ∷ 0x68 ∷ 0xd0 ∷ 0xbd ∷ 0x67 ∷ 0xce ∷
-    0x81 ∷ 0x1f ∷ 0x3e ∷ 0x7c ∷ 0xf8 ∷ 0xed ∷ 0xc7 ∷ 0x93 ∷ 0x3b ∷ 0x76 ∷ 0xec ∷ 0xc5 ∷ 0x97 ∷ 0x33 ∷ 0x66 ∷ 0xcc ∷
-    0x85 ∷ 0x17 ∷ 0x2e ∷ 0x5c ∷ 0xb8 ∷ 0x6d ∷ 0xda ∷ 0xa9 ∷ 0x4f ∷ 0x9e ∷ 0x21 ∷ 0x42 ∷ 0x84 ∷ 0x15 ∷ 0x2a ∷ 0x54 ∷
-    0xa8 ∷ 0x4d ∷ 0x9a ∷ 0x29 ∷ 0x52 ∷ 0xa4 ∷ 0x55 ∷ 0xaa ∷ 0x49 ∷ 0x92 ∷ 0x39 ∷ 0x72 ∷ 0xe4 ∷ 0xd5 ∷ 0xb7 ∷ 0x73 ∷
-    0xe6 ∷ 0xd1 ∷ 0xbf ∷ 0x63 ∷ 0xc6 ∷ 0x91 ∷ 0x3f ∷ 0x7e ∷ 0xfc ∷ 0xe5 ∷ 0xd7 ∷ 0xb3 ∷ 0x7b ∷ 0xf6 ∷ 0xf1 ∷ 0xff ∷
-    0xe3 ∷ 0xdb ∷ 0xab ∷ 0x4b ∷ 0x96 ∷ 0x31 ∷ 0x62 ∷ 0xc4 ∷ 0x95 ∷ 0x37 ∷ 0x6e ∷ 0xdc ∷ 0xa5 ∷ 0x57 ∷ 0xae ∷ 0x41 ∷
-    0x82 ∷ 0x19 ∷ 0x32 ∷ 0x64 ∷ 0xc8 ∷ 0x8d ∷ 0x07 ∷ 0x0e ∷ 0x1c ∷ 0x38 ∷ 0x70 ∷ 0xe0 ∷ 0xdd ∷ 0xa7 ∷ 0x53 ∷ 0xa6 ∷
-    0x51 ∷ 0xa2 ∷ 0x59 ∷ 0xb2 ∷ 0x79 ∷ 0xf2 ∷ 0xf9 ∷ 0xef ∷ 0xc3 ∷ 0x9b ∷ 0x2b ∷ 0x56 ∷ 0xac ∷ 0x45 ∷ 0x8a ∷ 0x09 ∷
-    0x12 ∷ 0x24 ∷ 0x48 ∷ 0x90 ∷ 0x3d ∷ 0x7a ∷ 0xf4 ∷ 0xf5 ∷ 0xf7 ∷ 0xf3 ∷ 0xfb ∷ 0xeb ∷ 0xcb ∷ 0x8b ∷ 0x0b ∷ 0x16 ∷
-    0x2c ∷ 0x58 ∷ 0xb0 ∷ 0x7d ∷ 0xfa ∷ 0xe9 ∷ 0xcf ∷ 0x83 ∷ 0x1b ∷ 0x36 ∷ 0x6c ∷ 0xd8 ∷ 0xad ∷ 0x47 ∷ 0x8e ∷ []
+unfoldable pub worked : ℕ → ℕ → ℕ
+unfolding sum modulus double times product
+worked a b = product a b
 
-unfoldable pub logs : List ℕ
-logs =
-    0x00 ∷ 0x00 ∷ 0x01 ∷ 0x19 ∷ 0x02 ∷ 0x32 ∷ 0x1a ∷ 0xc6 ∷ 0x03 ∷ 0xdf ∷ 0x33 ∷ 0xee ∷ 0x1b ∷ 0x68 ∷ 0xc7 ∷ 0x4b ∷
-    0x04 ∷ 0x64 ∷ 0xe0 ∷ 0x0e ∷ 0x34 ∷ 0x8d ∷ 0xef ∷ 0x81 ∷ 0x1c ∷ 0xc1 ∷ 0x69 ∷ 0xf8 ∷ 0xc8 ∷ 0x08 ∷ 0x4c ∷ 0x71 ∷
-    0x05 ∷ 0x8a ∷ 0x65 ∷ 0x2f ∷ 0xe1 ∷ 0x24 ∷ 0x0f ∷ 0x21 ∷ 0x35 ∷ 0x93 ∷ 0x8e ∷ 0xda ∷ 0xf0 ∷ 0x12 ∷ 0x82 ∷ 0x45 ∷
-    0x1d ∷ 0xb5 ∷ 0xc2 ∷ 0x7d ∷ 0x6a ∷ 0x27 ∷ 0xf9 ∷ 0xb9 ∷ 0xc9 ∷ 0x9a ∷ 0x09 ∷ 0x78 ∷ 0x4d ∷ 0xe4 ∷ 0x72 ∷ 0xa6 ∷
-    0x06 ∷ 0xbf ∷ 0x8b ∷ 0x62 ∷ 0x66 ∷ 0xdd ∷ 0x30 ∷ 0xfd ∷ 0xe2 ∷ 0x98 ∷ 0x25 ∷ 0xb3 ∷ 0x10 ∷ 0x91 ∷ 0x22 ∷ 0x88 ∷
-    0x36 ∷ 0xd0 ∷ 0x94 ∷ 0xce ∷ 0x8f ∷ 0x96 ∷ 0xdb ∷ 0xbd ∷ 0xf1 ∷ 0xd2 ∷ 0x13 ∷ 0x5c ∷ 0x83 ∷ 0x38 ∷ 0x46 ∷ 0x40 ∷
-    0x1e ∷ 0x42 ∷ 0xb6 ∷ 0xa3 ∷ 0xc3 ∷ 0x48 ∷ 0x7e ∷ 0x6e ∷ 0x6b ∷ 0x3a ∷ 0x28 ∷ 0x54 ∷ 0xfa ∷ 0x85 ∷ 0xba ∷ 0x3d ∷
-    0xca ∷ 0x5e ∷ 0x9b ∷ 0x9f ∷ 0x0a ∷ 0x15 ∷ 0x79 ∷ 0x2b ∷ 0x4e ∷ 0xd4 ∷ 0xe5 ∷ 0xac ∷ 0x73 ∷ 0xf3 ∷ 0xa7 ∷ 0x57 ∷
-    0x07 ∷ 0x70 ∷ 0xc0 ∷ 0xf7 ∷ 0x8c ∷ 0x80 ∷ 0x63 ∷ 0x0d ∷ 0x67 ∷ 0x4a ∷ 0xde ∷ 0xed ∷ 0x31 ∷ 0xc5 ∷ 0xfe ∷ 0x18 ∷
-    0xe3 ∷ 0xa5 ∷ 0x99 ∷ 0x77 ∷ 0x26 ∷ 0xb8 ∷ 0xb4 ∷ 0x7c ∷ 0x11 ∷ 0x44 ∷ 0x92 ∷ 0xd9 ∷ 0x23 ∷ 0x20 ∷ 0x89 ∷ 0x2e ∷
-    0x37 ∷ 0x3f ∷ 0xd1 ∷ 0x5b ∷ 0x95 ∷ 0xbc ∷ 0xcf ∷ 0xcd ∷ 0x90 ∷ 0x87 ∷ 0x97 ∷ 0xb2 ∷ 0xdc ∷ 0xfc ∷ 0xbe ∷ 0x61 ∷
-    0xf2 ∷ 0x56 ∷ 0xd3 ∷ 0xab ∷ 0x14 ∷ 0x2a ∷ 0x5d ∷ 0x9e ∷ 0x84 ∷ 0x3c ∷ 0x39 ∷ 0x53 ∷ 0x47 ∷ 0x6d ∷ 0x41 ∷ 0xa2 ∷
-    0x1f ∷ 0x2d ∷ 0x43 ∷ 0xd8 ∷ 0xb7 ∷ 0x7b ∷ 0xa4 ∷ 0x76 ∷ 0xc4 ∷ 0x17 ∷ 0x49 ∷ 0xec ∷ 0x7f ∷ 0x0c ∷ 0x6f ∷ 0xf6 ∷
-    0x6c ∷ 0xa1 ∷ 0x3b ∷ 0x52 ∷ 0x29 ∷ 0x9d ∷ 0x55 ∷ 0xaa ∷ 0xfb ∷ 0x60 ∷ 0x86 ∷ 0xb1 ∷ 0xbb ∷ 0xcc ∷ 0x3e ∷ 0x5a ∷
-    0xcb ∷ 0x59 ∷ 0x5f ∷ 0xb0 ∷ 0x9c ∷ 0xa9 ∷ 0xa0 ∷ 0x51 ∷ 0x0b ∷ 0xf5 ∷ 0x16 ∷ 0xeb ∷ 0x7a ∷ 0x75 ∷ 0x2c ∷ 0xd7 ∷
-    0x4f ∷ 0xae ∷ 0xd5 ∷ 0xe9 ∷ 0xe6 ∷ 0xe7 ∷ 0xad ∷ 0xe8 ∷ 0x74 ∷ 0xd6 ∷ 0xf4 ∷ 0xea ∷ 0xa8 ∷ 0x50 ∷ 0x58 ∷ 0xaf ∷ []
+pub worked-is : (a b : ℕ) → worked a b ≡ product a b
+unfolding worked
+worked-is a b = refl
 
-pub Tables : List ℕ → Type 0
-Tables t = t ≡ powers ++ logs
+pub record Halves (p l : List ℕ) : Type 0 where
+  pub powers : (k : ℕ) → k < order → getD p k 0 ≡ power α k
+  pub none : getD l 0 0 ≡ 0
+  pub logarithms : (a : ℕ) → 0 < a → a < size → (getD l a 0 < order) × (power α (getD l a 0) ≡ a)
 
--- ---- the powers
+pub record Tables (t : List ℕ) : Type 0 where
+  pub long : length t ≡ order + size
+  pub halves : Halves t (drop order t)
 
-double-at : ℕ → Bool
-double-at k = eqb (getD powers (suc k % order) 0) (double (getD powers k 0))
+-- ---- the rules
 
-double-test : T (every double-at order)
-unfolding sum modulus double powers double-at
-double-test = tt
+abbrev isTwice : List ℕ → ℕ → Bool
+isTwice p k = eqb (getD p (suc k) 0) (worked α (getD p k 0))
 
-pub powers-double : (k : ℕ) → k < order → getD powers (suc k % order) 0 ≡ double (getD powers k 0)
-unfolding double-at
-powers-double k h = eqb→eq _ _ (every-at double-at order double-test k h)
+abbrev pub isDoubled : List ℕ → Bool
+isDoubled p = eqb (getD p 0 0) 1 && every (isTwice p) (order - 1)
 
-powers-first : getD powers 0 0 ≡ 1
-unfolding powers
-powers-first = refl
+abbrev isPlace : List ℕ → List ℕ → ℕ → Bool
+isPlace p l a = ltb (getD l (suc a) 0) order && eqb (getD p (getD l (suc a) 0) 0) (suc a)
 
-pub powers-at : (k : ℕ) → k < order → getD powers k 0 ≡ power α k
-powers-at zero h = powers-first ∙ sym (power-zero α)
-powers-at (suc k) h =
-    let l : k < order = le-trans (le-suc (suc k)) h in
-    ap (λ (m : ℕ). getD powers m 0) (sym (mod-eq-of-lt h)) ∙ powers-double k l ∙ ap double (powers-at k l)
-    ∙ sym (alpha-product (power α k) (power-octet α k)) ∙ sym (power-suc α k)
+abbrev pub isUndone : List ℕ → List ℕ → Bool
+isUndone p l = eqb (getD l 0 0) 0 && every (isPlace p l) order
 
-pub alpha-around : power α order ≡ 1
-alpha-around =
-    power-suc α (order - 1) ∙ alpha-product (power α (order - 1)) (power-octet α (order - 1)) ∙ ap double (sym (powers-at (order - 1) (lit< tt)))
-    ∙ sym (powers-double (order - 1) (lit< tt)) ∙ powers-first
+powers-at : (p : List ℕ) → T (isDoubled p) → (k : ℕ) → k < order → getD p k 0 ≡ power α k
+powers-at p d zero h = eqb→eq _ _ (both-left (eqb (getD p 0 0) 1) (every (isTwice p) (order - 1)) d) ∙ sym (power-zero α)
+powers-at p d (suc k) h =
+    eqb→eq _ _
+    (every-at (isTwice p) (order - 1) (both-right (eqb (getD p 0 0) 1) (every (isTwice p) (order - 1)) d) k (le-of-suc-le-suc h))
+    ∙ worked-is α _ ∙ ap (product α) (powers-at p d k (omega arith)) ∙ sym (power-suc α k)
 
--- ---- the logarithms
+pub halves-of : (p l : List ℕ) → T (isDoubled p) → T (isUndone p l) → Halves p l
+halves-of p l d u = record {
+  powers = powers-at p d;
+  none = eqb→eq _ _ (both-left (eqb (getD l 0 0) 0) (every (isPlace p l) order) u);
+  logarithms = undone;
+}
+  where
+    undone : (a : ℕ) → 0 < a → a < size → (getD l a 0 < order) × (power α (getD l a 0) ≡ a)
+    undone zero z h = absurd (omega arith)
+    undone (suc a) z h =
+        let k = getD l (suc a) 0 in
+        let here : T (isPlace p l a) = every-at (isPlace p l) order (both-right (eqb (getD l 0 0) 0) (every (isPlace p l) order) u) a (le-of-suc-le-suc h) in
+        let b : k < order = ltb→lt k order (both-left (ltb k order) (eqb (getD p k 0) (suc a)) here) in
+        (b, sym (powers-at p d k b) ∙ eqb→eq _ _ (both-right (ltb k order) (eqb (getD p k 0) (suc a)) here))
 
-logs-fit : ℕ → Bool
-logs-fit a = ltb (getD logs a 0) order
+pub tables-of : (p l t : List ℕ) → length p ≡ order → length l ≡ size → Halves p l → t ≡ p ++ l → Tables t
+tables-of p l t pl ll h e = record {
+  long = ap length e ∙ length-append p l ∙ (rw (pl, ll));
+  halves = record {
+    powers = λ k b. ap (λ (x : List ℕ). getD x k 0) e ∙ List·getD-append p l 0 k (rw pl b) ∙ h .powers k b;
+    none = rw back (h .none);
+    logarithms = λ a z b. rw back (h .logarithms a z b);
+  };
+}
+  where
+    back : drop order t ≡ l
+    back = ap (drop order) e ∙ ap (λ (n : ℕ). drop n (p ++ l)) (sym pl) ∙ drop-append-seam p l
 
-logs-test : T (every logs-fit size)
-unfolding logs logs-fit
-logs-test = tt
-
-pub logs-lt : (a : ℕ) → a < size → getD logs a 0 < order
-unfolding logs-fit
-logs-lt a h = ltb→lt _ _ (every-at logs-fit size logs-test a h)
-
-back-at : ℕ → Bool
-back-at k = eqb (getD logs (getD powers k 0) 0) k
-
-back-test : T (every back-at order)
-unfolding powers logs back-at
-back-test = tt
-
-pub logs-power : (k : ℕ) → k < order → getD logs (power α k) 0 ≡ k
-unfolding back-at
-logs-power k h = ap (λ (x : ℕ). getD logs x 0) (sym (powers-at k h)) ∙ eqb→eq _ _ (every-at back-at order back-test k h)
-
-forth-at : ℕ → Bool
-forth-at a = eqb (getD powers (getD logs (suc a) 0) 0) (suc a)
-
-forth-test : T (every forth-at order)
-unfolding powers logs forth-at
-forth-test = tt
-
-pub power-logs : (a : ℕ) → 0 < a → a < size → power α (getD logs a 0) ≡ a
-unfolding forth-at
-power-logs zero p h = absurd (not-suc-le-zero p)
-power-logs (suc a) p h =
-    sym (powers-at (getD logs (suc a) 0) (logs-lt (suc a) h)) ∙ eqb→eq _ _ (every-at forth-at order forth-test a (le-of-suc-le-suc h))
-
--- ---- both tables
-
-pub tables-both : (t : List ℕ) → t ≡ powers ++ logs → Tables t
-unfolding Tables
-tables-both t e = e
-
-powers-long : length powers ≡ order
-unfolding powers
-powers-long = refl
-
-tables-front : (t : List ℕ) → Tables t → (k : ℕ) → k < order → getD t k 0 ≡ getD powers k 0
-unfolding Tables
-tables-front t e k h = ap (λ (l : List ℕ). getD l k 0) e ∙ List·getD-append powers logs 0 k (rw powers-long h)
-
-pub tables-power : (t : List ℕ) → Tables t → (k : ℕ) → k < order → getD t k 0 ≡ power α k
-tables-power t h k l = tables-front t h k l ∙ powers-at k l
-
-tables-back : (t : List ℕ) → Tables t → (a : ℕ) → getD t (order + a) 0 ≡ getD logs a 0
-unfolding Tables
-tables-back t e a =
-    ap (λ (l : List ℕ). getD l (order + a) 0) e ∙ ap (λ (n : ℕ). getD (powers ++ logs) (n + a) 0) (sym powers-long) ∙ getD-append-add powers logs a 0
+-- ---- what stands in them
 
 pub tables-log : (t : List ℕ) → Tables t → (a : ℕ) → a < size → (getD t (order + a) 0 < order) × (0 < a → power α (getD t (order + a) 0) ≡ a)
-tables-log t h a l = rw (tables-back t h a) (logs-lt a l, λ p. power-logs a p l)
+tables-log t h a b = rw (← getD-drop order t a 0) (at a b)
+  where
+    at : (a : ℕ) → a < size → (getD (drop order t) a 0 < order) × (0 < a → power α (getD (drop order t) a 0) ≡ a)
+    at zero b = (rw (h .halves .none) (lit< tt), λ z. absurd (omega arith))
+    at (suc a) b = (h .halves .logarithms (suc a) (omega arith) b .0, λ z. h .halves .logarithms (suc a) z b .1)
+
+pub tables-once : (t u : List ℕ) → Tables t → Tables u → t ≡ u
+tables-once t u h k = ext-getD 0 t u (h .long ∙ sym (k .long)) (λ i l. elim (decLt i order) [
+  | yes m ↦ h .halves .powers i m ∙ sym (k .halves .powers i m)
+  | no m ↦ (let e : i ≡ order + (i - order) = omega arith in rw (e, ← getD-drop order t _ 0, ← getD-drop order u _ 0) (same (i - order) (omega (arith, h .long))))
+])
+  where
+    same : (a : ℕ) → a < size → getD (drop order t) a 0 ≡ getD (drop order u) a 0
+    same zero m = h .halves .none ∙ sym (k .halves .none)
+    same (suc a) m =
+        let x = h .halves .logarithms (suc a) (omega arith) m in
+        let y = k .halves .logarithms (suc a) (omega arith) m in
+        powers-distinct _ _ (x .0) (y .0) (x .1 ∙ sym (y .1))

@@ -27,7 +27,7 @@ is-sealed-requires c κs =
     let from = r .before .before .before .before .before in
     let a = from .args in
     let k : kindOf (a .w) .octets ≤ length (now (a .received)) - 2 * a .e = omega (arith, from .pre) in
-    rw (c .front .ensures) (fits-front _ _ (r .repair .last .1 .1 .0) (omega (arith, r .repair .kept .1 .1 .0, from .pre)) k)
+    rw (c .front .ensures) (fits-front _ _ _ (omega (arith, r .repair .kept .1 .1 .0, from .pre)) k)
 
 returns-2 : tie.Need-returns-2
 returns-2 c =

@@ -22,13 +22,11 @@ loop-holds c = (search needs, search needs, register-start _ (search needs))
 
 loop-again : tie.Need-loop-again Inv-loop μ-loop
 loop-again c =
-    let l = c .before .before .before .before .before .before .loop in
-    let u = now (c .before .before .before .before .before .before .before .before .before .args .message) in (
+    let l = c .before .before .before .before .before .loop in
+    let u = now (c .before .before .before .before .before .before .before .before .args .message) in (
       search needs,
       search needs,
-      register-next _ (l .i) _ u _ (l .p) _ (search needs) (l .inv .1) (search needs) refl (c .before .before .shared-slice-known2 .given (l .i) .fits)
-          (l .inv .2)
-          (c .before .turn .ensures),
+      register-next _ (l .i) _ u _ (l .p) _ (search needs) (l .inv .1) (search needs) refl (l .inv .2) (c .turn .ensures),
     )
 
 returns : tie.Need-returns Inv-loop μ-loop
@@ -41,5 +39,5 @@ returns c =
 pub parity-spec : {M : Type 1} → statement M
 parity-spec =
     tie.close
-    (tie.spec Inv-loop μ-loop (λ c κs. search needs) loop-holds (λ c. search needs) (λ c. search needs) (λ c. search needs)
-    (λ c κs. search needs) (λ c. search needs) (λ c. search needs) loop-again returns)
+    (tie.spec Inv-loop μ-loop (λ c κs. search needs) loop-holds (λ c. search needs) (λ c κs. search needs) (λ c. search needs)
+    (λ c. search needs) loop-again returns)

@@ -11,10 +11,10 @@ use Rattle.codeword.proofs.encoding.turn.Statement.{statement}
 use Rattle.codeword.proofs.encoding.turn.Tie as tie
 
 abbrev Inv-loop : tie.InvT-loop
-Inv-loop p₀ g m a t feedback j₀ p j = (j ≤ m) × Turned g j a p₀ p × (feedback ≡ Octet.sum (getD p₀ 0 0) a)
+Inv-loop g m a t p₀ feedback j₀ p j = (j ≤ m) × Turned g j a p₀ p × (feedback ≡ Octet.sum (getD p₀ 0 0) a)
 
 abbrev μ-loop : tie.MeasureT-loop
-μ-loop p₀ g m a t feedback j₀ p j = m - j
+μ-loop g m a t p₀ feedback j₀ p j = m - j
 
 loop-again : tie.Need-loop-again Inv-loop μ-loop
 loop-again c =
@@ -24,7 +24,7 @@ loop-again c =
 returns : tie.Need-returns Inv-loop μ-loop
 returns c =
     let l = c .before .loop in
-    let e : l .j ≡ c .before .before .before .before .before .before .args .m = omega arith in
+    let e : l .j ≡ c .before .before .before .before .before .args .m = omega arith in
     rw e at (l .inv .1)
 
 pub turn-spec : {M : Type 1} → statement M
@@ -32,4 +32,4 @@ turn-spec =
     tie.close
     (tie.spec Inv-loop μ-loop (λ c. search needs) (λ c κs. search needs) (λ c. search needs) (λ c. search needs)
     (λ c. search needs) (λ c. search needs) (λ c. search needs) (λ c κs. search needs) (λ c κs. search needs) (λ c. search needs)
-    (λ c. search needs) (λ c. search needs) loop-again (λ c. search needs) returns)
+    (λ c. search needs) (λ c. search needs) loop-again returns)

@@ -19,11 +19,7 @@ loop-holds c = (search needs, sym (discrepancy-start _ _ _))
 loop-again : tie.Need-loop-again Inv-loop μ-loop
 loop-again c =
     let l = c .before .before .before .before .before .loop in
-    let a = c .before .before .before .before .before .before .before .before .args in (
-      search needs,
-      c .sum .ensures ∙ (rw (c .before .product-by .ensures, l .inv .1) (sym (discrepancy-next _ _ _ (l .j)
-          (c .before .before .before .shared-slice-known3 .given (l .j) .fits) (c .before .before .shared-slice-known4 .given (a .r - l .j) .fits)))),
-    )
+    (search needs, c .sum .ensures ∙ (rw (c .before .product-by .ensures, l .inv .1) (sym (discrepancy-next _ _ _ (l .j)))))
 
 returns : tie.Need-returns Inv-loop μ-loop
 returns c = c .before .loop .inv .1 ∙ discrepancy-is _ _ _ _ (c .before .loop .j) (omega arith)

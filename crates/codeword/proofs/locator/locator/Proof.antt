@@ -14,13 +14,13 @@ abbrev μ-loop : tie.MeasureT-loop
 μ-loop s m t c₀ b₀ g₀ r₀ c b g r = m - r
 
 loop-holds : tie.Need-loop-holds Inv-loop μ-loop
-loop-holds c = (search needs, massey-start _ (search needs))
+loop-holds c = (search needs, massey-start _)
 
 step-requires : tie.Need-step-requires Inv-loop μ-loop
 step-requires c κs = ((search needs, search needs, search needs), search needs)
 
 loop-again : tie.Need-loop-again Inv-loop μ-loop
-loop-again c = (search needs, c .before .before .step .ensures)
+loop-again c = (search needs, c .step .ensures)
 
 returns : tie.Need-returns Inv-loop μ-loop
 returns c = massey-done (omega arith) (c .before .loop .inv .1)
@@ -28,5 +28,5 @@ returns c = massey-done (omega arith) (c .before .loop .inv .1)
 pub locator-spec : {M : Type 1} → statement M
 locator-spec =
     tie.close
-    (tie.spec Inv-loop μ-loop (λ c. search needs) (λ c. search needs) loop-holds (λ c. search needs) (λ c. search needs)
-    (λ c. search needs) step-requires (λ c. search needs) (λ c. search needs) loop-again returns)
+    (tie.spec Inv-loop μ-loop (λ c. search needs) (λ c. search needs) loop-holds (λ c. search needs) step-requires
+    (λ c. search needs) (λ c. search needs) loop-again returns)

@@ -9,32 +9,26 @@ use Rattle.codeword.proofs.locator.mend.Statement.{statement}
 use Rattle.codeword.proofs.locator.mend.Tie as tie
 
 abbrev Inv-loop : tie.InvT-loop
-Inv-loop c₀ b q shift top t j₀ c j = (shift ≤ j) × (j ≤ top) × Mended j q shift c₀ b c
+Inv-loop b q shift top t c₀ j₀ c j = (shift ≤ j) × (j ≤ top) × Mended j q shift c₀ b c
 
 abbrev μ-loop : tie.MeasureT-loop
-μ-loop c₀ b q shift top t j₀ c j = top - j
+μ-loop b q shift top t c₀ j₀ c j = top - j
 
 loop-holds : tie.Need-loop-holds Inv-loop μ-loop
-loop-holds c = (search needs, search needs, mended-start (λ i. c .before .slice-known .given i .fits))
+loop-holds c = (search needs, search needs, mended-start)
 
 loop-again : tie.Need-loop-again Inv-loop μ-loop
 loop-again c =
     let l = c .before .before .before .before .before .loop in
-    let a = c .before .before .before .before .before .before .before .before .args in (
-      search needs,
-      search needs,
-      mended-next (l .inv .2) (l .inv .0) (omega arith)
-          (c .before .before .before .before .before .before .before .before .fits .q .fits)
-          (c .before .before .shared-slice-known2 .given (l .j - a .shift) .fits) (cc),
-    )
+    (search needs, search needs, mended-next (l .inv .2) (l .inv .0) (omega arith) (cc))
 
 returns : tie.Need-returns Inv-loop μ-loop
 returns c =
-    let e : c .before .loop .j ≡ c .before .before .before .before .args .top = omega arith in
+    let e : c .before .loop .j ≡ c .before .before .before .args .top = omega arith in
     rw e at (c .before .loop .inv .2)
 
 pub mend-spec : {M : Type 1} → statement M
 mend-spec =
     tie.close
     (tie.spec Inv-loop μ-loop loop-holds (λ c. search needs) (λ c. search needs) (λ c. search needs) (λ c κs. search needs)
-    (λ c κs. search needs) (λ c. search needs) (λ c. search needs) (λ c. search needs) loop-again (λ c. search needs) returns)
+    (λ c κs. search needs) (λ c. search needs) (λ c. search needs) (λ c. search needs) loop-again returns)

@@ -1,42 +1,29 @@
 -- The discrepancy decides which of the three steps of the theory this is. Assumes nothing.
 use borrow.Author.Needs.{needs}
-use mathlib.Core.Path.{_≡_, sym, _∙_}
-use denote.Ref.{now}
 use Rattle.codeword.proofs.Stepping.{massey-zero, massey-keep, massey-grow}
-use Rattle.codeword.proofs.Arrays.{zeros}
-use Rattle.octets.specs.Written.{written-all}
 use Rattle.codeword.proofs.locator.step.Statement.{statement}
 use Rattle.codeword.proofs.locator.step.Tie as tie
 
 returns : tie.Need-returns
-returns c = massey-zero (c .before .before .before .before .before .before .pre .0 .2) (c .before .discrepancy .ensures) (c .if1 .taken)
+returns c = massey-zero (c .before .before .before .pre .0 .2) (c .before .discrepancy .ensures) (c .if1 .taken)
 
 returns-2 : tie.Need-returns-2
 returns-2 c =
-    let mended = c .before .before .before .before .before .before .before in
-    let copied = mended .before .before .before .before in
-    let grows = copied .before .before .before in
-    let start = grows .before .before .before .before .before .before .before .before .before in
-    let a = start .args in
-    let h = start .pre .0 .2 in
-    let old : copied .write .last .0 ≡ now (a .c) = copied .write .ensures ∙ written-all zeros (now (a .c)) (sym (h .c-array .long)) in
-    let kept : c .before .before .write2 .last .0 ≡ now (a .c) =
-    c .before .before .write2 .ensures ∙ (rw old (written-all (now (a .b)) (now (a .c)) (h .b-array .long ∙ sym (h .c-array .long)))) in
-    rw kept (massey-grow h (grows .before .before .before .before .discrepancy .ensures) (start .pre .0 .0)
-    (rw (grows .before .product-by .ensures, grows .before .before .inverse-by .ensures) at (mended .mend .ensures))
-    (grows .before .before .before .if1 .left) (grows .if2 .taken))
+    let grows = c .before .before .before .before in
+    let start = grows .before .before .before .before .before .before in
+    massey-grow (start .pre .0 .2) (grows .before .before .before .before .discrepancy .ensures) (start .pre .0 .0)
+    (rw (grows .before .product-by .ensures, grows .before .before .inverse-by .ensures) at (c .mend .ensures))
+    (grows .before .before .before .if1 .left) (grows .if2 .taken)
 
 returns-3 : tie.Need-returns-3
 returns-3 c =
-    let keeps = c .before .before .before .before .before in
-    let start = keeps .before .before .before .before .before .before .before .before .before in
+    let keeps = c .before .before .before in
+    let start = keeps .before .before .before .before .before .before in
     massey-keep (start .pre .0 .2) (keeps .before .before .before .before .discrepancy .ensures) (start .pre .0 .0)
-    (rw (keeps .before .product-by .ensures, keeps .before .before .inverse-by .ensures) at (c .before .before .mend2 .ensures)) (keeps .if2 .left)
+    (rw (keeps .before .product-by .ensures, keeps .before .before .inverse-by .ensures) at (c .mend2 .ensures)) (keeps .if2 .left)
 
 pub step-spec : {M : Type 1} → statement M
 step-spec =
     tie.close
-    (tie.spec (λ c κs. search needs) (λ c. search needs) (λ c. search needs) returns (λ c κs. search needs) (λ c κs. search needs)
-    (λ c. search needs) (λ c. search needs) (λ c κs. search needs) (λ c κs. search needs) (λ c. search needs)
-    (λ c κs. search needs) (λ c. search needs) (λ c. search needs) (λ c. search needs) (λ c. search needs) returns-2
-    (λ c κs. search needs) (λ c. search needs) (λ c. search needs) (λ c. search needs) returns-3)
+    (tie.spec (λ c κs. search needs) (λ c. search needs) returns (λ c κs. search needs) (λ c κs. search needs) (λ c. search needs)
+    (λ c κs. search needs) (λ c. search needs) (λ c. search needs) returns-2 (λ c κs. search needs) (λ c. search needs) returns-3)

@@ -9,10 +9,10 @@ use Rattle.codeword.proofs.syndromes.absorb.Statement.{statement}
 use Rattle.codeword.proofs.syndromes.absorb.Tie as tie
 
 abbrev Inv-loop : tie.InvT-loop
-Inv-loop s₀ x m a t i₀ s i = (i ≤ m) × Absorbed i a x s₀ s
+Inv-loop x m a t s₀ i₀ s i = (i ≤ m) × Absorbed i a x s₀ s
 
 abbrev μ-loop : tie.MeasureT-loop
-μ-loop s₀ x m a t i₀ s i = m - i
+μ-loop x m a t s₀ i₀ s i = m - i
 
 loop-again : tie.Need-loop-again Inv-loop μ-loop
 loop-again c =
@@ -21,7 +21,7 @@ loop-again c =
 
 returns : tie.Need-returns Inv-loop μ-loop
 returns c =
-    let e : c .before .loop .i ≡ c .before .before .before .before .args .m = omega arith in
+    let e : c .before .loop .i ≡ c .before .before .before .args .m = omega arith in
     rw e at (c .before .loop .inv .1)
 
 pub absorb-spec : {M : Type 1} → statement M
@@ -29,4 +29,4 @@ absorb-spec =
     tie.close
     (tie.spec Inv-loop μ-loop (λ c. (search needs, absorbed-start)) (λ c. search needs) (λ c. search needs)
     (λ c κs. search needs) (λ c κs. search needs) (λ c. search needs) (λ c. search needs) (λ c. search needs) loop-again
-    (λ c. search needs) returns)
+    returns)

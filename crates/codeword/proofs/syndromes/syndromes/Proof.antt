@@ -22,12 +22,11 @@ loop-holds c = (search needs, search needs, syndromes-start)
 
 loop-again : tie.Need-loop-again Inv-loop μ-loop
 loop-again c =
-    let l = c .before .before .before .before .before .before .loop in
-    let w = now (c .before .before .before .before .before .before .before .before .before .args .word) in (
+    let l = c .before .before .before .before .before .loop in
+    let w = now (c .before .before .before .before .before .before .before .before .args .word) in (
       search needs,
       search needs,
-      syndromes-next _ (l .i) _ w _ (l .s) _ (l .inv .1) (search needs) refl (c .before .before .shared-slice-known2 .given (l .i) .fits) (l .inv .2)
-          (c .before .absorb .ensures),
+      syndromes-next _ (l .i) _ w _ (l .s) _ (l .inv .1) (search needs) refl (l .inv .2) (c .absorb .ensures),
     )
 
 returns : tie.Need-returns Inv-loop μ-loop
@@ -40,5 +39,5 @@ returns c =
 pub syndromes-spec : {M : Type 1} → statement M
 syndromes-spec =
     tie.close
-    (tie.spec Inv-loop μ-loop (λ c κs. search needs) loop-holds (λ c. search needs) (λ c. search needs) (λ c. search needs)
-    (λ c κs. search needs) (λ c. search needs) (λ c. search needs) loop-again returns)
+    (tie.spec Inv-loop μ-loop (λ c κs. search needs) loop-holds (λ c. search needs) (λ c κs. search needs) (λ c. search needs)
+    (λ c. search needs) loop-again returns)

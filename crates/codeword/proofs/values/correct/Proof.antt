@@ -18,33 +18,34 @@ abbrev μ-loop : tie.MeasureT-loop
 μ-loop w₀ n at l o d t j₀ w j = l - j
 
 loop-holds : tie.Need-loop-holds Inv-loop μ-loop
-loop-holds c = (search needs, corrected-start (λ i. c .before .before .before .slice-known .given i .fits))
+loop-holds c = (search needs, corrected-start (λ i. c .slice-known .given i .fits))
 
 cast-p : tie.Need-cast-p Inv-loop μ-loop
-cast-p c = omega (arith, c .shared-slice-known4 .given (c .before .before .loop .j))
+cast-p c =
+    let start = c .before .before .before .before in
+    omega (arith, start .pre .1 .0 (c .before .before .loop .j) (c .before .loop-test .taken), start .pre .0)
 
 inverse-locator-requires : tie.Need-inverse-locator-requires Inv-loop μ-loop
 inverse-locator-requires c κs =
-    let l = c .before .before .loop in
-    ((c .before .before .before .before .before .before .before .pre .1 .0 (l .j) (c .before .loop-test .taken), search needs), search needs)
+    ((c .before .before .before .before .pre .1 .0 (c .before .before .loop .j) (c .before .loop-test .taken), search needs), search needs)
 
 slice-read-sum : tie.Need-slice-read-sum Inv-loop μ-loop
 slice-read-sum c =
     let turn = c .before .before .before .before in
     let l = turn .before .loop in
-    omega (arith, turn .before .before .before .before .before .before .pre .1 .0 (l .j) (turn .loop-test .taken), l .inv .1 .long)
+    omega (arith, turn .before .before .before .pre .1 .0 (l .j) (turn .loop-test .taken), l .inv .1 .long)
 
 slice-write-w : tie.Need-slice-write-w Inv-loop μ-loop
 slice-write-w c =
     let turn = c .before .before .before .before .before in
     let l = turn .before .loop in
-    omega (arith, turn .before .before .before .before .before .before .pre .1 .0 (l .j) (turn .loop-test .taken), l .inv .1 .long)
+    omega (arith, turn .before .before .before .pre .1 .0 (l .j) (turn .loop-test .taken), l .inv .1 .long)
 
 loop-again : tie.Need-loop-again Inv-loop μ-loop
 loop-again c =
     let turn = c .before .before .before .before .before in
     let l = turn .before .loop in
-    let start = turn .before .before .before .before .before .before in
+    let start = turn .before .before .before in
     let a = start .args in
     let pre = start .pre .1 in
     let in-loop = turn .loop-test .taken in (
@@ -57,7 +58,7 @@ loop-again c =
 
 returns : tie.Need-returns Inv-loop μ-loop
 returns c =
-    let e : c .before .loop .j ≡ c .before .before .before .before .before .before .args .l = omega arith in
+    let e : c .before .loop .j ≡ c .before .before .before .args .l = omega arith in
     corrected-done e (c .before .loop .inv .1)
 
 pub correct-spec : {M : Type 1} → statement M

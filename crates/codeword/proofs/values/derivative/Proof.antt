@@ -18,7 +18,7 @@ loop-holds c = (search needs, derivative-start)
 loop-again : tie.Need-loop-again Inv-loop μ-loop
 loop-again c =
     let l = c .before .before .loop in
-    (search needs, derivative-next (l .h) _ (l .d) (search needs) (c .shared-slice-known .given (2 * l .h + 1) .fits) (l .inv .1))
+    (search needs, derivative-next (l .h) _ (l .d) (search needs) (l .inv .1))
 
 returns : tie.Need-returns Inv-loop μ-loop
 returns c = derivative-done _ (c .before .loop .h) _ _ (omega arith) (c .before .loop .inv .1)

@@ -24,7 +24,7 @@ loop-again c =
 
 returns : tie.Need-returns Inv-loop μ-loop
 returns c =
-    let e : c .before .loop .k ≡ c .before .before .before .before .args .l = omega arith in
+    let e : c .before .loop .k ≡ c .before .before .args .l = omega arith in
     rw e at (c .before .loop .inv .1)
 
 pub evaluator-spec : {M : Type 1} → statement M

@@ -9,7 +9,7 @@ use Rattle.multiplex.proofs.demultiplexer.note.Statement.{statement}
 use Rattle.multiplex.proofs.demultiplexer.note.Tie as tie
 
 returns : tie.Need-returns
-returns c = rw (add-one, add-two) (sets-eq (listed (c .args .channel) (c .args .start) (c .args .len)) (now (c .args .units)) (c .args .at) (search needs))
+returns c = rw (add-one, add-two) (sets-eq (listed (c .args .channel .0) (c .args .start) (c .args .len)) (now (c .args .units)) (c .args .at) (search needs))
 
 pub note-spec : {M : Type 1} → statement M
 note-spec =

@@ -4,7 +4,7 @@ use native.Mathlib.Omega.{arith}
 use native.Mathlib.Nat.{pos-of-ne-zero}
 use mathlib.Core.Path.{sym, ap, _∙_}
 use denote.Ref.{now}
-use Rattle.table.specs.Form.{andThen, listAt}
+use Rattle.table.specs.Cursor.{andThen, listAt}
 use Rattle.table.proofs.Reading.{is-channel, is-malformed, too-deep, is-list, none-left, one-more, deeper, onward}
 use Prim.Native.Nat.{ℕ, _+_, _*_, _-_, _<_}
 use borrow.Fn.Kinds.{In}

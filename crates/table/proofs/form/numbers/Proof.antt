@@ -1,7 +1,7 @@
 -- `table::form::numbers` meets its contract. Assumes nothing.
 use borrow.Author.Needs.{needs}
 use borrow.Author.Tests.{lt-ltb, le-ltb, eq-eqb, ne-eqb}
-use Rattle.table.specs.Form.{headAt}
+use Rattle.table.specs.Cursor.{headAt}
 use Rattle.table.proofs.form.numbers.Statement.{statement}
 use Rattle.table.proofs.form.numbers.Tie as tie
 

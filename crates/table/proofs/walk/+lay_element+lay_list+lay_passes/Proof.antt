@@ -5,8 +5,10 @@ use Prim.Native.Nat.{_+_, _-_, _*_, _≤_}
 use native.Mathlib.Nat.{pos-of-ne-zero, sub-zero}
 use native.Mathlib.Omega.{arith}
 use denote.Ref.{now}
-use Rattle.table.specs.Slots.{copies, skip, elementSlots, listSlots}
-use Rattle.table.proofs.Cutting.{element-filled, list-filled}
+use Rattle.table.specs.Cursor.{skip}
+use Rattle.table.specs.Slots.{copies}
+use Rattle.table.specs.Lays.{elementSlots, listSlots}
+use Rattle.table.proofs.Expanding.{element-slots-filled, list-slots-filled}
 use Rattle.table.proofs.Laying.{lays-empty, Under, under-way, under-turn, under-done, under-idle}
 use Rattle.table.proofs.Passing.{as-channel, as-flat, as-inner, inner-inside, list-rest, list-done, list-idle, copies-rest, copies-done, copies-idle}
 use Prim.Native.Nat.{ℕ, _<_}
@@ -179,7 +181,7 @@ lay-list-returns t c =
     let l = c .before .before .before .before .before .before .before .before .before .before .loop in
     let s = now (a .s) in
     under-idle (l .inv .1) (elementSlots s (a .depth) (l .place)) (listSlots s (a .depth) (a .count - (l .t + 1)) (skip s (a .depth) (l .place)))
-    (element-filled s (a .depth) (l .place))
+    (element-slots-filled s (a .depth) (l .place))
     (c .before .before .before .before .before .before .lay-element .ensures)
     (list-rest (a .count) (l .t) s (a .depth) (l .place) _ refl (c .before .before .before .before .before .before .before .before .before .loop-test .taken))
     (list-idle s (a .depth) (a .count - (l .t + 1)) (l .place)) (c .if1 .taken)
@@ -200,7 +202,7 @@ lay-list-loop-again t c =
     let s = now (a .s) in (
       omega arith,
       under-turn (l .inv .1) (elementSlots s (a .depth) (l .place)) (listSlots s (a .depth) (a .count - (l .t + 1)) (c .after .result))
-          (element-filled s (a .depth) (l .place))
+          (element-slots-filled s (a .depth) (l .place))
           (c .before .before .before .before .before .before .before .lay-element .ensures)
           (list-rest (a .count) (l .t) s (a .depth) (l .place) _ (c .after .ensures)
           (c .before .before .before .before .before .before .before .before .before .before .loop-test .taken)),
@@ -263,7 +265,7 @@ lay-passes-returns t c =
     let a = c .before .before .before .before .before .before .before .before .before .before .before .before .before .before .args in
     let l = c .before .before .before .before .before .before .before .before .before .before .loop in
     let x = listSlots (now (a .s)) (a .depth) (a .count) (a .at) in
-    under-idle (l .inv .1) x (copies (a .n - (l .t + 1)) x) (list-filled (now (a .s)) (a .depth) (a .count) (a .at))
+    under-idle (l .inv .1) x (copies (a .n - (l .t + 1)) x) (list-slots-filled (now (a .s)) (a .depth) (a .count) (a .at))
     (c .before .before .before .before .before .before .lay-list .ensures)
     (copies-rest (a .n) (l .t) x (c .before .before .before .before .before .before .before .before .before .loop-test .taken))
     (copies-idle (a .n - (l .t + 1)) x) (c .if1 .taken)
@@ -301,7 +303,7 @@ lay-passes-loop-again t c =
     let l = c .before .before .before .before .before .before .before .before .before .before .loop in
     let x = listSlots (now (a .s)) (a .depth) (a .count) (a .at) in (
       omega arith,
-      under-turn (l .inv .1) x (copies (a .n - (l .t + 1)) x) (list-filled (now (a .s)) (a .depth) (a .count) (a .at))
+      under-turn (l .inv .1) x (copies (a .n - (l .t + 1)) x) (list-slots-filled (now (a .s)) (a .depth) (a .count) (a .at))
           (c .before .before .before .before .before .before .lay-list .ensures)
           (copies-rest (a .n) (l .t) x (c .before .before .before .before .before .before .before .before .before .loop-test .taken)),
     )

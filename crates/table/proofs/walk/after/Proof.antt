@@ -1,6 +1,6 @@
 -- `table::walk::after` meets its contract. Assumes nothing.
 use borrow.Author.Needs.{needs}
-use Rattle.table.specs.Slots.{skip}
+use Rattle.table.specs.Cursor.{skip}
 use Rattle.table.proofs.walk.after.Statement.{statement}
 use Rattle.table.proofs.walk.after.Tie as tie
 

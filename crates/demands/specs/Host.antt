@@ -1,0 +1,76 @@
+-- Demands 1 and 3 of what the C host calls: of the numbers that the entries answer, as the header's functions read them
+-- (crates/kyteblossom/specs/Header.antt, by the same names as `kyte_badge` and the others).
+--
+--   foundBadge x d a     document 01's badge of a word for which a code word was found: x if there is neither check nor code, d octets in
+--                        which they differ, a if its check agrees
+--   FoundTold            what a host is told of a word, and finds in the lent octets, where the code word c lies within e octets
+--   HostRepairs          what demand 3 says of one answer of kyte_receive
+--   SentTold             what a host is told of a unit of which d octets changed on the way
+--   Host                 demands 1 and 3 of the entries; proofs/Hosted.antt proves it
+--
+-- Assumes nothing.
+use mathlib.Core.Path.{_≡_}
+use mathlib.Core.Logic.{_↔_}
+use mathlib.Core.Bool.{Bool, true, false, cond, _&&_}
+use mathlib.Core.List.{List}
+use Prim.Native.Nat.{ℕ, zero, suc, _-_, _*_, _≤_}
+use lib.IntN.{ℤ, pos}
+use lib.ListN.{length, take, drop}
+use Rattle.codeword.specs.CodeWord.{distance, Within}
+use Rattle.adaptation.specs.Check.{agrees}
+use Rattle.adaptation.specs.Width.{kindAt}
+use Rattle.adaptation.specs.Receiving.{isBare, unitLength}
+use Rattle.kyteblossom.specs.Answer.{EncodeIs, ReceiveIs}
+use Rattle.kyteblossom.specs.Header.{isBelow, toldBadge, toldChanged, toldLength, toldUnit, isChecked, isTrusted}
+use Rattle.kyteblossom.specs.Claims.{LengthAnswered, EncodeAnswered, ReceiveAnswered}
+
+abbrev pub foundBadge : Bool → ℕ → Bool → ℕ
+foundBadge x d false = 3
+foundBadge x zero true = cond x 4 0
+foundBadge x (suc d) true = 1
+
+-- a check of b bits and e repairs, the word w, what was lent for the repair before and after, and the answer
+module _ (b e : ℕ) (w before after : List ℕ) (r : ℤ) where
+  pub record FoundTold (c : List ℕ) : Type 0 where
+    -- it stands in the repair buffer, and nothing behind it has changed
+    pub front : take (length w) after ≡ c
+    pub rest : drop (length w) after ≡ drop (length w) before
+    -- kyte_changed, kyte_badge and kyte_trusted
+    pub changed : toldChanged r ≡ distance w c
+    pub badge : toldBadge r ≡ pos (foundBadge (isBare (kindAt b) e) (distance w c) (agrees (kindAt b) (take (length w - 2 * e) c)))
+    pub trusted : isTrusted r b ≡ (isChecked b && agrees (kindAt b) (take (length w - 2 * e) c))
+    -- kyte_unit, where its check agrees, or there is none
+    pub unit : agrees (kindAt b) (take (length w - 2 * e) c) ≡ true → toldUnit r w after ≡ take (toldLength r) c
+
+  pub record HostRepairs : Type 0 where
+    -- kyte_unit_length
+    pub long : toldLength r ≡ unitLength (kindAt b) e (length w)
+    -- kyte_unit, but where it is corrected: a part of the received word
+    pub asReceived : (toldBadge r ≡ pos 1 → ⊥) → toldUnit r w after ≡ take (toldLength r) w
+    -- badge 2 is told exactly if no code word lies within e octets; nothing has changed then, and nothing is trusted
+    pub lost : toldBadge r ≡ pos 2 ↔ ((c : List ℕ) → Within e w c → ⊥)
+    pub untouched : toldBadge r ≡ pos 2 → (toldChanged r ≡ 0) × (after ≡ before) × (isTrusted r b ≡ false)
+    -- a repaired word is found exactly when one does
+    pub found : (toldBadge r ≡ pos 2 → ⊥) ↔ ((c : List ℕ) × Within e w c)
+    pub repaired : (c : List ℕ) → Within e w c → FoundTold c
+
+-- the unit u, handed up with the octets w received and what was lent for the repair
+pub record SentTold (b e d : ℕ) (u w after : List ℕ) (r : ℤ) : Type 0 where
+  -- 0 where nothing changed, 1 where it was repaired; 4 for 0, where there is neither check nor code
+  pub badge : toldBadge r ≡ pos (foundBadge (isBare (kindAt b) e) d true)
+  pub changed : toldChanged r ≡ d
+  pub long : toldLength r ≡ length u
+  pub unit : toldUnit r w after ≡ u
+  pub trusted : isTrusted r b ≡ isChecked b
+
+pub record Host : Type 0 where
+  -- demand 1: an answer is below 0 exactly on a refusal, by the first test that holds, and nothing lent has changed then
+  pub lengths : LengthAnswered
+  pub encoding : EncodeAnswered
+  pub receiving : ReceiveAnswered
+  -- demand 3
+  pub repairs : (b e : ℕ) (w before after : List ℕ) (r : ℤ) → ReceiveIs b e w before r after → isBelow r ≡ false → HostRepairs b e w before after r
+  -- what kyte_encode wrote in m octets, of which at most e changed, with room for the repair
+  pub asSent : (b e m : ℕ) (u room sent w before after : List ℕ) (r : ℤ) → EncodeIs b e u room (pos m) sent
+      → length w ≡ m → distance w (take m sent) ≤ e → m ≤ length before → ReceiveIs b e w before r after
+      → SentTold b e (distance w (take m sent)) u w after r

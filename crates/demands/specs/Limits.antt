@@ -1,0 +1,62 @@
+-- Document 01's numbers, each where it decides: what a definition changed together with its code would get past, were it not said here in
+-- the paper's words.
+--
+--   Limits     the numbers; proofs/Limited.antt proves it
+--
+-- Assumes nothing.
+use mathlib.Core.Path.{_≡_}
+use mathlib.Core.Logic.{_↔_, _⊎_}
+use mathlib.Core.Bool.{Bool, true}
+use mathlib.Core.List.{List}
+use Prim.Native.Nat.{ℕ, _+_, _*_, _≤_, _<_}
+use lib.ListN.{length}
+use Rattle.calls.specs.Refusal.{refused, told, refusal}
+use Rattle.adaptation.specs.AL1M as al1m
+use Rattle.adaptation.specs.Sending.{encodeTests}
+use Rattle.adaptation.specs.Receiving.{isWord, receiveTests}
+use Rattle.adaptation.specs.AL1.{passTests}
+use Rattle.adaptation.specs.AL2 as al2
+use Rattle.adaptation.specs.declared.al2.Number.{Number}
+use Rattle.adaptation.specs.declared.al2.Number.the-variants.{Numbered, Plain}
+use Rattle.table.specs.Limits.{TableLimits}
+use Rattle.table.specs.Table.{isDefined}
+use Rattle.channels.specs.declared.Channel.{Channel}
+use Rattle.channels.specs.declared.Channels.{Channels}
+use Rattle.channels.specs.Channels.{start, postTests}
+use Rattle.multiplex.specs.Demultiplexer.{Delivery, DemuxLent, roomIn, tooSmall, demultiplexTests}
+use Rattle.multiplex.specs.Multiplexer.{MuxLent, multiplexTests}
+
+pub record Limits : Type 0 where
+  -- refusal 1: the check's width is not 0, 8 or 16, or e is over 127
+  pub settings : (b e : ℕ) → al1m.isSetting b e ≡ true ↔ (((b ≡ 0) ⊎ ((b ≡ 8) ⊎ (b ≡ 16))) × (e ≤ 127))
+  -- "AL1M units": t at least 1, and t + l + 2e at most 255; received, no more than 255 octets and no fewer than 1 + l + 2e
+  pub plainSent : (t e : ℕ) → al1m.isSendable t 0 e ≡ true ↔ ((1 ≤ t) × (t + 0 + 2 * e ≤ 255))
+  pub eightSent : (t e : ℕ) → al1m.isSendable t 8 e ≡ true ↔ ((1 ≤ t) × (t + 1 + 2 * e ≤ 255))
+  pub sixteenSent : (t e : ℕ) → al1m.isSendable t 16 e ≡ true ↔ ((1 ≤ t) × (t + 2 + 2 * e ≤ 255))
+  pub plainWord : (n e : ℕ) → isWord n 0 e ≡ true ↔ ((n ≤ 255) × (1 + 0 + 2 * e ≤ n))
+  pub eightWord : (n e : ℕ) → isWord n 8 e ≡ true ↔ ((n ≤ 255) × (1 + 1 + 2 * e ≤ n))
+  pub sixteenWord : (n e : ℕ) → isWord n 16 e ≡ true ↔ ((n ≤ 255) × (1 + 2 + 2 * e ≤ n))
+  -- "AL1 and AL2": units have at least 1 octet, the whole at most 1,024
+  pub passed : (u : List ℕ) → refusal (passTests u) ≡ told tt ↔ ((1 ≤ length u) × (length u ≤ 1024))
+  pub numbered : (n : ℕ) (u : List ℕ) → al2.isSendable (Numbered n) u ≡ true ↔ ((1 ≤ length u) × (1 + length u + 1 ≤ 1024))
+  pub unnumbered : (u : List ℕ) → al2.isSendable Plain u ≡ true ↔ ((1 ≤ length u) × (length u + 1 ≤ 1024))
+  -- "Multiplexer": a unit that waits has 1 to 1,024 octets, and the room is up to 255
+  pub posted : (s : Channels) (n : ℕ) (u : List ℕ) → refusal (postTests s n u) ≡ refused 2 ↔ ((1 ≤ length u) × (length u ≤ 1024) → ⊥)
+  pub room : (x : MuxLent) (t : List ℕ) (c k : ℕ) → refusal (multiplexTests x t c k) ≡ refused 2 ↔ (255 < k)
+  -- "Demultiplexer": up to 16 channels, no held unit passes 1,024 octets, a payload has up to 255
+  pub places : length (start .at) ≡ 16
+  pub held : (c : Channel) (n : ℕ) → c .segmentable ≡ true → roomIn c n ≡ true ↔ (c .held + n ≤ 1024)
+  pub payload : (x : DemuxLent) (t : List ℕ) (c : ℕ) (mark : Bool) (xs : List ℕ)
+      → refusal (demultiplexTests x t c mark xs) ≡ refused 2 ↔ (255 < length xs)
+  -- refusal 3: a lent output is too small, by just what would be written
+  pub encodeRoom : (t b e k : ℕ) → refusal (encodeTests t b e k) ≡ refused 3
+      ↔ ((al1m.isSetting b e ≡ true) × (al1m.isSendable t b e ≡ true) × (k < al1m.sentOctets t b e))
+  pub receiveRoom : (n b e k : ℕ) → refusal (receiveTests n b e k) ≡ refused 3 ↔ ((al1m.isSetting b e ≡ true) × (isWord n b e ≡ true) × (k < n))
+  pub sendRoom : (n : Number) (u out : List ℕ) → refusal (al2.sendTests n u out) ≡ refused 3
+      ↔ ((al2.isSendable n u ≡ true) × (length out < length (al2.whole n u)))
+  pub payloadRoom : (x : MuxLent) (t : List ℕ) (c k : ℕ) → refusal (multiplexTests x t c k) ≡ refused 3
+      ↔ ((k ≤ 255) × (isDefined t c ≡ true) × (length (x .payload) < k))
+  pub unitsRoom : (d : Delivery) (output units : List ℕ) → tooSmall d output units ≡ true
+      ↔ ((length output < length (d .octets)) ⊎ (length units < length (d .units)))
+  -- "Multiplex table"
+  pub table : TableLimits

@@ -1,0 +1,71 @@
+-- What is claimed of the numbers that the C entries answer, over every input; proofs/Theorems.antt proves each claim. What a code word has
+-- to do with them stands in the demands (crates/demands/specs/Host.antt).
+--
+--   Answered r l before after    r is below 0 exactly where one of the tests l holds: it is then minus the first one's number, which is what
+--                                kyte_refused tells, and what was lent is as it came
+--   WordLength m                 a number of octets that a sent unit may have: at least 1, at most 255
+--   LengthAnswered               so it is with kyte_length; an answer of 0 and more is the length
+--   EncodeAnswered               .. with kyte_encode; it is the number of octets that were written
+--   Parts r j w after            the header's functions give back from r what is told of the unit, each part by itself, and where it lies
+--   ReceiveAnswered              .. with kyte_receive; it is what was judged, in parts
+--   CheckedExactly               kyte_trusted takes a width for one with a check exactly where the check has octets
+--
+-- Assumes nothing.
+use mathlib.Core.Path.{_≡_}
+use mathlib.Core.Logic.{_↔_}
+use mathlib.Core.Bool.{true, false, not}
+use mathlib.Core.List.{List}
+use Prim.Native.Nat.{ℕ, _^_, _≤_, _<_}
+use lib.Dec.{eqb}
+use lib.IntN.{ℤ, pos, negℤ}
+use lib.ListN.{length}
+use Rattle.calls.specs.Refusal.{refused, told, Test, refusal}
+use Rattle.calls.specs.declared.Length.the-variants.{Octets}
+use Rattle.adaptation.specs.Handed.{badgeNumber}
+use Rattle.adaptation.specs.Width.{kindAt}
+use Rattle.adaptation.specs.AL1M.{lengthTests, sentOctets, sentLength}
+use Rattle.adaptation.specs.Sending.{encodeTests, Sends}
+use Rattle.adaptation.specs.Receiving.{receiveTests, handedUnit, Receives}
+use Rattle.adaptation.specs.declared.al1m.Judgement.{Judgement}
+use Rattle.adaptation.specs.declared.al1m.Received.the-variants as al1m
+use Rattle.kyteblossom.specs.Answer.{answer, packed, EncodeIs, ReceiveIs}
+use Rattle.kyteblossom.specs.Header.{isBelow, toldRefusal, toldBadge, toldChanged, toldLength, toldUnit, isChecked}
+
+pub record Answered {X : Type 0} (r : ℤ) (l : List Test) (before after : X) : Type 0 where
+  pub below : isBelow r ≡ true ↔ ((k : ℕ) × (refusal l ≡ refused k))
+  pub number : (k : ℕ) → refusal l ≡ refused k → (r ≡ negℤ (pos k)) × (toldRefusal r ≡ k)
+  pub none : refusal l ≡ told tt → toldRefusal r ≡ 0
+  pub leaves : isBelow r ≡ true → after ≡ before
+
+abbrev pub WordLength : ℕ → Type 0
+WordLength m = (1 ≤ m) × (m ≤ 255)
+
+abbrev pub LengthAnswered : Type 0
+LengthAnswered =
+    (t b e : ℕ) (r : ℤ) → r ≡ answer (sentLength t b e)
+    → Answered {X = Unit {0}} r (lengthTests t b e) tt tt
+    × (isBelow r ≡ false → (r ≡ pos (sentOctets t b e)) × WordLength (sentOctets t b e))
+
+abbrev pub EncodeAnswered : Type 0
+EncodeAnswered =
+    (b e : ℕ) (u before after : List ℕ) (r : ℤ) → EncodeIs b e u before r after
+    → Answered r (encodeTests (length u) b e (length before)) before after
+    × (isBelow r ≡ false → (m : ℕ) × (r ≡ pos m) × WordLength m × Sends b e u before (Octets m) after)
+
+-- each part has the room of its own in the number of 32 bits, so that none runs into the next
+pub record Parts (r : ℤ) (j : Judgement) (w after : List ℕ) : Type 0 where
+  pub number : r ≡ pos (packed j)
+  pub fits : packed j < 2 ^ 31
+  pub badge-is : toldBadge r ≡ pos (badgeNumber (j .badge))
+  pub changed-is : toldChanged r ≡ j .changed
+  pub length-is : toldLength r ≡ j .length
+  pub unit-is : toldUnit r w after ≡ handedUnit (j .badge) w after (j .length)
+
+abbrev pub ReceiveAnswered : Type 0
+ReceiveAnswered =
+    (b e : ℕ) (w before after : List ℕ) (r : ℤ) → ReceiveIs b e w before r after
+    → Answered r (receiveTests (length w) b e (length before)) before after
+    × (isBelow r ≡ false → (j : Judgement) × Receives b e w before (al1m.Unit j) after × Parts r j w after)
+
+abbrev pub CheckedExactly : Type 0
+CheckedExactly = (b : ℕ) → isChecked b ≡ not (eqb (kindAt b .octets) 0)

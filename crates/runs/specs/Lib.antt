@@ -1,0 +1,4 @@
+pub mod Runs
+pub mod Demand
+pub mod Claims
+pub mod Carried

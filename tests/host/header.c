@@ -1,0 +1,41 @@
+/*
+ * The header's functions on every answer that the library has: each refusal, each badge with each count and each length of a unit, and
+ * with each width, also such as are refused. Status 1, and a line, at the first that reads otherwise than its equation.
+ */
+#include "reading.h"
+
+#include <stddef.h>
+#include <stdio.h>
+
+static const uint32_t widths[] = { 0, 8, 16, 1, 7, 9, 15, 17, 24, 32, 256, 264, 65544, 0x80000008, 0xFFFFFFFF };
+
+static unsigned long answers;
+
+/* Whether some function reads the answer otherwise, with some width. */
+static int is_misread(int32_t answer)
+{
+    static const uint8_t received[1], repair[1];
+    answers++;
+    for (size_t i = 0; i < sizeof widths / sizeof *widths; i++) {
+        const char *differs = reading_differs(answer, widths[i], received, repair);
+        if (differs) {
+            printf("DIFFERS: %s of the answer %d, width %u\n", differs, (int)answer, (unsigned)widths[i]);
+            return 1;
+        }
+    }
+    return 0;
+}
+
+int main(void)
+{
+    for (int32_t refusal = 1; refusal <= 3; refusal++)
+        if (is_misread(-refusal))
+            return 1;
+    for (int32_t badge = 0; badge <= 4; badge++)
+        for (int32_t changed = 0; changed <= 127; changed++)
+            for (int32_t length = 1; length <= 255; length++)
+                if (is_misread(badge + 256 * changed + 65536 * length))
+                    return 1;
+    printf("%lu answers, read by the header as its equations say\n", answers);
+    return 0;
+}
