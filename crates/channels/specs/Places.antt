@@ -1,4 +1,4 @@
--- What the searches for channels answer; no public promise cites it.
+-- What the searches for channels go by.
 --
 --   noNumber     a number that no channel has
 --   numberOf c   c's number for a search; where c is not open, that one

@@ -6,11 +6,11 @@
 use mathlib.Core.Path.{_≡_, refl, sym, ap, _∙_}
 use mathlib.Core.Logic.{_↔_, _⊎_, inl, inr}
 use mathlib.Core.Bool.{Bool, true, false, cond, not, _&&_, _||_}
-use mathlib.Core.List.{List, [], _∷_}
+use mathlib.Core.List.{List, [], _∷_, _++_}
 use Prim.Native.Nat.{ℕ, _+_, _*_, _≤_, _<_}
 use native.Mathlib.Nat.{zero-add}
 use native.Mathlib.Omega.{arith}
-use borrow.Author.Tests.{le-leb, leb-true, lt-ltb, ltb-true, ltb-false, le-ltb, eqb-true, eqb-false, not-true}
+use borrow.Author.Tests.{le-leb, leb-true, lt-ltb, ltb-true, ltb-false, le-ltb, eq-eqb, eqb-true, eqb-false, not-true}
 use lib.Dec.{leb, ltb, eqb}
 use lib.ListN.{length}
 use Rattle.octets.specs.Tests.{both-true, never}
@@ -28,7 +28,11 @@ use Rattle.adaptation.specs.declared.al2.Number.the-variants.{Numbered, Plain}
 use Rattle.adaptation.proofs.Laws.{whole-length}
 use Rattle.table.specs.Table.{isDefined}
 use Rattle.table.proofs.Laws.{table-limits}
-use Rattle.channels.specs.Channels.{start, postTests}
+use Rattle.table.specs.Slots.{Slot}
+use Rattle.channels.specs.declared.Channels.{Channels}
+use Rattle.channels.specs.Channels.{start, placeOf, isIn, postTests}
+use Rattle.channels.proofs.Laws.{vacant-behind}
+use Rattle.multiplex.specs.Pieces.{placed, lastPlace}
 use Rattle.multiplex.specs.Demultiplexer.{demultiplexTests}
 use Rattle.multiplex.specs.Multiplexer.{multiplexTests}
 use Rattle.demands.specs.Limits.{Limits}
@@ -142,6 +146,34 @@ is-true : (b : Bool) → not b ≡ false ↔ (b ≡ true)
 is-true true = (λ e. refl, λ e. refl)
 is-true false = (λ e. never (cc), λ e. never (cc))
 
+is-false : (b : Bool) → not b ≡ true ↔ (b ≡ false)
+is-false true = (λ e. never (cc), λ e. never (cc))
+is-false false = (λ e. refl, λ e. refl)
+
+and-not : (m g : Bool) → (m && not g) ≡ true ↔ ((m ≡ true) × (g ≡ false))
+and-not true true = (λ e. never (cc), λ h. never (cc (h .1)))
+and-not true false = (λ e. (refl, refl), λ h. refl)
+and-not false g = (λ e. never (cc), λ h. never (cc (h .0)))
+
+is-zero : (n : ℕ) → eqb n 0 ≡ true ↔ (n ≡ 0)
+is-zero n = (eqb-true n 0, eq-eqb n 0)
+
+at-least : (n k : ℕ) → leb n k ≡ true ↔ (n ≤ k)
+at-least n k = (leb-true n k, le-leb n k)
+
+unit-is : (u : List ℕ) → not (isUnit 1024 u) ≡ false ↔ ((1 ≤ length u) × (length u ≤ 1024))
+unit-is u = chain (is-true (isUnit 1024 u)) (both 1 (length u) (length u) 1024)
+
+last-on : (s : Channels) (l : List Slot) (y : Slot) → lastPlace (placed s (l ++ y ∷ [])) ≡ placeOf s (y .channel)
+unfolding placed lastPlace
+last-on s [] y = refl
+last-on s (z ∷ []) y = refl
+last-on s (z ∷ v ∷ l) y = last-on s (v ∷ l) y
+
+-- the slots of a payload are looked at where its length and its code are right
+slotted : {A B : Type 0} (n : ℕ) (b : Bool) → A ↔ B → ((ltb 255 n ≡ false) × ((not b ≡ false) × A)) ↔ ((n ≤ 255) × ((b ≡ true) × B))
+slotted n b q = both-of (not-longer 255 n) (both-of (is-true b) q)
+
 alone : (k : ℕ) (b : Bool) → refusal (k when not b ∷ []) ≡ told tt ↔ (b ≡ true)
 alone k true = (λ e. refl, λ e. refl)
 alone k false = (λ e. never (cc), λ e. never (cc))
@@ -151,7 +183,7 @@ of-three : {A B C D E F : Type 0} → A ↔ D → B ↔ E → C ↔ F → (A × 
 of-three p q r = (λ h. (p .0 (h .0), q .0 (h .1 .0), r .0 (h .1 .1)), λ h. (p .1 (h .0), (q .1 (h .1), r .1 (h .2))))
 
 pub limits : Limits
-unfolding al1m.isSendable isWord widthOf none eight sixteen start
+unfolding al1m.isSendable isWord widthOf none eight sixteen start placed lastPlace
 limits = record {
   settings = settings;
   plainSent = λ t e. both 1 t (t + 0 + 2 * e) 255;
@@ -177,5 +209,15 @@ limits = record {
   payloadRoom = λ x t c k. chain (given-exactly 3 (multiplexTests x t c k) refl)
       (of-three (not-longer 255 k) (is-true (isDefined t c)) (longer (length (x .payload)) k));
   unitsRoom = λ d output units. either (length output) (length (d .octets)) (length units) (length (d .units));
+  unopened = λ s n u. chain (given-exactly 5 (postTests s n u) refl) (both-of (unit-is u) (is-false (isIn s n)));
+  waits = λ s n u. chain (given-exactly 11 (postTests s n u) refl) (both-of (unit-is u) (both-of (is-true (isIn s n)) (at-least 1 _)));
+  marked = λ x t c mark xs. chain (given-exactly 7 (demultiplexTests x t c mark xs) refl) (slotted (length xs) (isDefined t c)
+      (both-of (not-longer _ (length xs)) (both-of (is-true _) (and-not mark _))));
+  absent = λ s full. rw (vacant-behind s full 16 (omega arith));
+  lastOn = last-on;
+  reached = λ x t c k. chain (given-exactly 5 (multiplexTests x t c k) refl) (slotted k (isDefined t c)
+      (both-of (not-longer (length (x .payload)) k) (is-false _)));
+  empty = λ x t c k. chain (given-exactly 9 (multiplexTests x t c k) refl) (slotted k (isDefined t c)
+      (both-of (not-longer (length (x .payload)) k) (both-of (is-true _) (is-zero _))));
   table = table-limits;
 }

@@ -6,8 +6,8 @@
 -- Assumes nothing.
 use mathlib.Core.Path.{_≡_}
 use mathlib.Core.Logic.{_↔_, _⊎_}
-use mathlib.Core.Bool.{Bool, true}
-use mathlib.Core.List.{List}
+use mathlib.Core.Bool.{Bool, true, false}
+use mathlib.Core.List.{List, [], _∷_, _++_}
 use Prim.Native.Nat.{ℕ, _+_, _*_, _≤_, _<_}
 use lib.ListN.{length}
 use Rattle.calls.specs.Refusal.{refused, told, refusal}
@@ -19,12 +19,15 @@ use Rattle.adaptation.specs.AL2 as al2
 use Rattle.adaptation.specs.declared.al2.Number.{Number}
 use Rattle.adaptation.specs.declared.al2.Number.the-variants.{Numbered, Plain}
 use Rattle.table.specs.Limits.{TableLimits}
-use Rattle.table.specs.Table.{isDefined}
+use Rattle.table.specs.Slots.{Slot, payloadSlots, octetsOf, numbersOf}
+use Rattle.table.specs.Table.{entryOf, isDefined}
 use Rattle.channels.specs.declared.Channel.{Channel}
 use Rattle.channels.specs.declared.Channels.{Channels}
-use Rattle.channels.specs.Channels.{start, postTests}
+use Rattle.channels.specs.Channels.{start, placeOf, isIn, allOpen, channelAt, postTests}
+use Rattle.channels.specs.Claims.{channelOf}
+use Rattle.multiplex.specs.Pieces.{placed, lastPlace, total}
 use Rattle.multiplex.specs.Demultiplexer.{Delivery, DemuxLent, roomIn, tooSmall, demultiplexTests}
-use Rattle.multiplex.specs.Multiplexer.{MuxLent, multiplexTests}
+use Rattle.multiplex.specs.Multiplexer.{MuxLent, walked, multiplexTests}
 
 pub record Limits : Type 0 where
   -- refusal 1: the check's width is not 0, 8 or 16, or e is over 127
@@ -58,5 +61,24 @@ pub record Limits : Type 0 where
       ↔ ((k ≤ 255) × (isDefined t c ≡ true) × (length (x .payload) < k))
   pub unitsRoom : (d : Delivery) (output units : List ℕ) → tooSmall d output units ≡ true
       ↔ ((length output < length (d .octets)) ⊎ (length units < length (d .units)))
+  -- refusals 5, 7, 9 and 11, each where the tests before it fail
+  pub unopened : (s : Channels) (n : ℕ) (u : List ℕ) → refusal (postTests s n u) ≡ refused 5
+      ↔ (((1 ≤ length u) × (length u ≤ 1024)) × (isIn s n ≡ false))
+  pub waits : (s : Channels) (n : ℕ) (u : List ℕ) → refusal (postTests s n u) ≡ refused 11
+      ↔ (((1 ≤ length u) × (length u ≤ 1024)) × ((isIn s n ≡ true) × (1 ≤ channelOf s n .waiting)))
+  pub marked : (x : DemuxLent) (t : List ℕ) (c : ℕ) (mark : Bool) (xs : List ℕ)
+      → let l = payloadSlots (entryOf t c) (length xs) in
+      refusal (demultiplexTests x t c mark xs) ≡ refused 7
+      ↔ ((length xs ≤ 255) × ((isDefined t c ≡ true) × ((length xs ≤ octetsOf l) × ((allOpen (x .channels) (numbersOf l) ≡ true)
+      × ((mark ≡ true) × (channelAt (x .channels) (lastPlace (placed (x .channels) l)) .segmentable ≡ false))))))
+  -- .. the last octet absent, and the channel that it is on
+  pub absent : (s : Channels) → length (s .at) ≡ 16 → channelAt s (lastPlace (placed s [])) .segmentable ≡ false
+  pub lastOn : (s : Channels) (front : List Slot) (y : Slot) → lastPlace (placed s (front ++ y ∷ [])) ≡ placeOf s (y .channel)
+  pub reached : (x : MuxLent) (t : List ℕ) (c k : ℕ) → let r = walked (x .channels) (payloadSlots (entryOf t c) k) in
+      refusal (multiplexTests x t c k) ≡ refused 5
+      ↔ ((k ≤ 255) × ((isDefined t c ≡ true) × ((k ≤ length (x .payload)) × (r .allOpen ≡ false))))
+  pub empty : (x : MuxLent) (t : List ℕ) (c k : ℕ) → let r = walked (x .channels) (payloadSlots (entryOf t c) k) in
+      refusal (multiplexTests x t c k) ≡ refused 9
+      ↔ ((k ≤ 255) × ((isDefined t c ≡ true) × ((k ≤ length (x .payload)) × ((r .allOpen ≡ true) × (total (r .pieces) ≡ 0)))))
   -- "Multiplex table"
   pub table : TableLimits

@@ -12,7 +12,8 @@
 --   power a k     a to the k
 --   inverse a     the octet whose product with a is 1, and 0 for 0: a to the order less 1, since a to the order is 1 for each a but 0
 --
--- The definitions are shut. Only the modules below this one may open them; all others, and every other crate, have `Octet.Laws`.
+-- The definitions are shut. Only the modules below this one may open them; all others, and every other crate, have `Octet.Laws`, and of
+-- `Octet.Table` what the tables are, and a product that can be computed.
 -- Assumes nothing.
 use Prim.Native.Nat.{ℕ, zero, suc, _-_, _*_, _/_, _%_}
 use lib.Bits.{bitXor}

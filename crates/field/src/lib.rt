@@ -1,5 +1,6 @@
 // The field of 256 elements of 003, D.4.1.7.3: sum, product, inverse and the powers of α. Every octet and every number is answered.
-// The definitions are in specs/Octet.antt; what the layers above may use of them is specs/Octet/Laws.antt.
+// The definitions are in specs/Octet.antt; what the layers above may use of them is specs/Octet/Laws.antt, and of the
+// tables specs/Octet/Table.antt.
 ghost use mathlib.Core.Path.{_≡_};
 ghost use Prim.Native.Nat.{_<_};
 ghost use Rattle.field.specs.Octet;

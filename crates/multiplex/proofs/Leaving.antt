@@ -41,6 +41,7 @@ use Rattle.multiplex.specs.Walks.{turned, Sendable}
 use Rattle.multiplex.specs.declared.multiplexer.Turn.{Turn}
 use Rattle.multiplex.specs.declared.multiplexer.Turn.the-variants.{Stop, On, Last}
 use Rattle.multiplex.specs.Claims.{goingTo, SentOnce}
+use Rattle.multiplex.proofs.Records.{rest-stays}
 use Rattle.multiplex.proofs.Walking.{byTurn, by-place, walked-sendable}
 use Rattle.multiplex.proofs.Keeping.{going-first}
 use Rattle.multiplex.proofs.Agreeing.{walk-agrees}
@@ -217,4 +218,5 @@ sent-once x y w t c room n p full size e =
       ap length sent ∙ size-sent,
       ap (λ (z : List ℕ). goingTo n ns z ++ waitingOf (y .channels) w (placeOf (y .channels) n)) (sent ∙ ap (gathered s w) (sym pieces))
           ∙ ap₂ (λ (z : Channels) (q : ℕ). goingTo n ns (gathered s w (placed s (payloadSlots entry k))) ++ waitingOf z w q) now place ∙ sends .1,
+      ap (λ (z : List ℕ). drop k z) (sym (u .payload)) ∙ rest-stays (x .payload) (gathered s w (v .pieces)) k size-sent,
     )

@@ -21,6 +21,7 @@ pub mod Leaving
 pub mod Unrefused
 pub mod Rising
 pub mod Ordering
+pub mod Rules
 pub mod Theorems
 pub mod Bounds
 pub mod Laws

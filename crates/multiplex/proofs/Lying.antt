@@ -1,5 +1,6 @@
 -- A finished unit lies where the list says.
 --
+--   Tale, tale-delivery   every delivery tells of units
 --   lies-there     the part of the output that the list tells of is the unit
 --
 -- Assumes nothing.
@@ -31,7 +32,7 @@ use Rattle.multiplex.proofs.Listing.{unit-there, list-read}
 
 -- ---- every delivery tells of units
 
-abbrev Tale : Delivery → Type 0
+abbrev pub Tale : Delivery → Type 0
 Tale d = (us : List UnitOn) × Tells d us
 
 tale-took : (l : List Piece) (r : Delivery) (xs : List ℕ) → Tale r → Tale (tookAll r l xs)
@@ -45,7 +46,7 @@ tale-took (q ∷ l) r xs t =
     (λ g. (t .0, record { octets = t .1 .octets; units = t .1 .units; count = t .1 .count }))
     (λ g. (t .0 ++ unitOn n x ∷ [], tells-finished r (t .0) n x (t .1))))
 
-tale-delivery : (s : Channels) (h : List ℕ) (mark : Bool) (l : List Piece) (xs : List ℕ) → Tale (delivery s h mark l xs)
+pub tale-delivery : (s : Channels) (h : List ℕ) (mark : Bool) (l : List Piece) (xs : List ℕ) → Tale (delivery s h mark l xs)
 unfolding delivery
 tale-delivery s h mark l xs =
     let t = tale-took l (nothing s h) xs ([], tells-nothing s h) in

@@ -1,5 +1,6 @@
 -- What a delivery has written, as the units that its records tell of.
 --
+--   rest-stays        what stands behind a list that is written over the front of another stays
 --   unitOn n u        unit u on channel n
 --   unitOctets l       the octets of the units l, one behind another
 --   records k l       the records of the units l, whose octets stand from k on: channel, start and length of each
@@ -26,6 +27,11 @@ use Rattle.octets.specs.Written.{written}
 use Rattle.channels.specs.declared.Channels.{Channels}
 use Rattle.multiplex.specs.Demultiplexer.{Delivery, nothing, finished}
 use Rattle.multiplex.specs.Units.{UnitOn, unitsOn, listed, unitsIn}
+
+pub rest-stays : (lent o : List ℕ) (n : ℕ) → length o ≡ n → drop n (written lent 0 o) ≡ drop n lent
+rest-stays lent o n e =
+    let z : 0 + length o ≡ n = omega (arith, e) in
+    ap (λ (j : ℕ). drop j (written lent 0 o)) (sym e) ∙ drop-append-seam o (drop (0 + length o) lent) ∙ ap (λ (j : ℕ). drop j lent) z
 
 abbrev pub unitOn : ℕ → List ℕ → UnitOn
 unitOn n u = record { channel = n; octets = u }

@@ -9,7 +9,8 @@
 --                      held and what came is what the finished units have and what is held then
 --   OrderKept          .. and the state is orderly again
 --   SentOnce           of an accepted call to the multiplexer: each octet of the payload has its turn in the entry, and on each channel the
---                      octets that go there, with what still waits behind them, are what waited, once, in order
+--                      octets that go there, with what still waits behind them, are what waited, once, in order; what stands behind the
+--                      payload stays
 --   EndsWith           unit j of the finished units ends with payload octet i: that is of its own channel, and with unit j all that was
 --                      held and came there until then, octet i the last of it, is finished
 --   LastsRise          after an accepted payload each finished unit ends with a payload octet, and these rise: the units are ordered by their
@@ -25,7 +26,7 @@ use mathlib.Core.Bool.{Bool, true, cond}
 use mathlib.Core.List.{List, [], _∷_, _++_, flatten}
 use Prim.Native.Nat.{ℕ, _+_, _*_, _≤_, _<_}
 use lib.Dec.{eqb}
-use lib.ListN.{length, getD, take}
+use lib.ListN.{length, getD, take, drop}
 use Rattle.calls.specs.Refusal.{leaving, refusing, Refuses}
 use Rattle.table.specs.Entry.{Elements, isEntryTree, numbers, isFinite, isClosing, octetsIn}
 use Rattle.table.specs.Slots.{payloadSlots, channelsOf}
@@ -82,6 +83,7 @@ SentOnce =
     let xs = take (p .octets) (y .payload) in
     (length ns ≡ p .octets) × (length xs ≡ p .octets)
     × (goingTo n ns xs ++ waitingOf (y .channels) w (placeOf (y .channels) n) ≡ waitingOf (x .channels) w (placeOf (x .channels) n))
+    × (drop (p .octets) (y .payload) ≡ drop (p .octets) (x .payload))
 
 -- ---- the order of finished units
 

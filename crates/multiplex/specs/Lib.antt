@@ -6,3 +6,4 @@ pub mod Multiplexer
 pub mod Walks
 pub mod Calls
 pub mod Claims
+pub mod Rules

@@ -71,7 +71,7 @@ pieceAt s p n = piece p (moved (channelAt s p) n)
 abbrev pub sending : Piece → Walk → Walk
 sending q r = record { pieces = q ∷ r .pieces; mark = r .mark; allOpen = r .allOpen; channels = r .channels }
 
--- the last piece: a segmentable unit has come to its end
+-- the last piece: a segmentable unit has come to its end, or a unit that is shorter than its slot was sent whole
 abbrev pub ending : Piece → Channels → Bool → Walk
 ending q s mark = record { pieces = q ∷ []; mark = mark; allOpen = true; channels = s }
 

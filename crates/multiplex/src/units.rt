@@ -5,7 +5,8 @@ use table::LONGEST_PAYLOAD;
 ghost use mathlib.Core.Path.{_≡_};
 ghost use Rattle.multiplex.specs.Units.{unitAt, enoughOutput, enoughUnits};
 
-// An output of so many octets is never too small for a payload: a unit that was held, and the payload's other octets.
+// An output of so many octets is never too small for a payload that the other end made: a unit that was held, and the payload's other
+// octets.
 pub const ENOUGH_OUTPUT: usize = PLACE_OCTETS + LONGEST_PAYLOAD;
 
 // .. nor a list of so many numbers: each octet of a payload may be a unit.

@@ -3,6 +3,7 @@
 --   AllUnits          each of these has 1 to 1,024 octets
 --   run-units         so has every unit that was posted in a run
 --   carried-by-AL1    .. so each is passed
+--   carried-by-plain-AL2   a unit of AL2 without a number is handed up as it was handed in
 --   sent-front        what AL1M sent stands at the front of what it was lent
 --   carried-by-AL1M   at most e octets changed on the way: the unit is handed up as it was handed in
 --
@@ -23,7 +24,7 @@ use Rattle.adaptation.specs.Handed.{longestUnit, isUnit, Handed, handed}
 use Rattle.adaptation.specs.AL1.{passed}
 use Rattle.adaptation.specs.Sending.{Sends}
 use Rattle.adaptation.specs.declared.Badge.the-variants.{Unchecked}
-use Rattle.adaptation.proofs.Laws.{sentIsHandedUp}
+use Rattle.adaptation.proofs.Laws.{sentIsHandedUp, plainReceived}
 use Rattle.channels.specs.Channels.{Post, postTests, posted}
 use Rattle.multiplex.specs.Units.{UnitOn, unitsOn}
 use Rattle.multiplex.specs.Calls as call
@@ -128,6 +129,11 @@ carried-by-AL1 r i n q =
     none : (i : Side) → AllUnits (endAt (beginning r) i .posted)
     none near = tt
     none far = tt
+
+-- ---- AL2 without a number
+
+pub carried-by-plain-AL2 : carried.CarriedByPlainAL2
+carried-by-plain-AL2 r i n j e q h u may c = rw (as-sent r i n q, c) (plainReceived u e may)
 
 -- ---- AL1M
 

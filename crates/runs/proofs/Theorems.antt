@@ -10,7 +10,7 @@ use Rattle.runs.specs.Carried.{UnitToUnit}
 use Rattle.runs.proofs.Delivering as delivering
 use Rattle.runs.proofs.Failing.{idle-fails, refuser-fails, mute-fails, silent-fails}
 use Rattle.runs.proofs.Handing.{as-sent, numbers-follow, carried-by-AL2}
-use Rattle.runs.proofs.Passed.{carried-by-AL1, carried-by-AL1M}
+use Rattle.runs.proofs.Passed.{carried-by-AL1, carried-by-plain-AL2, carried-by-AL1M}
 
 pub demand-met : DemandMet
 demand-met = delivering.demand-met
@@ -19,4 +19,12 @@ pub wrong-fail : WrongFail
 wrong-fail = record { idleFails = idle-fails; refuserFails = refuser-fails; muteFails = mute-fails; silentFails = silent-fails }
 
 pub unit-to-unit : UnitToUnit
-unit-to-unit = record { asSent = as-sent; numbersFollow = numbers-follow; byAL1 = carried-by-AL1; byAL2 = carried-by-AL2; byAL1M = carried-by-AL1M; lies = lies-there }
+unit-to-unit = record {
+  asSent = as-sent;
+  numbersFollow = numbers-follow;
+  byAL1 = carried-by-AL1;
+  byAL2 = carried-by-AL2;
+  byPlainAL2 = carried-by-plain-AL2;
+  byAL1M = carried-by-AL1M;
+  lies = lies-there;
+}

@@ -15,6 +15,7 @@
 --   NumbersFollow      over a run AL2's numbers follow one another, at each end and on each channel: those sent, and those expected
 --   CarriedByAL2       every unit coded is posted, every unit delivered is taken, and no octet changes: each unit wholly sent is handed up as
 --                      it was handed in, with badge 0 and none missing
+--   CarriedByPlainAL2  a unit that AL2 sent without a number is handed up so too
 --   CarriedByAL1       a unit that is delivered is passed as it is, with badge 4
 --   CarriedByAL1M      the unit j that is delivered, whatever changed on the way, has as many octets as the one wholly sent; and where at most e
 --                      of them differ, AL1M hands up the unit that was coded, with the true count and its badge
@@ -33,8 +34,9 @@ use Rattle.calls.specs.Refusal.{Told, told}
 use Rattle.codeword.specs.CodeWord.{distance}
 use Rattle.adaptation.specs.Handed.{handed}
 use Rattle.adaptation.specs.AL1.{passed}
-use Rattle.adaptation.specs.AL2.{Receipt}
-use Rattle.adaptation.specs.AL2Claims.{wholesFrom, receipts, inOrder}
+use Rattle.adaptation.specs.AL2.{whole, isSendable, Receipt, handedUp, received}
+use Rattle.adaptation.specs.AL2Claims.{asSent, wholesFrom, receipts, inOrder}
+use Rattle.adaptation.specs.declared.al2.Number.the-variants.{Plain}
 use Rattle.adaptation.specs.Width.{kindAt}
 use Rattle.adaptation.specs.Sending.{Sends}
 use Rattle.adaptation.specs.Receiving.{Receives, handedUnit}
@@ -177,6 +179,12 @@ CarriedByAL1 =
     (r : Run _≡_) (i : Side) (n : ℕ) → endAt (ending r) (other i) .coming ≡ []
     → map passed (unitsOn n (endAt (ending r) (other i) .delivered)) ≡ map (λ (u : List ℕ). told (handed Unchecked u)) (whollySent (endAt (ending r) i) n)
 
+abbrev pub CarriedByPlainAL2 : Type 0
+CarriedByPlainAL2 =
+    (r : Run _≡_) (i : Side) (n j e : ℕ) → endAt (ending r) (other i) .coming ≡ [] → j < length (whollySent (endAt (ending r) i) n)
+    → (u : List ℕ) → isSendable Plain u ≡ true → getD (whollySent (endAt (ending r) i) n) j [] ≡ whole Plain u
+    → received false (getD (unitsOn n (endAt (ending r) (other i) .delivered)) j []) e ≡ told (handedUp (asSent u) 0 e)
+
 abbrev pub CarriedByAL1M : Type 1
 CarriedByAL1M =
     (R : ℕ → ℕ → Type 0) (r : Run R) (i : Side) (n j : ℕ) → endAt (ending r) (other i) .coming ≡ [] → j < length (whollySent (endAt (ending r) i) n)
@@ -192,5 +200,6 @@ pub record UnitToUnit : Type 1 where
   pub numbersFollow : NumbersFollow
   pub byAL1 : CarriedByAL1
   pub byAL2 : CarriedByAL2
+  pub byPlainAL2 : CarriedByPlainAL2
   pub byAL1M : CarriedByAL1M
   pub lies : LiesThere

@@ -18,7 +18,7 @@
 --   parcelsTold c a    the payload that an answer tells of, made under code c
 --   lacksRoom t        it is refused with 3
 --   with, posting, sending, taking   an end with another state; after a post; with one more payload on its way to it; and after a payload
---   Libraries          what may stand for the library at both ends; the demultiplexer may go by how many payloads came before
+--   Libraries          what may stand for the library at both ends; it may go by how many payloads came before
 --   arriving           an end after the oldest payload on its way was given to it
 --   after              both ends after what one of them has done, and what that puts on its way to the other
 --   step, run          one event, and one behind another

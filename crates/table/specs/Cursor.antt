@@ -1,5 +1,5 @@
--- How the code reads an entry's numbers, from a place on: what its inner functions promise one another. What the public ones promise is
--- said of trees (Entry, Form, Slots). The tree that numbers are read as goes by `skip` from element to element, whatever they are; that an
+-- How the code reads an entry's numbers, from a place on: what the functions that read it promise one another, `form::element` among
+-- them. What `is_entry`, `replace` and `payload_slots` promise is said of trees (Entry, Form, Slots). The tree that numbers are read as goes by `skip` from element to element, whatever they are; that an
 -- entry's numbers are read as that entry is the claim NumbersRead, and proofs/Joining.antt joins the two.
 --
 --   andThen r f     what comes after a reading, where it is good

@@ -17,7 +17,7 @@ use Rattle.table.specs.Slots.{copies, slots, cut, entrySlots, payloadSlo
 abbrev pub a10 : Elements
 a10 = channel (times 2) 1 (list untilClosing (channel (times 1) 2 (channel (times 2) 3 none)) none)
 
--- two passes of one channel; and a list, twice, before a channel
+-- two elements of one channel; and a list, twice, before a channel
 abbrev pub beside : Elements
 beside = channel (times 1) 1 (channel (times 2) 1 none)
 

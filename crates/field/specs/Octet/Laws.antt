@@ -1,4 +1,4 @@
--- All that is handed upward of the field: its laws. `sum` and `product` obey the laws of a commutative ring at all numbers; a law
+-- All that is handed upward of the field but for its tables (`Octet.Table`): its laws. `sum` and `product` obey the laws of a commutative ring at all numbers; a law
 -- that holds of octets only says so.
 --
 --   sum       sum-octet, sum-low, sum-assoc, sum-comm, sum-left-comm, sum-swap, sum-zero, sum-self;

@@ -1,0 +1,81 @@
+-- Document 01's rules of one payload, sentence by sentence ("Demultiplexer", "Multiplexer"), each as a claim on the definitions;
+-- proofs/Rules.antt proves them.
+--
+--   slotOctets n l xs   of the octets xs of the slots l, those of each slot of channel n
+--   SlotIsUnit          on a channel that isn't segmentable each slot is a unit: the units finished there are the slots' octets, none joined
+--   DemuxRest           the finished units stand from the start of the lent output, and their list from the start of the lent numbers: what
+--                       stands behind stays
+--   WalkRules           how far the walk goes, slot by slot
+--   WalkMakes           a payload that is made is what the walk over the entry's expansion, cut to the room, gives
+--
+-- Assumes nothing.
+use mathlib.Core.Path.{_≡_}
+use mathlib.Core.Bool.{Bool, true, false, cond}
+use mathlib.Core.List.{List, [], _∷_, _++_, map, flatten}
+use Prim.Native.Nat.{ℕ, _*_, _≤_, _<_}
+use lib.Dec.{eqb}
+use lib.ListN.{length, take, drop}
+use Rattle.calls.specs.Refusal.{leaving}
+use Rattle.table.specs.Slots.{Slot, payloadSlots}
+use Rattle.table.specs.Table.{entryOf}
+use Rattle.channels.specs.declared.Channels.{Channels}
+use Rattle.channels.specs.Channels.{isIn, placeOf, waits}
+use Rattle.channels.specs.Claims.{Orderly, channelOf}
+use Rattle.multiplex.specs.Pieces.{piece, total}
+use Rattle.multiplex.specs.Demultiplexer.{DemuxLent, demultiplexed}
+use Rattle.multiplex.specs.Multiplexer.{MuxLent, Payload, Walk, left, stopped, sending, ending, walked, multiplexed}
+use Rattle.multiplex.specs.Units.{UnitOn, unitsOn, unitsIn}
+
+-- ---- the demultiplexer
+
+unfoldable pub slotOctets : ℕ → List Slot → List ℕ → List (List ℕ)
+slotOctets n [] xs = []
+slotOctets n (y ∷ l) xs =
+    cond (eqb (y .channel) n) (take (y .octets) xs ∷ slotOctets n l (drop (y .octets) xs)) (slotOctets n l (drop (y .octets) xs))
+
+abbrev pub SlotIsUnit : Type 0
+SlotIsUnit =
+    (x y : DemuxLent) (t : List ℕ) (c : ℕ) (mark : Bool) (xs : List ℕ) (k n : ℕ) → Orderly (x .channels) (x .held)
+    → isIn (x .channels) n ≡ true → channelOf (x .channels) n .segmentable ≡ false → demultiplexed x t c mark xs ≡ leaving k y
+    → unitsOn n (unitsIn (y .output) (y .units) k) ≡ slotOctets n (payloadSlots (entryOf t c) (length xs)) xs
+
+abbrev pub DemuxRest : Type 0
+DemuxRest =
+    (x y : DemuxLent) (t : List ℕ) (c : ℕ) (mark : Bool) (xs : List ℕ) (k : ℕ) → demultiplexed x t c mark xs ≡ leaving k y
+    → let us = map (λ (u : UnitOn). u .octets) (unitsIn (y .output) (y .units) k) in
+    (take (length (flatten us)) (y .output) ≡ flatten us) × (drop (length (flatten us)) (y .output) ≡ drop (length (flatten us)) (x .output))
+    × (drop (3 * k) (y .units) ≡ drop (3 * k) (x .units))
+
+-- ---- the multiplexer
+
+-- a slot of k octets of channel n, before the slots l
+pub record WalkRules (s : Channels) (n k : ℕ) (l : List Slot) : Type 0 where
+  -- the entry's end, or the room's, to which the slots are cut
+  pub atEnd : walked s [] ≡ stopped s true
+  -- a channel that is reached and is not open
+  pub shut : isIn s n ≡ false → walked s (record { channel = n; octets = k } ∷ l) ≡ stopped s false
+  -- stop before an octet whose channel has nothing waiting
+  pub idle : isIn s n ≡ true → waits (channelOf s n) ≡ 0 → walked s (record { channel = n; octets = k } ∷ l) ≡ stopped s true
+  -- stop before a slot of a channel that isn't segmentable if its unit is longer than the slot
+  pub tooLong : isIn s n ≡ true → channelOf s n .segmentable ≡ false → k < waits (channelOf s n)
+      → walked s (record { channel = n; octets = k } ∷ l) ≡ stopped s true
+  -- .. stop after it if shorter
+  pub short : isIn s n ≡ true → channelOf s n .segmentable ≡ false → 1 ≤ waits (channelOf s n) → waits (channelOf s n) < k
+      → walked s (record { channel = n; octets = k } ∷ l)
+      ≡ ending (piece (placeOf s n) (waits (channelOf s n))) (left s (placeOf s n) (waits (channelOf s n))) false
+  -- .. and go on if it fills the slot
+  pub filled : isIn s n ≡ true → channelOf s n .segmentable ≡ false → 1 ≤ k → waits (channelOf s n) ≡ k
+      → walked s (record { channel = n; octets = k } ∷ l) ≡ sending (piece (placeOf s n) k) (walked (left s (placeOf s n) k) l)
+  -- stop with the mark when a segmentable unit ends
+  pub ended : isIn s n ≡ true → channelOf s n .segmentable ≡ true → 1 ≤ waits (channelOf s n) → waits (channelOf s n) ≤ k
+      → walked s (record { channel = n; octets = k } ∷ l)
+      ≡ ending (piece (placeOf s n) (waits (channelOf s n))) (left s (placeOf s n) (waits (channelOf s n))) true
+  -- .. and go on where it does not
+  pub more : isIn s n ≡ true → channelOf s n .segmentable ≡ true → k < waits (channelOf s n)
+      → walked s (record { channel = n; octets = k } ∷ l) ≡ sending (piece (placeOf s n) k) (walked (left s (placeOf s n) k) l)
+
+abbrev pub WalkMakes : Type 0
+WalkMakes =
+    (x y : MuxLent) (w t : List ℕ) (c room : ℕ) (p : Payload) → multiplexed x w t c room ≡ leaving p y
+    → let r = walked (x .channels) (payloadSlots (entryOf t c) room) in
+    (r .allOpen ≡ true) × (1 ≤ p .octets) × (p .octets ≡ total (r .pieces)) × (p .mark ≡ r .mark) × (y .channels ≡ r .channels)
