@@ -1,4 +1,6 @@
 pub mod Records
+pub mod Adjacent
+pub mod Advancing
 pub mod Agreeing
 pub mod Exceeding
 pub mod Keeping

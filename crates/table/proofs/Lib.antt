@@ -1,3 +1,4 @@
+pub mod Allowed
 pub mod Parts
 pub mod Cutting
 pub mod Expanding

@@ -5,7 +5,8 @@
 --   within k       lists to depth k + 1: two channels; and a list of the former before a channel
 --   beside k       k lists of two channels, one beside another
 --   counted r l       channel 0 with the count r, before the elements l
---   TableLimits    the numbers; proofs/Limited.antt proves it
+--   TreeLimits     the numbers of an entry; proofs/Allowed.antt proves it
+--   TableLimits    .. and of the table; proofs/Limited.antt proves it
 --
 -- Assumes nothing.
 use mathlib.Core.Path.{_≡_}
@@ -33,7 +34,7 @@ beside (suc k) = list (times 1) (channels 2) (beside k)
 abbrev pub counted : Count → Elements → Elements
 counted r l = channel r 0 l
 
-pub record TableLimits : Type 0 where
+pub record TreeLimits : Type 0 where
   -- 1 to 32 elements counted at every depth, lists to depth 3, an inner one of at least two elements
   pub elements : (isEntryTree (channels 0) ≡ false) × (isEntryTree (channels 1) ≡ true) × (isEntryTree (channels 32) ≡ true) × (isEntryTree (channels 33) ≡ false)
   pub everyDepth : (isEntryTree (list (times 1) (channels 2) (channels 29)) ≡ true) × (isEntryTree (list (times 1) (channels 2) (channels 30)) ≡ false)
@@ -48,6 +49,9 @@ pub record TableLimits : Type 0 where
   pub closing : (isEntryTree (counted untilClosing none) ≡ true) × (isEntryTree (list untilClosing (channels 2) none) ≡ true)
       × (isEntryTree (counted untilClosing (channels 1)) ≡ false) × (isEntryTree (list (times 1) (counted (times 1) (counted untilClosing none)) none) ≡ false)
       × (isEntryTree (list untilClosing (counted (times 1) (counted untilClosing none)) none) ≡ false)
+
+pub record TableLimits : Type 0 where
+  pub trees : TreeLimits
   -- entries 0 to 15: every entry is taken at 1 to 15, none past it, and there is none there
   pub taken : (t s : List ℕ) (c : ℕ) → 1 ≤ c → c ≤ 15 → isEntry s ≡ true → replaced t c s ≡ leaving tt (withEntry t c s)
   pub past : (t s : List ℕ) (c : ℕ) → 15 < c → (replaced t c s ≡ refusing t 4) × (isDefined t c ≡ false)
