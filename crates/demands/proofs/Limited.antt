@@ -3,18 +3,19 @@
 --   limits     each of them
 --
 -- Assumes nothing.
-use mathlib.Core.Path.{_≡_, refl, sym, ap, _∙_}
+use mathlib.Core.Path.{_≡_, refl}
 use mathlib.Core.Logic.{_↔_, _⊎_, inl, inr}
 use mathlib.Core.Bool.{Bool, true, false, cond, not, _&&_, _||_}
 use mathlib.Core.List.{List, [], _∷_, _++_}
 use Prim.Native.Nat.{ℕ, _+_, _*_, _≤_, _<_}
 use native.Mathlib.Nat.{zero-add}
 use native.Mathlib.Omega.{arith}
-use borrow.Author.Tests.{le-leb, leb-true, lt-ltb, ltb-true, ltb-false, le-ltb, eq-eqb, eqb-true, eqb-false, not-true}
+use borrow.Author.Tests.{le-leb, leb-true, lt-ltb, ltb-true, ltb-false, le-ltb, eq-eqb, eqb-true}
 use lib.Dec.{leb, ltb, eqb}
 use lib.ListN.{length}
 use Rattle.octets.specs.Tests.{both-true, never}
-use Rattle.calls.specs.Refusal.{refused, told, Test, _when_, refusal}
+use Rattle.calls.specs.Refusal.{told, _when_, refusal}
+use Rattle.calls.proofs.Laws.{given-exactly}
 use Rattle.adaptation.specs.Width.{widthOf, isKnown}
 use Rattle.adaptation.specs.declared.checks.Asked.the-variants.{Known, Unknown}
 use Rattle.adaptation.specs.declared.checks.Width.the-variants.{Zero, Eight, Sixteen}
@@ -76,41 +77,6 @@ settings b e = (
 )
 
 -- ---- tests
-
--- the one of two statements that a test picks
-abbrev pick : Bool → Type 0 → Type 0 → Type 0
-pick true a b = a
-pick false a b = b
-
--- k is none of the numbers of the tests l; or it is that of one test alone
-abbrev lacks : ℕ → List Test → Bool
-lacks k [] = true
-lacks k ((j when b) ∷ l) = not (eqb j k) && lacks k l
-
-abbrev isOnce : ℕ → List Test → Bool
-isOnce k [] = true
-isOnce k ((j when b) ∷ l) = cond (eqb j k) (lacks k l) (isOnce k l)
-
--- the test with number k holds, and none before it
-abbrev Given : ℕ → List Test → Type 0
-Given k [] = ⊥
-Given k ((j when b) ∷ l) = pick (eqb j k) (b ≡ true) ((b ≡ false) × Given k l)
-
-lacks-none : (k : ℕ) (l : List Test) → lacks k l ≡ true → refusal l ≡ refused k → ⊥
-lacks-none k [] h e = never (cc)
-lacks-none k ((j when true) ∷ l) h e = eqb-false j k (not-true (eqb j k) (both-true (not (eqb j k)) (lacks k l) h .0)) (cc)
-lacks-none k ((j when false) ∷ l) h e = lacks-none k l (both-true (not (eqb j k)) (lacks k l) h .1) e
-
-given-exactly : (k : ℕ) (l : List Test) → isOnce k l ≡ true → refusal l ≡ refused k ↔ Given k l
-given-exactly k [] h = (λ e. never (cc), λ g. absurd g)
-given-exactly k ((j when b) ∷ l) h = by (given-exactly k l) (eqb j k) refl b h
-  where
-    by : (isOnce k l ≡ true → refusal l ≡ refused k ↔ Given k l) → (t : Bool) → eqb j k ≡ t → (b : Bool) → cond t (lacks k l) (isOnce k l) ≡ true
-        → cond b (refused j) (refusal l) ≡ refused k ↔ pick t (b ≡ true) ((b ≡ false) × Given k l)
-    by rest true e true h = (λ q. refl, λ q. ap refused (eqb-true j k e))
-    by rest true e false h = (λ q. absurd (lacks-none k l h q), λ q. never (cc))
-    by rest false e true h = (λ q. absurd (eqb-false j k e (cc)), λ g. never (cc (g .0)))
-    by rest false e false h = (λ q. (refl, rest h .0 q), λ g. rest h .1 (g .1))
 
 unit-not : (u : List ℕ) → not (isUnit 1024 u) ≡ true ↔ ((1 ≤ length u) × (length u ≤ 1024) → ⊥)
 unit-not u = by (isUnit 1024 u) refl

@@ -3,6 +3,7 @@ pub mod Adjacent
 pub mod Advancing
 pub mod Agreeing
 pub mod Exceeding
+pub mod Fitting
 pub mod Keeping
 pub mod Walking
 pub mod Laying

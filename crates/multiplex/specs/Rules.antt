@@ -3,6 +3,12 @@
 --
 --   slotOctets n l xs   of the octets xs of the slots l, those of each slot of channel n
 --   SlotIsUnit          on a channel that isn't segmentable each slot is a unit: the units finished there are the slots' octets, none joined
+--   octetsOn n l        how many octets the slots l have of channel n
+--   FitsExactly         refusal 8: where the slots' channels are open, all fits exactly where on no segmentable channel what is held and
+--                       what comes, together, pass 1,024 octets
+--   finishedOctets y k  the octets of the k units that a call's list tells of, one after another
+--   ThreeExactly        refusal 3: exactly where with some other room the payload is accepted, and the octets that it then finishes, or three
+--                       numbers for each of its units, are more than was lent
 --   DemuxRest           the finished units stand from the start of the lent output, and their list from the start of the lent numbers: what
 --                       stands behind stays
 --   WalkRules           how far the walk goes, slot by slot
@@ -10,19 +16,20 @@
 --
 -- Assumes nothing.
 use mathlib.Core.Path.{_≡_}
+use mathlib.Core.Logic.{_↔_, _⊎_}
 use mathlib.Core.Bool.{Bool, true, false, cond}
 use mathlib.Core.List.{List, [], _∷_, _++_, map, flatten}
-use Prim.Native.Nat.{ℕ, _*_, _≤_, _<_}
+use Prim.Native.Nat.{ℕ, _+_, _*_, _≤_, _<_}
 use lib.Dec.{eqb}
 use lib.ListN.{length, take, drop}
-use Rattle.calls.specs.Refusal.{leaving}
-use Rattle.table.specs.Slots.{Slot, payloadSlots}
+use Rattle.calls.specs.Refusal.{refused, leaving}
+use Rattle.table.specs.Slots.{Slot, payloadSlots, numbersOf}
 use Rattle.table.specs.Table.{entryOf}
 use Rattle.channels.specs.declared.Channels.{Channels}
-use Rattle.channels.specs.Channels.{isIn, placeOf, waits}
+use Rattle.channels.specs.Channels.{isIn, placeOf, allOpen, waits}
 use Rattle.channels.specs.Claims.{Orderly, channelOf}
-use Rattle.multiplex.specs.Pieces.{piece, total}
-use Rattle.multiplex.specs.Demultiplexer.{DemuxLent, demultiplexed}
+use Rattle.multiplex.specs.Pieces.{piece, placed, total}
+use Rattle.multiplex.specs.Demultiplexer.{DemuxLent, fits, demultiplexed}
 use Rattle.multiplex.specs.Multiplexer.{MuxLent, Payload, Walk, left, stopped, sending, ending, walked, multiplexed}
 use Rattle.multiplex.specs.Units.{UnitOn, unitsOn, unitsIn}
 
@@ -39,12 +46,32 @@ SlotIsUnit =
     → isIn (x .channels) n ≡ true → channelOf (x .channels) n .segmentable ≡ false → demultiplexed x t c mark xs ≡ leaving k y
     → unitsOn n (unitsIn (y .output) (y .units) k) ≡ slotOctets n (payloadSlots (entryOf t c) (length xs)) xs
 
+unfoldable pub octetsOn : ℕ → List Slot → ℕ
+octetsOn n [] = 0
+octetsOn n (y ∷ l) = cond (eqb (y .channel) n) (y .octets) 0 + octetsOn n l
+
+abbrev pub FitsExactly : Type 0
+FitsExactly =
+    (s : Channels) (h : List ℕ) (l : List Slot) → Orderly s h → allOpen s (numbersOf l) ≡ true
+    → fits s (placed s l) ≡ true
+    ↔ ((n : ℕ) → isIn s n ≡ true → channelOf s n .segmentable ≡ true → channelOf s n .held + octetsOn n l ≤ 1024)
+
+abbrev pub finishedOctets : DemuxLent → ℕ → List ℕ
+finishedOctets y k = flatten (map (λ (u : UnitOn). u .octets) (unitsIn (y .output) (y .units) k))
+
+abbrev pub ThreeExactly : Type 0
+ThreeExactly =
+    (x : DemuxLent) (t : List ℕ) (c : ℕ) (mark : Bool) (xs : List ℕ)
+    → demultiplexed x t c mark xs .answer ≡ refused 3
+    ↔ ((output : List ℕ) × (units : List ℕ) × (k : ℕ) × (y : DemuxLent)
+    × (demultiplexed (record { channels = x .channels; held = x .held; output = output; units = units }) t c mark xs ≡ leaving k y)
+    × ((length (x .output) < length (finishedOctets y k)) ⊎ (length (x .units) < 3 * k)))
+
 abbrev pub DemuxRest : Type 0
 DemuxRest =
     (x y : DemuxLent) (t : List ℕ) (c : ℕ) (mark : Bool) (xs : List ℕ) (k : ℕ) → demultiplexed x t c mark xs ≡ leaving k y
-    → let us = map (λ (u : UnitOn). u .octets) (unitsIn (y .output) (y .units) k) in
-    (take (length (flatten us)) (y .output) ≡ flatten us) × (drop (length (flatten us)) (y .output) ≡ drop (length (flatten us)) (x .output))
-    × (drop (3 * k) (y .units) ≡ drop (3 * k) (x .units))
+    → let n = length (finishedOctets y k) in
+    (take n (y .output) ≡ finishedOctets y k) × (drop n (y .output) ≡ drop n (x .output)) × (drop (3 * k) (y .units) ≡ drop (3 * k) (x .units))
 
 -- ---- the multiplexer
 
