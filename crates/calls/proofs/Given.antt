@@ -15,7 +15,7 @@ use Prim.Native.Nat.{ℕ}
 use borrow.Author.Tests.{eqb-true, eqb-false, not-true}
 use lib.Dec.{eqb}
 use Rattle.octets.specs.Tests.{both-true, never}
-use Rattle.calls.specs.Refusal.{refused, Test, _when_, refusal}
+use Rattle.calls.specs.Refusal.{refused, Test, _when_, refusal, Gives}
 
 abbrev pub pick : Bool → Type 0 → Type 0 → Type 0
 pick true a b = a
@@ -38,7 +38,7 @@ lacks-none k [] h e = never (cc)
 lacks-none k ((j when true) ∷ l) h e = eqb-false j k (not-true (eqb j k) (both-true (not (eqb j k)) (lacks k l) h .0)) (cc)
 lacks-none k ((j when false) ∷ l) h e = lacks-none k l (both-true (not (eqb j k)) (lacks k l) h .1) e
 
-pub given-exactly : (k : ℕ) (l : List Test) → isOnce k l ≡ true → refusal l ≡ refused k ↔ Given k l
+pub given-exactly : (k : ℕ) (l : List Test) → isOnce k l ≡ true → Gives l k ↔ Given k l
 given-exactly k [] h = (λ e. never (cc), λ g. absurd g)
 given-exactly k ((j when b) ∷ l) h = by (given-exactly k l) (eqb j k) refl b h
   where

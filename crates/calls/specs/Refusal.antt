@@ -8,6 +8,7 @@
 --   k when b        a `Test`: refusal k is given where b holds
 --   checked f l e   f of the first of the refusals l whose test holds, or else e
 --   refusal l       the first of the refusals l whose test holds, if one does
+--   Gives l k       the tests l give refusal k
 --   None l          no test of the refusals l holds
 --   RefusedIs l k before after   k is that one, and what was lent is as it came
 --   Refuses d l x   a call that ends as d is refused with the first of the refusals l whose test holds, exactly where one does, and
@@ -55,6 +56,9 @@ checked f ((k when b) ∷ l) e = cond b (f k) (checked f l e)
 
 abbrev pub refusal : List Test → Told (Unit {0})
 refusal l = checked refused l (told tt)
+
+abbrev pub Gives : List Test → ℕ → Type 0
+Gives l k = refusal l ≡ refused k
 
 abbrev pub None : List Test → Type 0
 None [] = Unit {0}

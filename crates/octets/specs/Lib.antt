@@ -4,3 +4,4 @@ pub mod Same
 pub mod Written
 pub mod Parts
 pub mod Tests
+pub mod Exact
