@@ -1,6 +1,6 @@
 -- How far the walk goes, slot by slot.
 --
---   walkRules    the claim WalkRules
+--   walkParts, walkRules    the claims
 --
 -- Assumes nothing.
 use mathlib.Core.Path.{_≡_, refl, _∙_}
@@ -15,9 +15,12 @@ use Rattle.channels.specs.declared.Channel.{Channel}
 use Rattle.channels.specs.declared.Channels.{Channels}
 use Rattle.channels.specs.Channels.{placeOf, isIn, waits}
 use Rattle.channels.specs.Claims.{channelOf}
-use Rattle.multiplex.specs.Pieces.{piece}
-use Rattle.multiplex.specs.Multiplexer.{isBlocked, goesOn, moved, left, stopped, sending, ending, walked}
-use Rattle.multiplex.specs.Rules.{WalkRules}
+use Rattle.multiplex.specs.Pieces.{Piece, piece}
+use Rattle.multiplex.specs.Multiplexer.{Walk, isBlocked, goesOn, moved, left, stopped, sending, ending, walked}
+use Rattle.multiplex.specs.Rules.{WalkParts, WalkRules}
+
+pub walkParts : (s : Channels) (q : Piece) (r : Walk) (b : Bool) → WalkParts s q r b
+walkParts s q r b = record { stops = refl; ends = refl; sends = refl }
 
 module _ (s : Channels) (n k : ℕ) (l : List Slot) (i : isIn s n ≡ true) where
   abbrev c : Channel

@@ -1,9 +1,10 @@
+pub mod Admitting
+pub mod Applying
 pub mod Records
 pub mod Adjacent
 pub mod Advancing
 pub mod Agreeing
 pub mod Exceeding
-pub mod Fitting
 pub mod Keeping
 pub mod Walking
 pub mod Laying

@@ -1,75 +1,133 @@
 -- Document 01's rules of one payload hold of the definitions: the claims of specs/Rules.antt.
 --
---   slotIsUnit, threeExactly, demuxRest   of the demultiplexer; refusal 8 is in Fitting
---   either-less             one of two comparisons
+--   slotIsUnit, markEnds, threeExactly, demuxRest   of the demultiplexer; refusal 8 is in Admitting
 --   walkMakes               of the multiplexer; how far its walk goes is in Advancing
 --
 -- Assumes nothing.
 use mathlib.Core.Path.{_≡_, refl, sym, ap, ap₂, subst, _∙_}
-use mathlib.Core.Logic.{_↔_, _⊎_, inl, inr}
-use mathlib.Core.Bool.{Bool, true, false, not, _&&_, _||_}
+use mathlib.Core.Logic.{_⊎_}
+use mathlib.Core.Bool.{Bool, true, false, cond, not, _&&_}
 use mathlib.Core.List.{List, [], _∷_, _++_, map, flatten}
 use Prim.Native.Nat.{ℕ, _+_, _*_, _≤_, _<_}
+use native.Mathlib.Decide.{ℕ-discrete}
 use native.Mathlib.Omega.{arith}
-use borrow.Author.Tests.{eqb-false, lt-ltb, ltb-true, ltb-false, le-ltb, not-false}
-use lib.Dec.{eqb, ltb}
+use borrow.Author.Tests.{eqb-false, eq-eqb, ne-eqb, not-false}
+use lib.Dec.{eqb}
 use lib.ListN.{length}
 use lib.Seq.{take-append-seam}
+use Rattle.octets.specs.Tests.{never}
+use Rattle.octets.specs.Exact.{either-less}
 use Rattle.octets.specs.Written.{written}
 use Rattle.calls.specs.Refusal.{refused, Ended, leaving, refusing}
 use Rattle.calls.proofs.Laws.{told-refused, leaving-same, by-tests, given-exactly, checked-refuses}
-use Rattle.table.specs.Slots.{Slot, payloadSlots}
+use Rattle.table.specs.Slots.{Slot, payloadSlots, channelsOf}
 use Rattle.table.specs.Table.{entryOf}
+use Rattle.table.proofs.Laws.{payloadSlots-most}
 use Rattle.channels.specs.declared.Channels.{Channels}
-use Rattle.channels.specs.Channels.{placeCount, placeOf, allOpen, channelAt}
+use Rattle.channels.specs.Channels.{placeCount, placeOf, channelAt, heldOf}
 use Rattle.channels.specs.Claims.{Orderly, channelOf}
-use Rattle.channels.proofs.Laws.{Seat, seat-at, segmentable-place}
+use Rattle.channels.proofs.Laws.{segmentable-place, place-unique}
 use Rattle.multiplex.specs.Pieces.{placed, lastPlace, total}
 use Rattle.multiplex.specs.Demultiplexer.{Delivery, DemuxLent, nothing, tookAll, closed, delivery, tooSmall, writes, demultiplexTests, demultiplexed}
 use Rattle.multiplex.specs.Multiplexer.{MuxLent, Payload, left, walked, multiplexTests, multiplexed}
 use Rattle.multiplex.specs.Units.{UnitOn, unitsOn, unitsIn}
-use Rattle.multiplex.specs.Rules.{slotOctets, finishedOctets, SlotIsUnit, ThreeExactly, DemuxRest, WalkMakes}
+use Rattle.multiplex.specs.Claims.{goingTo, heldOn}
+use Rattle.multiplex.specs.Rules.{finishedOctets, SlotIsUnit, MarkEnds, ThreeExactly, DemuxRest, WalkMakes}
 use Rattle.multiplex.proofs.Records.{rest-stays, unitOctets, records-length, tells-nothing, tells-read}
-use Rattle.multiplex.proofs.Adjacent.{Has, has-slots, has-closed}
-use Rattle.multiplex.proofs.Keeping.{last-known}
+use Rattle.multiplex.proofs.Adjacent.{Has, has-slots, has-joined-slots, has-else, has-unit, has-delivery}
+use Rattle.multiplex.proofs.Keeping.{nothing-holds, slots-hold, last-known}
 use Rattle.multiplex.proofs.Lying.{Tale, tale-delivery}
 use Rattle.multiplex.proofs.Unrefused.{is-accepted}
 use Rattle.multiplex.proofs.Refusing.{small-not}
 
--- ---- each slot is a unit
+-- ---- each slot is a unit, or the mark ends one
 
-module _ (x : DemuxLent) (o : Orderly (x .channels) (x .held)) (n : ℕ) (here : placeOf (x .channels) n < placeCount)
-    (whole : channelOf (x .channels) n .segmentable ≡ false) (l : List Slot) (xs : List ℕ) where
+-- a payload that was accepted, and the channel n
+module _ (x y : DemuxLent) (t : List ℕ) (c : ℕ) (mark : Bool) (xs : List ℕ) (k n : ℕ) (o : Orderly (x .channels) (x .held))
+    (e : demultiplexed x t c mark xs ≡ leaving k y) where
   abbrev s : Channels
   s = x .channels
+
+  abbrev l : List Slot
+  l = payloadSlots (entryOf t c) (length xs)
 
   abbrev all : Delivery
   all = tookAll (nothing s (x .held)) (placed s l) xs
 
-  has-delivery : (b : Bool) → (b && not (channelAt s (lastPlace (placed s l)) .segmentable)) ≡ false → Has s n (slotOctets n l xs) all
-      → Has s n (slotOctets n l xs) (delivery s (x .held) b (placed s l) xs)
-  unfolding delivery
-  has-delivery false e h = h
-  has-delivery true e h =
-      let g = not-false (channelAt s (lastPlace (placed s l)) .segmentable) e in
+  -- at first nothing is finished
+  has-none : Has s n [] (nothing s (x .held))
+  unfolding unitsOn
+  has-none = record { units = []; tells = tells-nothing s (x .held); alike = refl; all = refl }
+
+  -- what the delivery has is what the list tells
+  has-told : {us : List (List ℕ)} → Has s n us (delivery s (x .held) mark (placed s l) xs) → unitsOn n (unitsIn (y .output) (y .units) k) ≡ us
+  has-told h =
+      let a = is-accepted x y t c mark xs k e in
+      ap₂ (λ (z : DemuxLent) (j : ℕ). unitsOn n (unitsIn (z .output) (z .units) j)) (sym (a .left)) (sym (a .count))
+      ∙ ap (unitsOn n) (tells-read _ (h .units) (x .output) (x .units) (h .tells)) ∙ h .all
+
+  -- the mark ends a unit of the last piece's channel, which is segmentable
+  has-marked : {us now : List (List ℕ)} → Has s n us all → (mark ≡ false → us ≡ now)
+      → ((m : ℕ) → placeOf s m ≡ lastPlace (placed s l) → placeOf s m < placeCount → channelOf s m .segmentable ≡ true → mark ≡ true
+      → Has s n now (closed all (placeOf s m)))
+      → Has s n now (delivery s (x .held) mark (placed s l) xs)
+  has-marked {us} {now} h none close =
+      has-delivery s (o .full) n (x .held) mark (placed s l) xs h none
+      (λ set.
+      let wrong : (true && not (channelAt s (lastPlace (placed s l)) .segmentable)) ≡ false =
+      ap (λ (b : Bool). b && not (channelAt s (lastPlace (placed s l)) .segmentable)) (sym set) ∙ is-accepted x y t c mark xs k e .marked in
+      let g = not-false (channelAt s (lastPlace (placed s l)) .segmentable) wrong in
       let inside = segmentable-place s (lastPlace (placed s l)) (o .full) g in
       let m = last-known s l inside in
-      subst (λ (j : ℕ). Has s n (slotOctets n l xs) (closed all j)) (m .1)
-      (has-closed s (o .full) n here whole h (m .0) (rw (m .1) inside)
-      (ap (λ (z : Seat). z .segmentable) (seat-at (all .channels) s (h .alike) (placeOf s (m .0))) ∙ ap (λ (j : ℕ). channelAt s j .segmentable) (m .1) ∙ g))
+      subst (λ (j : ℕ). Has s n now (closed all j)) (m .1)
+      (close (m .0) (m .1) (rw (m .1) inside) (ap (λ (j : ℕ). channelAt s j .segmentable) (m .1) ∙ g) set))
+
+  -- what a segmentable channel holds once all has come: it was held, or came
+  module _ (g : channelOf s n .segmentable ≡ true) where
+    abbrev unit : List ℕ
+    unit = heldOf (all .channels) (all .held) (placeOf s n)
+
+    has-all : Has s n [] all
+    has-all = has-joined-slots s (o .full) n g l xs has-none (is-accepted x y t c mark xs k e .opened)
+
+    unit-all : unit ≡ heldOn x n ++ goingTo n (channelsOf l) xs
+    unfolding flatten
+    unit-all =
+        let a = is-accepted x y t c mark xs k e in
+        let h = slots-hold l xs (nothing-holds s (x .held) n o) (a .opened) (a .fitting) (payloadSlots-most (entryOf t c) (length xs)) in
+        let same : h .units ≡ has-all .units = sym (tells-read all (h .units) [] [] (h .tells)) ∙ tells-read all (has-all .units) [] [] (has-all .tells) in
+        sym (h .all ∙ ap (λ (us : List (List ℕ)). flatten us ++ unit) (ap (unitsOn n) same ∙ has-all .all))
+
+    abbrev isLast : Bool
+    isLast = eqb (lastPlace (placed s l)) (placeOf s n)
+
+    -- the mark on its own channel, and on another
+    has-last : (m : ℕ) → placeOf s m ≡ lastPlace (placed s l) → placeOf s m < placeCount → mark ≡ true → Dec (m ≡ n)
+        → Has s n (cond (mark && isLast) (unit ∷ []) []) (closed all (placeOf s m))
+    has-last m q inside set (yes i) =
+        let h = has-unit s (o .full) n has-all m inside i in
+        rw (set, eq-eqb (lastPlace (placed s l)) (placeOf s n) (sym q ∙ ap (placeOf s) i))
+        (subst (λ (j : ℕ). Has s n (heldOf (all .channels) (all .held) j ∷ []) (closed all (placeOf s m))) (ap (placeOf s) i) h)
+    has-last m q inside set (no f) =
+        let off : lastPlace (placed s l) ≡ placeOf s n → ⊥ = λ i. f (place-unique s (o .full) m n (placeOf s m) inside refl (sym (q ∙ i))) in
+        rw (set, ne-eqb (lastPlace (placed s l)) (placeOf s n) off) (has-else s (o .full) n has-all m inside f)
 
 pub slotIsUnit : SlotIsUnit
-unfolding unitsOn
-slotIsUnit x y t c mark xs k n o known whole e =
+slotIsUnit x y t c mark xs k n o whole e =
     let s = x .channels in
-    let here = ltb-true (placeOf s n) placeCount known in
     let l = payloadSlots (entryOf t c) (length xs) in
-    let a = is-accepted x y t c mark xs k e in
-    let d = delivery s (x .held) mark (placed s l) xs in
-    let h : Has s n (slotOctets n l xs) d = has-delivery x o n here whole l xs mark (a .marked)
-    (has-slots s (o .full) n here whole l xs (record { units = []; tells = tells-nothing s (x .held); alike = refl; all = refl }) (a .opened)) in
-    ap₂ (λ (z : DemuxLent) (j : ℕ). unitsOn n (unitsIn (z .output) (z .units) j)) (sym (a .left)) (sym (a .count))
-    ∙ ap (unitsOn n) (tells-read d (h .units) (x .output) (x .units) (h .tells)) ∙ h .all
+    let h = has-slots s (o .full) n whole l xs (has-none x y t c mark xs k n o e) (is-accepted x y t c mark xs k e .opened) in
+    has-told x y t c mark xs k n o e
+    (has-marked x y t c mark xs k n o e h (λ none. refl) (λ m q inside g set.
+    has-else s (o .full) n h m inside
+    (λ i. let z : false ≡ true = sym whole ∙ ap (λ (j : ℕ). channelOf s j .segmentable) (sym i) ∙ g in never (cc))))
+
+pub markEnds : MarkEnds
+markEnds x y t c mark xs k n o g e =
+    has-told x y t c mark xs k n o e
+    (has-marked x y t c mark xs k n o e (has-all x y t c mark xs k n o e g) (λ none. rw none)
+    (λ m q inside z set. has-last x y t c mark xs k n o e g m q inside set (ℕ-discrete m n)))
+    ∙ ap (λ (u : List ℕ). cond (mark && isLast x y t c mark xs k n o e g) (u ∷ []) []) (unit-all x y t c mark xs k n o e g)
 
 -- ---- what stands behind
 
@@ -110,17 +168,6 @@ demuxRest x y t c mark xs k e =
     )
 
 -- ---- refusal 3
-
-pub either-less : (a b c d : ℕ) → (ltb a b || ltb c d) ≡ true ↔ ((a < b) ⊎ (c < d))
-either-less a b c d = by (ltb a b) refl
-  where
-    by : (t : Bool) → ltb a b ≡ t → (t || ltb c d) ≡ true ↔ ((a < b) ⊎ (c < d))
-    by true e = (λ h. inl (ltb-true a b e), λ h. refl)
-    by false e = (λ h. inr (ltb-true c d h), second)
-      where
-        second : (a < b) ⊎ (c < d) → ltb c d ≡ true
-        second (inl l) = absurd (omega (arith, ltb-false a b e))
-        second (inr l) = lt-ltb c d l
 
 -- x with other room
 abbrev lentElse : DemuxLent → (output units : List ℕ) → DemuxLent

@@ -7,3 +7,4 @@ pub mod Walks
 pub mod Calls
 pub mod Claims
 pub mod Rules
+pub mod Exactly

@@ -3,6 +3,9 @@
 --
 --   slotOctets n l xs   of the octets xs of the slots l, those of each slot of channel n
 --   SlotIsUnit          on a channel that isn't segmentable each slot is a unit: the units finished there are the slots' octets, none joined
+--   MarkEnds            segmentable octets join what the channel holds, and the closing mark ends the unit of the last octet's channel: on a
+--                       segmentable channel one unit is finished, all that was held and came, exactly where the mark is set and the last
+--                       octet is its own; else none
 --   octetsOn n l        how many octets the slots l have of channel n
 --   FitsExactly         refusal 8: where the slots' channels are open, all fits exactly where on no segmentable channel what is held and
 --                       what comes, together, pass 1,024 octets
@@ -11,27 +14,30 @@
 --                       numbers for each of its units, are more than was lent
 --   DemuxRest           the finished units stand from the start of the lent output, and their list from the start of the lent numbers: what
 --                       stands behind stays
+--   WalkParts           what a walk has that stops, or ends with a piece; and a piece sent before a walk leaves its mark, what it reaches that is
+--                       not open, and the channels, as they are
 --   WalkRules           how far the walk goes, slot by slot
 --   WalkMakes           a payload that is made is what the walk over the entry's expansion, cut to the room, gives
 --
 -- Assumes nothing.
 use mathlib.Core.Path.{_≡_}
 use mathlib.Core.Logic.{_↔_, _⊎_}
-use mathlib.Core.Bool.{Bool, true, false, cond}
+use mathlib.Core.Bool.{Bool, true, false, cond, _&&_}
 use mathlib.Core.List.{List, [], _∷_, _++_, map, flatten}
 use Prim.Native.Nat.{ℕ, _+_, _*_, _≤_, _<_}
 use lib.Dec.{eqb}
 use lib.ListN.{length, take, drop}
 use Rattle.calls.specs.Refusal.{refused, leaving}
-use Rattle.table.specs.Slots.{Slot, payloadSlots, numbersOf}
+use Rattle.table.specs.Slots.{Slot, payloadSlots, numbersOf, channelsOf}
 use Rattle.table.specs.Table.{entryOf}
 use Rattle.channels.specs.declared.Channels.{Channels}
 use Rattle.channels.specs.Channels.{isIn, placeOf, allOpen, waits}
 use Rattle.channels.specs.Claims.{Orderly, channelOf}
-use Rattle.multiplex.specs.Pieces.{piece, placed, total}
+use Rattle.multiplex.specs.Pieces.{Piece, piece, placed, lastPlace, total}
 use Rattle.multiplex.specs.Demultiplexer.{DemuxLent, fits, demultiplexed}
 use Rattle.multiplex.specs.Multiplexer.{MuxLent, Payload, Walk, left, stopped, sending, ending, walked, multiplexed}
 use Rattle.multiplex.specs.Units.{UnitOn, unitsOn, unitsIn}
+use Rattle.multiplex.specs.Claims.{goingTo, heldOn}
 
 -- ---- the demultiplexer
 
@@ -43,8 +49,16 @@ slotOctets n (y ∷ l) xs =
 abbrev pub SlotIsUnit : Type 0
 SlotIsUnit =
     (x y : DemuxLent) (t : List ℕ) (c : ℕ) (mark : Bool) (xs : List ℕ) (k n : ℕ) → Orderly (x .channels) (x .held)
-    → isIn (x .channels) n ≡ true → channelOf (x .channels) n .segmentable ≡ false → demultiplexed x t c mark xs ≡ leaving k y
+    → channelOf (x .channels) n .segmentable ≡ false → demultiplexed x t c mark xs ≡ leaving k y
     → unitsOn n (unitsIn (y .output) (y .units) k) ≡ slotOctets n (payloadSlots (entryOf t c) (length xs)) xs
+
+abbrev pub MarkEnds : Type 0
+MarkEnds =
+    (x y : DemuxLent) (t : List ℕ) (c : ℕ) (mark : Bool) (xs : List ℕ) (k n : ℕ) → Orderly (x .channels) (x .held)
+    → channelOf (x .channels) n .segmentable ≡ true → demultiplexed x t c mark xs ≡ leaving k y
+    → let l = payloadSlots (entryOf t c) (length xs) in
+    unitsOn n (unitsIn (y .output) (y .units) k)
+    ≡ cond (mark && eqb (lastPlace (placed (x .channels) l)) (placeOf (x .channels) n)) ((heldOn x n ++ goingTo n (channelsOf l) xs) ∷ []) []
 
 unfoldable pub octetsOn : ℕ → List Slot → ℕ
 octetsOn n [] = 0
@@ -74,6 +88,11 @@ DemuxRest =
     (take n (y .output) ≡ finishedOctets y k) × (drop n (y .output) ≡ drop n (x .output)) × (drop (3 * k) (y .units) ≡ drop (3 * k) (x .units))
 
 -- ---- the multiplexer
+
+pub record WalkParts (s : Channels) (q : Piece) (r : Walk) (b : Bool) : Type 0 where
+  pub stops : stopped s b ≡ record { pieces = []; mark = false; allOpen = b; channels = s }
+  pub ends : ending q s b ≡ record { pieces = q ∷ []; mark = b; allOpen = true; channels = s }
+  pub sends : sending q r ≡ record { pieces = q ∷ r .pieces; mark = r .mark; allOpen = r .allOpen; channels = r .channels }
 
 -- a slot of k octets of channel n, before the slots l
 pub record WalkRules (s : Channels) (n k : ℕ) (l : List Slot) : Type 0 where

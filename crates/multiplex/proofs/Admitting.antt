@@ -4,7 +4,7 @@
 --
 -- Assumes nothing.
 use mathlib.Core.Path.{_≡_, refl, sym, ap, _∙_}
-use mathlib.Core.Bool.{Bool, true, false, cond, not, _&&_, _||_}
+use mathlib.Core.Bool.{Bool, true, false, cond, not, _||_}
 use mathlib.Core.List.{List, [], _∷_}
 use Prim.Native.Nat.{ℕ, _+_, _≤_, _<_}
 use native.Mathlib.Decide.{ℕ-discrete}
@@ -91,7 +91,17 @@ module _ (s : Channels) (full : length (s .at) ≡ placeCount) where
     stays-first : (l : List Slot) → Stays next l → Stays r (y ∷ l)
     stays-first l h n i g = omega (arith, comes n l g (ℕ-discrete (y .channel) n), h n i g)
 
-    -- .. the slot's own channel among them, if there is room for the slot
+    -- .. so that there is room for the slot
+    stays-room : isIn s (y .channel) ≡ true → (l : List Slot) → Stays r (y ∷ l) → hasRoom r p (y .octets) ≡ true
+    stays-room i l h = by (channelAt r p .segmentable) refl
+      where
+        by : (b : Bool) → channelAt r p .segmentable ≡ b → (not b || leb (channelAt r p .held + y .octets) placeOctets) ≡ true
+        by true e =
+            let w = h (y .channel) i (sym (segments (y .channel)) ∙ e) in
+            le-leb (channelAt r p .held + y .octets) placeOctets (omega (arith, w, octets-own (y .channel) y l refl))
+        by false e = refl
+
+    -- .. and if there is, it stays so on the slot's own channel too
     room-stays : Stays r [] → hasRoom r p (y .octets) ≡ true → Stays r (y ∷ [])
     room-stays h room n i g = by (ℕ-discrete (y .channel) n)
       where
@@ -105,15 +115,6 @@ module _ (s : Channels) (full : length (s .at) ≡ placeCount) where
             let w = open-room (channelAt r p .segmentable) (ap (λ (j : ℕ). channelAt r j .segmentable) (sym q) ∙ segments n ∙ g) room in
             rw q (omega (arith, w, octets-own n y [] e, octets-none n))
         by (no f) = omega (arith, h n i g, octets-other n y [] f)
-
-    stays-room : isIn s (y .channel) ≡ true → (l : List Slot) → Stays r (y ∷ l) → hasRoom r p (y .octets) ≡ true
-    stays-room i l h = by (channelAt r p .segmentable) refl
-      where
-        by : (b : Bool) → channelAt r p .segmentable ≡ b → (not b || leb (channelAt r p .held + y .octets) placeOctets) ≡ true
-        by true e =
-            let w = h (y .channel) i (sym (segments (y .channel)) ∙ e) in
-            le-leb (channelAt r p .held + y .octets) placeOctets (omega (arith, w, octets-own (y .channel) y l refl))
-        by false e = refl
 
   fits-stays : (l : List Slot) (r : Channels) → seats r ≡ seats s → allOpen s (numbersOf l) ≡ true → Stays r [] → fits r (placed s l) ≡ true → Stays r l
   unfolding fits placed allOpen
