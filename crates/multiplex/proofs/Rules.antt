@@ -1,5 +1,6 @@
 -- Document 01's rules of one payload hold of the definitions: the claims of specs/Rules.antt.
 --
+--   flat                    an accepted call's finished octets are its delivery's
 --   slotIsUnit, markEnds, threeExactly, demuxRest   of the demultiplexer; refusal 8 is in Admitting
 --   walkMakes               of the multiplexer; how far its walk goes is in Advancing
 --
@@ -144,7 +145,7 @@ module _ (x y : DemuxLent) (t : List ℕ) (c : ℕ) (mark : Bool) (xs : List ℕ
   tale : Tale d
   tale = tale-delivery (x .channels) (x .held) mark (placed (x .channels) (payloadSlots (entryOf t c) (length xs))) xs
 
-  flat : finishedOctets y k ≡ d .octets
+  pub flat : finishedOctets y k ≡ d .octets
   flat =
       let a = is-accepted x y t c mark xs k e in
       let told : unitsIn (y .output) (y .units) k ≡ tale .0 =

@@ -1,5 +1,5 @@
--- Document 01's rules of one payload, sentence by sentence ("Demultiplexer", "Multiplexer"), each as a claim on the definitions;
--- proofs/Rules.antt proves them.
+-- Document 01's rules of one payload ("Demultiplexer", "Multiplexer"), each as a claim on the definitions. proofs/Rules.antt proves them,
+-- but for FitsExactly (Admitting), RoomEnough (Sufficing), WalkParts and WalkRules (Advancing). When each refusal is given: specs/Exactly.antt.
 --
 --   slotOctets n l xs   of the octets xs of the slots l, those of each slot of channel n
 --   SlotIsUnit          on a channel that isn't segmentable each slot is a unit: the units finished there are the slots' octets, none joined
@@ -12,6 +12,7 @@
 --   finishedOctets y k  the octets of the k units that a call's list tells of, one after another
 --   ThreeExactly        refusal 3: exactly where with some other room the payload is accepted, and the octets that it then finishes, or three
 --                       numbers for each of its units, are more than was lent
+--   RoomEnough          .. so that an output of `enoughOutput` octets and a list of `enoughUnits` numbers are never too small
 --   DemuxRest           the finished units stand from the start of the lent output, and their list from the start of the lent numbers: what
 --                       stands behind stays
 --   WalkParts           what a walk has that stops, or ends with a piece; and a piece sent before a walk leaves its mark, what it reaches that is
@@ -36,7 +37,7 @@ use Rattle.channels.specs.Claims.{Orderly, channelOf}
 use Rattle.multiplex.specs.Pieces.{Piece, piece, placed, lastPlace, total}
 use Rattle.multiplex.specs.Demultiplexer.{DemuxLent, fits, demultiplexed}
 use Rattle.multiplex.specs.Multiplexer.{MuxLent, Payload, Walk, left, stopped, sending, ending, walked, multiplexed}
-use Rattle.multiplex.specs.Units.{UnitOn, unitsOn, unitsIn}
+use Rattle.multiplex.specs.Units.{UnitOn, unitsOn, unitsIn, enoughOutput, enoughUnits}
 use Rattle.multiplex.specs.Claims.{goingTo, heldOn}
 
 -- ---- the demultiplexer
@@ -80,6 +81,11 @@ ThreeExactly =
     ↔ ((output : List ℕ) × (units : List ℕ) × (k : ℕ) × (y : DemuxLent)
     × (demultiplexed (record { channels = x .channels; held = x .held; output = output; units = units }) t c mark xs ≡ leaving k y)
     × ((length (x .output) < length (finishedOctets y k)) ⊎ (length (x .units) < 3 * k)))
+
+abbrev pub RoomEnough : Type 0
+RoomEnough =
+    (x : DemuxLent) (t : List ℕ) (c : ℕ) (mark : Bool) (xs : List ℕ) → Orderly (x .channels) (x .held) → enoughOutput ≤ length (x .output)
+    → enoughUnits ≤ length (x .units) → demultiplexed x t c mark xs .answer ≡ refused 3 → ⊥
 
 abbrev pub DemuxRest : Type 0
 DemuxRest =

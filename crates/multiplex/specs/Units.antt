@@ -6,8 +6,7 @@
 --   unitAt l j         what the list l has of unit j, counted from 0
 --   unitIn o l         the unit that the list tells of, as it stands in the output o
 --   unitsIn            the units that a call's list tells of, as they stand in its output
---   enoughOutput       an output of so many octets is never too small for a payload that the other end made: a unit that was held, and a payload's
---                      other octets (`Accepts` in crate runs)
+--   enoughOutput       an output of so many octets is never too small: a unit that was held, and a payload's other octets (the claim RoomEnough)
 --   enoughUnits        .. nor a list of so many numbers: each octet of a payload may be a unit
 --
 -- Assumes nothing.
