@@ -4,4 +4,5 @@ pub mod Finding
 pub mod Digits
 pub mod Pairs
 pub mod Decoding
+pub mod Once
 pub mod Taking

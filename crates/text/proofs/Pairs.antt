@@ -1,42 +1,45 @@
 -- Pairs of hex digits.
 --
---   pair-some      an octet of 255 or less is made of two digits
---   pair-none      .. and one of more of none
+--   pair-some      what is 255 or less is made of two digits
+--   pair-none      .. and what is more is not
 --   pairs-length   there are half as many octets as digits
---   pairs-at       octet n is that of pair n
 --   pairs-on       whether pairs stand from pair n on: it is one, and pairs stand behind it
---   pairs-end      .. at the end: so it is
---   pairs-odd      .. before an octet alone: it is not
+--   pairs-behind   .. behind all pairs: so it is, where nothing is left over
+--   pairs-turn     where pairs stand from pair n on, it is octet n, and pairs stand behind it
 --
 -- Assumes nothing.
-use mathlib.Core.Path.{_≡_, refl, ap, ap₂, _∙_}
+use mathlib.Core.Path.{_≡_, refl, sym, ap, ap₂, _∙_}
 use mathlib.Core.Bool.{Bool, true, false, cond, _&&_}
 use mathlib.Core.List.{List, [], _∷_}
 use Prim.Native.Nat.{ℕ, zero, suc, _+_, _*_, _≤_, _<_}
 use native.Mathlib.Omega.{arith}
-use borrow.Author.Tests.{ltb-true}
-use lib.Dec.{ltb}
+use borrow.Author.Tests.{ltb-true, eqb-true, eqb-false}
+use lib.Dec.{eqb, ltb}
 use lib.ListN.{length, getD, drop, drop-of-length-le}
 use lib.Seq.{drop-cons}
 use Rattle.octets.specs.Tests.{both-true}
 use Rattle.text.specs.Hex.{hexDigit, isPair, isHex, octetsOf}
 
 module _ (a b x : ℕ) (e : x ≡ cond (isPair a b) (hexDigit a * 16 + hexDigit b) 256) where
-  pub pair-some : x ≤ 255 → (isPair a b ≡ true) × (x ≡ hexDigit a * 16 + hexDigit b)
-  pair-some h = go (isPair a b) refl e
+  pair-octet : isPair a b ≡ true → (x ≡ hexDigit a * 16 + hexDigit b) × (x ≤ 255)
+  pair-octet i =
+      let both = both-true (ltb (hexDigit a) 16) (ltb (hexDigit b) 16) i in
+      let k : x ≡ hexDigit a * 16 + hexDigit b = rw i at e in
+      (k, omega (arith, ltb-true (hexDigit a) 16 (both .0), ltb-true (hexDigit b) 16 (both .1)))
+
+  pub pair-some : x ≤ 255 → isPair a b ≡ true
+  pair-some h = go (isPair a b) e
     where
-      go : (t : Bool) → isPair a b ≡ t → x ≡ cond t (hexDigit a * 16 + hexDigit b) 256 → (isPair a b ≡ true) × (x ≡ hexDigit a * 16 + hexDigit b)
-      go true i k = (i, k)
-      go false i k = absurd (omega arith)
+      go : (t : Bool) → x ≡ cond t (hexDigit a * 16 + hexDigit b) 256 → t ≡ true
+      go true k = refl
+      go false k = absurd (omega arith)
 
   pub pair-none : 255 < x → isPair a b ≡ false
-  pair-none h = go (isPair a b) refl e
+  pair-none h = go (isPair a b) refl
     where
-      go : (t : Bool) → isPair a b ≡ t → x ≡ cond t (hexDigit a * 16 + hexDigit b) 256 → isPair a b ≡ false
-      go true i k =
-          let both = both-true (ltb (hexDigit a) 16) (ltb (hexDigit b) 16) i in
-          absurd (omega (arith, ltb-true (hexDigit a) 16 (both .0), ltb-true (hexDigit b) 16 (both .1)))
-      go false i k = i
+      go : (t : Bool) → isPair a b ≡ t → t ≡ false
+      go true i = absurd (omega (arith, pair-octet i .1))
+      go false i = refl
 
 pub pairs-length : (s : List ℕ) → (2 * length (octetsOf s) ≤ length s) × (length s ≤ 2 * length (octetsOf s) + 1)
 unfolding octetsOf
@@ -44,7 +47,7 @@ pairs-length [] = (omega arith, omega arith)
 pairs-length (a ∷ []) = (omega arith, omega arith)
 pairs-length (a ∷ b ∷ s) = let h = pairs-length s in (omega arith, omega arith)
 
-pub pairs-at : (s : List ℕ) (n : ℕ) → 2 * n + 1 < length s
+pairs-at : (s : List ℕ) (n : ℕ) → 2 * n + 1 < length s
     → getD (octetsOf s) n 0 ≡ hexDigit (getD s (2 * n) 0) * 16 + hexDigit (getD s (2 * n + 1) 0)
 unfolding octetsOf
 pairs-at [] n h = absurd (omega arith)
@@ -64,12 +67,27 @@ module _ (s : List ℕ) (n : ℕ) where
       let tail : drop (suc (2 * n)) s ≡ getD s (2 * n + 1) 0 ∷ drop (2 * (n + 1)) s = rw (e, ← f) (drop-cons s (2 * n + 1) 0 h) in
       ap isHex (drop-cons s (2 * n) 0 (omega arith) ∙ ap (λ (l : List ℕ). getD s (2 * n) 0 ∷ l) tail)
 
-  pub pairs-end : length s ≤ 2 * n → isHex (drop (2 * n) s) ≡ true
+  end : length s ≤ 2 * n → isHex (drop (2 * n) s) ≡ true
   unfolding isHex
-  pairs-end h = ap isHex (drop-of-length-le s h)
+  end h = ap isHex (drop-of-length-le s h)
 
-  pub pairs-odd : length s ≡ 2 * n + 1 → isHex (drop (2 * n) s) ≡ false
+  odd : length s ≡ 2 * n + 1 → isHex (drop (2 * n) s) ≡ false
   unfolding isHex
-  pairs-odd h =
+  odd h =
       let k : length s ≤ suc (2 * n) = omega arith in
       ap isHex (drop-cons s (2 * n) 0 (omega arith) ∙ ap (λ (l : List ℕ). getD s (2 * n) 0 ∷ l) (drop-of-length-le s k))
+
+  pub pairs-behind : 2 * n ≤ length s → length s ≤ 2 * n + 1 → isHex (drop (2 * n) s) ≡ eqb (2 * n) (length s)
+  pairs-behind h k = go (eqb (2 * n) (length s)) refl
+    where
+      go : (t : Bool) → eqb (2 * n) (length s) ≡ t → isHex (drop (2 * n) s) ≡ t
+      go true e = end (omega (arith, eqb-true (2 * n) (length s) e))
+      go false e = odd (omega (arith, eqb-false (2 * n) (length s) e))
+
+  pub pairs-turn : (x : ℕ) → 2 * n + 1 < length s → isHex (drop (2 * n) s) ≡ true
+      → x ≡ cond (isPair (getD s (2 * n) 0) (getD s (2 * n + 1) 0)) (hexDigit (getD s (2 * n) 0) * 16 + hexDigit (getD s (2 * n + 1) 0)) 256
+      → (isHex (drop (2 * (n + 1)) s) ≡ true) × (x ≡ getD (octetsOf s) n 0) × (x ≤ 255)
+  pairs-turn x h hex e =
+      let both = both-true (isPair (getD s (2 * n) 0) (getD s (2 * n + 1) 0)) (isHex (drop (2 * (n + 1)) s)) (sym (pairs-on h) ∙ hex) in
+      let octet = pair-octet (getD s (2 * n) 0) (getD s (2 * n + 1) 0) x e (both .0) in
+      (both .1, octet .0 ∙ sym (pairs-at s n h), octet .1)

@@ -5,7 +5,8 @@
 --   isHex s                   s is pairs of hex digits
 --   octetsOf s                the octets of these pairs
 --   isOctets s room           s stands for octets, of which there are at most so many: it is one pair or more, or `-` for none
---   IsDecoded s out r out'    r is how many octets s stands for, or that it stands for none; these are then at the front of out
+--   decodedInto s out         out with these octets at its front, where s stands for octets and they fit, and as it was where not
+--   IsDecoded s out r out'    r is how many octets s stands for, or that it stands for none that fit, and out' is what is left in out
 --   IsGiven s to out r out'   the same of the word s, which ends at `to`
 --
 -- Assumes nothing.
@@ -42,10 +43,13 @@ octetsOf (a ∷ b ∷ s) = (hexDigit a * 16 + hexDigit b) ∷ octetsOf s
 abbrev pub isOctets : List ℕ → ℕ → Bool
 isOctets s room = same s (45 ∷ []) || (ltb 0 (length s) && isHex s && leb (length s) (2 * room))
 
+abbrev pub decodedInto : List ℕ → List ℕ → List ℕ
+decodedInto s out = cond (isOctets s (length out)) (written out 0 (octetsOf s)) out
+
 pub record IsDecoded (s out : List ℕ) (r : Decoded) (out' : List ℕ) : Type 0 where
   pub answer : r ≡ cond (isOctets s (length out)) (Octets (length (octetsOf s))) Bad
-  pub stands : isOctets s (length out) ≡ true → out' ≡ written out 0 (octetsOf s)
+  pub stands : out' ≡ decodedInto s out
 
 pub record IsGiven (s : List ℕ) (to : ℕ) (out : List ℕ) (r : words.Octets) (out' : List ℕ) : Type 0 where
   pub answer : r ≡ cond (isOctets s (length out)) (of-words.Count (length (octetsOf s)) to) of-words.Bad
-  pub stands : isOctets s (length out) ≡ true → out' ≡ written out 0 (octetsOf s)
+  pub stands : out' ≡ decodedInto s out

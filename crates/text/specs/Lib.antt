@@ -3,3 +3,4 @@ pub mod Words
 pub mod Numbers
 pub mod Hex
 pub mod Lines
+pub mod Claims
