@@ -11,7 +11,7 @@ use Prim.Native.Nat.{ℕ, _≤_}
 use native.Mathlib.Omega.{arith}
 use lib.Dec.{ltb}
 use lib.ListN.{length}
-use Rattle.octets.specs.Exact.{chain, both-of, is-true, is-false, and-not, not-and-not, less, not-less, equal}
+use Rattle.octets.specs.Exact.{chain, both-of, is-true, is-false, and-not, not-and-not, less, not-less, either-less, equal}
 use Rattle.calls.proofs.Laws.{given-exactly}
 use Rattle.table.specs.Slots.{Slot, payloadSlots, octetsOf, numbersOf}
 use Rattle.table.specs.Table.{entryOf, isDefined}
@@ -22,9 +22,6 @@ use Rattle.multiplex.specs.Pieces.{placed, lastPlace}
 use Rattle.multiplex.specs.Demultiplexer.{DemuxLent, demultiplexTests}
 use Rattle.multiplex.specs.Multiplexer.{MuxLent, multiplexTests}
 use Rattle.multiplex.specs.Exactly.{Sorted, Walkable, OfDemultiplexer, OfMultiplexer, LastOctet, Enough}
-
-same : {A : Type 0} → A ↔ A
-same = (λ a. a, λ a. a)
 
 -- a payload's length and its code are right, and what is looked at then
 allowed : {A B : Type 0} (n : ℕ) (b : Bool) → A ↔ B → ((ltb 255 n ≡ false) × ((not b ≡ false) × A)) ↔ ((n ≤ 255) × ((b ≡ true) × B))
@@ -57,7 +54,7 @@ ofDemultiplexer x t c mark xs =
       demux5 = chain (given-exactly 5 tests refl) (allowed (length xs) (isDefined t c) (both-of (not-less _ (length xs)) (is-false _)));
       demux7 = chain (given-exactly 7 tests refl) (sorted x t c xs (and-not mark _));
       demux8 = chain (given-exactly 8 tests refl) (sorted x t c xs (both-of (not-and-not mark _) (is-false _)));
-      demux3 = chain (given-exactly 3 tests refl) (sorted x t c xs (both-of (not-and-not mark _) (both-of (is-true _) same)));
+      demux3 = chain (given-exactly 3 tests refl) (sorted x t c xs (both-of (not-and-not mark _) (both-of (is-true _) (either-less _ _ _ _))));
     }
 
 walkable : {A B : Type 0} (x : MuxLent) (t : List ℕ) (c room : ℕ) → A ↔ B

@@ -13,7 +13,7 @@
 --
 -- Assumes nothing.
 use mathlib.Core.Path.{_≡_}
-use mathlib.Core.Logic.{_↔_}
+use mathlib.Core.Logic.{_↔_, _⊎_}
 use mathlib.Core.Bool.{Bool, true, false}
 use mathlib.Core.List.{List, [], _∷_, _++_}
 use Prim.Native.Nat.{ℕ, _+_, _*_, _≤_, _<_}
@@ -24,7 +24,7 @@ use Rattle.table.specs.Table.{entryOf, isDefined}
 use Rattle.channels.specs.declared.Channels.{Channels}
 use Rattle.channels.specs.Channels.{placeOf, allOpen, channelAt}
 use Rattle.multiplex.specs.Pieces.{placed, lastPlace, total}
-use Rattle.multiplex.specs.Demultiplexer.{DemuxLent, fits, delivery, tooSmall, demultiplexTests}
+use Rattle.multiplex.specs.Demultiplexer.{DemuxLent, fits, delivery, demultiplexTests}
 use Rattle.multiplex.specs.Multiplexer.{MuxLent, walked, multiplexTests}
 use Rattle.multiplex.specs.Units.{enoughOutput, enoughUnits}
 
@@ -52,9 +52,10 @@ pub record OfDemultiplexer (x : DemuxLent) (t : List ℕ) (c : ℕ) (mark : Bool
   pub demux8 : let ps = placed (x .channels) (payloadSlots (entryOf t c) (length xs)) in
       Gives (demultiplexTests x t c mark xs) 8 ↔ (Sorted x t c xs × ((mark ≡ true → isEnded x t c xs ≡ true) × (fits (x .channels) ps ≡ false)))
   pub demux3 : let ps = placed (x .channels) (payloadSlots (entryOf t c) (length xs)) in
+      let d = delivery (x .channels) (x .held) mark ps xs in
       Gives (demultiplexTests x t c mark xs) 3
       ↔ (Sorted x t c xs × ((mark ≡ true → isEnded x t c xs ≡ true)
-      × ((fits (x .channels) ps ≡ true) × (tooSmall (delivery (x .channels) (x .held) mark ps xs) (x .output) (x .units) ≡ true))))
+      × ((fits (x .channels) ps ≡ true) × ((length (x .output) < length (d .octets)) ⊎ (length (x .units) < length (d .units))))))
 
 -- "Multiplexer": a payload of so much room
 pub record OfMultiplexer (x : MuxLent) (t : List ℕ) (c room : ℕ) : Type 0 where
