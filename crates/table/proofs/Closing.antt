@@ -5,20 +5,17 @@
 --   closing-octets     .. and one that ends until closing has enough for every payload
 --   closing-takes      .. so that it takes all of it
 --   finite-exactly     a payload has more octets than its entry exactly where that is finite and has fewer
---   passes-apart       a channel element is one slot, and each pass of an inner list has all slots of the list
 --
 -- Assumes nothing.
 use mathlib.Core.Path.{_≡_, refl, sym, ap, ap₂, _∙_}
 use mathlib.Core.Bool.{Bool, true, false, cond, not, _&&_}
-use mathlib.Core.List.{List}
 use Prim.Native.Nat.{ℕ, zero, suc, _+_, _*_, _≤_, _<_}
 use native.Mathlib.Omega.{arith}
 use borrow.Author.Tests.{not-false}
-use lib.ListN.{length, length-append}
 use Rattle.octets.specs.Tests.{both-true, never}
 use Rattle.table.specs.Entry.{Count, times, untilClosing, Elements, none, channel, list, size, isNone, isCount, isList, isTimes, isFinite, isClosing, octetsIn}
-use Rattle.table.specs.Slots.{Slot, passes, copies, slots, cut, octetsOf}
-use Rattle.table.specs.Claims.{FiniteOrClosing, ClosingTakesAll, FiniteExactly, PassesApart}
+use Rattle.table.specs.Slots.{passes, copies, slots, cut, octetsOf}
+use Rattle.table.specs.Claims.{FiniteOrClosing, ClosingTakesAll, FiniteExactly}
 use Rattle.table.proofs.Cutting.{cut-octets, octets-append, copies-octets}
 use Rattle.table.proofs.Expanding.{passes-enough, passes-once}
 use Rattle.table.proofs.Parts.{count-once, channel-is, list-is, entry-is, some-none}
@@ -125,12 +122,3 @@ finite-exactly l n e = (λ h. go h (isFinite l) refl, λ p. omega (arith, cut-oc
     go : octetsOf (cut n (slots n l)) < n → (b : Bool) → isFinite l ≡ b → (isFinite l ≡ true) × (octetsIn l < n)
     go h true f = (f, omega (arith, cut-octets n (slots n l), finite-octets n l f))
     go h false f = absurd (omega (arith, closing-takes l n e (not-false (isClosing l) (sym (finite-or-closing l e) ∙ f))))
-
-copies-length : (k : ℕ) (x : List Slot) → length (copies k x) ≡ k * length x
-unfolding copies
-copies-length zero x = omega arith
-copies-length (suc k) x = omega (arith, length-append x (copies k x), copies-length k x)
-
-pub passes-apart : PassesApart
-unfolding slots
-passes-apart n k c r i l = (omega arith, length-append (copies k (slots n i)) (slots n l) ∙ ap (λ (m : ℕ). m + length (slots n l)) (copies-length k (slots n i)))

@@ -3,7 +3,6 @@
 --   Filled l           each of the slots l has at least one octet
 --   filled-append      slots one behind another, if both are filled
 --   filled-length      filled slots are at most as many as their octets
---   cut-none           no octets: no slots
 --   by-octets          by whether there is an octet at all
 --   cut-append         what is cut from two lists of slots: of the second, what the first leaves
 --   cut-octets         the octets that a cut leaves
@@ -32,6 +31,7 @@ use native.Mathlib.Omega.{arith}
 use borrow.Author.Tests.{ne-eqb}
 use lib.ListN.{length, take, length-append}
 use Rattle.table.specs.Slots.{Slot, copies, cut, octetsOf, channelsOf}
+use Rattle.table.proofs.Apart.{cut-none, cut-more}
 
 -- ---- filled slots
 
@@ -50,17 +50,6 @@ filled-length [] p = omega arith
 filled-length (x ∷ l) p = omega (arith, p .0, filled-length l (p .1))
 
 -- ---- cuts
-
-pub cut-none : (l : List Slot) → cut 0 l ≡ []
-unfolding cut
-cut-none [] = refl
-cut-none (x ∷ l) = refl
-
--- a cut of one slot and more, for one octet or more
-cut-more : (n : ℕ) (x : Slot) (l : List Slot) → (n ≡ 0 → ⊥)
-    → cut n (x ∷ l) ≡ record { channel = x .channel; octets = min (x .octets) n } ∷ cut (n - x .octets) l
-unfolding cut
-cut-more n x l h = rw (ne-eqb n 0 h)
 
 -- whether there is an octet at all
 pub by-octets : (P : ℕ → Type 0) (n : ℕ) → P 0 → ((n ≡ 0 → ⊥) → P n) → P n

@@ -29,7 +29,8 @@ use Rattle.table.specs.Form.{countAs, elementWith, inTurn, elementAs, li
 use Rattle.table.specs.Slots.{Slot, passes, copies, slots, cut, payloadSlots, octetsOf}
 use Rattle.table.specs.Table.{longestPayload}
 use Rattle.table.specs.Lays.{elementSlots, listSlots}
-use Rattle.table.proofs.Cutting.{Filled, filled-append, cut-none, by-octets, cut-most, cut-filled, cut-cut, copies-filled, cut-both, copies-alike, copies-enough}
+use Rattle.table.proofs.Apart.{cut-none}
+use Rattle.table.proofs.Cutting.{Filled, filled-append, by-octets, cut-most, cut-filled, cut-cut, copies-filled, cut-both, copies-alike, copies-enough}
 use Rattle.table.proofs.Parts.{Once}
 
 -- ---- passed at least once

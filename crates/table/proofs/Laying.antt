@@ -21,7 +21,8 @@ use lib.Seq.{set-split}
 use Rattle.octets.specs.Written.{written, written-nothing, written-length, written-append}
 use Rattle.table.specs.declared.walk.Laid.{Laid}
 use Rattle.table.specs.Slots.{Slot, cut, octetsOf}
-use Rattle.table.proofs.Cutting.{Filled, filled-length, cut-none, cut-append, cut-octets, cut-most, cut-filled, cut-fits, octets-append}
+use Rattle.table.proofs.Apart.{cut-none}
+use Rattle.table.proofs.Cutting.{Filled, filled-length, cut-append, cut-octets, cut-most, cut-filled, cut-fits, octets-append}
 use Rattle.table.specs.Lays.{Room, Lays}
 
 lays-nothing : (from : Laid) (c l : List ℕ) → Lays from [] from c l c l

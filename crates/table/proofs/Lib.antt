@@ -1,4 +1,5 @@
 pub mod Allowed
+pub mod Apart
 pub mod Parts
 pub mod Cutting
 pub mod Expanding

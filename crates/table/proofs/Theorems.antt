@@ -2,14 +2,14 @@
 --
 --   numbersRead, slotsAreThose, isEntryExactly, entryFits, finiteOrClosing, closingTakesAll, finiteExactly, passesApart, fixedIs,
 --   freshEntries, replacedEntries, replacedUnique, laidUnique, freshHasNone, octetsInTurn, refusalLeaves, replacedKeeps, othersStay,
---   replacedIsRead, uncutWhole   the claims
+--   replacedIsRead, passesAre, cutFront   the claims
 --   defined-most     a code that has an entry is at most the highest
 --
 -- Assumes nothing.
 use mathlib.Core.Path.{_≡_, refl, sym, ap, ap₂, subst, _∙_}
 use mathlib.Core.Bool.{Bool, true, false, not}
 use mathlib.Core.List.{List, [], _∷_, _++_}
-use Prim.Native.Nat.{ℕ, zero, suc, _-_, _*_, _≤_, min}
+use Prim.Native.Nat.{ℕ, zero, suc, _-_, _*_, _≤_}
 use native.Mathlib.Omega.{arith}
 use native.Mathlib.Decide.{decLe}
 use borrow.Author.Tests.{le-leb, eq-eqb, ne-eqb, eqb-true, eqb-false, leb-true, ltb-false, not-false}
@@ -21,7 +21,7 @@ use Rattle.calls.specs.Refusal.{Ended, leaving, refusing}
 use Rattle.calls.proofs.Laws.{told-refused, leaving-same, by-tests, checked-leaves, checked-keeps, outcome-once}
 use Rattle.table.specs.Entry.{Elements, size, allElements, depth, isList, isEntryTree, elementNumbers, numbers, fixedTree}
 use Rattle.table.specs.Form.{treeOf, isEntry}
-use Rattle.table.specs.Slots.{Slot, slots, cut, octetsOf, entrySlots, payloadSlots}
+use Rattle.table.specs.Slots.{Slot, slots, entrySlots, payloadSlots}
 use Rattle.table.specs.Table.{entryOf, highestCode, longestEntry, isDefined, HasEntry, Entries, replaceTests, replaced, tableNumbers, withEntry}
 use Rattle.table.specs.Claims.{
   NumbersRead,
@@ -43,12 +43,14 @@ use Rattle.table.specs.Claims.{
   OthersStay,
   FreshHasNone,
   OctetsInTurn,
-  UncutWhole,
+  PassesAre,
+  CutFront,
 }
 use Rattle.table.proofs.Cutting.{channels-cut}
 use Rattle.table.proofs.Joining.{numbers-read, is-entry, entry-tree}
 use Rattle.table.proofs.Parts.{entry-some}
-use Rattle.table.proofs.Closing.{finite-or-closing, closing-takes, finite-exactly, passes-apart}
+use Rattle.table.proofs.Apart.{passes-apart, passes-are, cut-front}
+use Rattle.table.proofs.Closing.{finite-or-closing, closing-takes, finite-exactly}
 use Rattle.table.proofs.Entries.{entry-fixed, defined-not, defined-fixed, defined-put, entry-fits, entry-short}
 use Rattle.table.proofs.Placed.{withEntry-front, withEntry-other}
 
@@ -78,6 +80,12 @@ finiteExactly = finite-exactly
 
 pub passesApart : PassesApart
 passesApart = passes-apart
+
+pub passesAre : PassesAre
+passesAre = passes-are
+
+pub cutFront : (n : ℕ) (x : Slot) (l : List Slot) → CutFront n x l
+cutFront = cut-front
 
 pub fixedIs : FixedIs
 unfolding size allElements depth isList isEntryTree elementNumbers entryOf
@@ -199,14 +207,6 @@ pub othersStay : OthersStay
 othersStay t s u c d long e n =
     let a = accepted t s u c e in
     ap (λ (v : List ℕ). entryOf v d) (sym (a .left)) ∙ others-put t s c d long (a .some) (a .low) (a .is) n
-
-pub uncutWhole : UncutWhole
-unfolding cut octetsOf
-uncutWhole n [] h = refl
-uncutWhole n (x ∷ l) h =
-    let some : n ≡ 0 → ⊥ = λ z. omega arith in
-    let all : min (x .octets) n ≡ x .octets = omega arith in
-    rw (ne-eqb n 0 some, all, uncutWhole (n - x .octets) l (omega arith))
 
 -- ---- tables
 

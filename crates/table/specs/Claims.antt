@@ -7,8 +7,10 @@
 --   FiniteOrClosing    an entry is finite, or its last element repeats until closing
 --   ClosingTakesAll    one that ends until closing takes every payload
 --   FiniteExactly      a payload has more octets than its entry exactly where that is finite and has fewer
---   PassesApart        a channel element is one slot, and each pass of an inner list has all slots of the list: none are joined
---   UncutWhole         a payload that is longer than its slots leaves them as they are: none are joined
+--   PassesApart        a channel element is one slot, and each pass of an inner list has all slots of the list, whatever its count: none are joined
+--   PassesAre          an element is passed as often as its count says; until closing is once for each octet of the payload
+--   CutFront n x l     the slots of n octets are those of the entry in their turn: a slot that the payload fills is there whole, the one
+--                      in which it ends is the last, with the octets that are left, and none are joined
 --   FixedIs            entry 0 is channel 0 until closing
 --   FreshEntries       a fresh table has an entry's numbers at each code that is defined
 --   ReplacedEntries    .. and so has one in which an entry was replaced, or not
@@ -25,16 +27,16 @@
 use mathlib.Core.Path.{_≡_}
 use mathlib.Core.Logic.{_↔_}
 use mathlib.Core.Bool.{true, not}
-use mathlib.Core.List.{List, _++_}
-use Prim.Native.Nat.{ℕ, _+_, _*_, _≤_, _<_}
+use mathlib.Core.List.{List, [], _∷_, _++_}
+use Prim.Native.Nat.{ℕ, _+_, _-_, _*_, _≤_, _<_}
 use lib.Dec.{eqb}
 use lib.ListN.{length, replicate, take}
 use Rattle.calls.specs.declared.Outcome.{Outcome}
 use Rattle.calls.specs.Refusal.{refused, ended, leaving, outcomeSays}
 use Rattle.table.specs.declared.walk.Laid.{Laid}
-use Rattle.table.specs.Entry.{Count, times, Elements, channel, list, isEntryTree, numbers, isFinite, isClosing, octetsIn, fixedTree}
+use Rattle.table.specs.Entry.{Count, times, untilClosing, Elements, channel, list, isEntryTree, numbers, isFinite, isClosing, octetsIn, fixedTree}
 use Rattle.table.specs.Form.{treeOf, isEntry}
-use Rattle.table.specs.Slots.{Slot, slots, cut, entrySlots, payloadSlots, octetsOf, channelsOf}
+use Rattle.table.specs.Slots.{Slot, passes, slots, cut, entrySlots, payloadSlots, octetsOf, channelsOf}
 use Rattle.table.specs.Table.{highestCode, longestEntry, tableNumbers, entryOf, isDefined, Entries, withEntry, replaced}
 use Rattle.table.specs.Lays.{Lays}
 
@@ -63,14 +65,19 @@ FiniteExactly = (l : Elements) (n : ℕ) → isEntryTree l ≡ true → octetsOf
 
 abbrev pub PassesApart : Type 0
 PassesApart =
-    (n k c : ℕ) (r : Count) (i l : Elements) → (length (slots n (channel r c l)) ≡ 1 + length (slots n l))
-    × (length (slots n (list (times k) i l)) ≡ k * length (slots n i) + length (slots n l))
+    (n c : ℕ) (r : Count) (i l : Elements) → (length (slots n (channel r c l)) ≡ 1 + length (slots n l))
+    × (length (slots n (list r i l)) ≡ passes n r * length (slots n i) + length (slots n l))
+
+abbrev pub PassesAre : Type 0
+PassesAre = (n k : ℕ) → (passes n (times k) ≡ k) × (passes n untilClosing ≡ n)
+
+pub record CutFront (n : ℕ) (x : Slot) (l : List Slot) : Type 0 where
+  pub whole : 1 ≤ n → x .octets ≤ n → cut n (x ∷ l) ≡ x ∷ cut (n - x .octets) l
+  pub short : 1 ≤ n → n < x .octets → cut n (x ∷ l) ≡ record { channel = x .channel; octets = n } ∷ []
+  pub none : cut 0 (x ∷ l) ≡ []
 
 abbrev pub FixedIs : Type 0
 FixedIs = (t : List ℕ) → (isEntryTree fixedTree ≡ true) × (entryOf t 0 ≡ numbers fixedTree)
-
-abbrev pub UncutWhole : Type 0
-UncutWhole = (n : ℕ) (l : List Slot) → octetsOf l < n → cut n l ≡ l
 
 -- ---- tables
 

@@ -4,6 +4,7 @@ pub mod Form
 pub mod Slots
 pub mod Table
 pub mod Limits
+pub mod Exactly
 pub mod Lays
 pub mod Small
 pub mod Claims
