@@ -1,3 +1,4 @@
+pub mod Applying
 pub mod Search
 pub mod Placing
 pub mod Layering
@@ -7,6 +8,7 @@ pub mod Holding
 pub mod Bounds
 pub mod Keeping
 pub mod Full
+pub mod Found
 pub mod Effects
 pub mod Theorems
 pub mod Laws

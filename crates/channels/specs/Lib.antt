@@ -5,4 +5,5 @@ pub mod Layers
 pub mod Parts
 pub mod Claims
 pub mod Full
+pub mod Exactly
 pub mod Effects
