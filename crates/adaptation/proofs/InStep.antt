@@ -31,8 +31,9 @@ use Rattle.adaptation.specs.declared.al2.Number.{Number}
 use Rattle.adaptation.specs.declared.al2.Number.the-variants.{Numbered, Plain}
 use Rattle.adaptation.specs.declared.al2.Arrival.{Arrival}
 use Rattle.adaptation.specs.declared.al2.Arrival.the-variants.{Taken, Misdelivered}
+use Rattle.adaptation.proofs.Applying.{whole-length}
 use Rattle.adaptation.proofs.Arrivals.{arrival-taken, arrival-late, arrival-next}
-use Rattle.adaptation.proofs.Wholes.{whole-length, whole-apart, whole-received}
+use Rattle.adaptation.proofs.Wholes.{whole-apart, whole-received}
 
 -- ---- a unit that may be sent
 

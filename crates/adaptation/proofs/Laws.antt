@@ -1,5 +1,9 @@
 -- What the crates above take from the adaptation layers' proofs, and nothing else.
 --
+--   adaptation-limits                    document 01's numbers (Applying)
+--   adaptation-exactly                   .. and what it says with "exactly when" (Assembled)
+--   whole-length                         how long a whole is (Applying)
+--   unit-not                             what is no unit of 1 to 1,024 octets (Applying)
 --   sent-leaves                          a refusal of AL2's sending leaves its output (Refusals)
 --   refused-not, refused-none            AL1M's three tests: none refuses where none holds, and only there (Refusals)
 --   coding-all                           what the length question answers is a unit that may be sent (Coding)
@@ -7,7 +11,6 @@
 --   sentIsHandedUp                       a sent unit with at most e octets changed is handed up as sent (Theorems)
 --   badge-exactly, outOfReachExactly, outOfReachLeaves, faultlessIsCodeWord   what each badge of AL1M is given for (Badges)
 --   encodedUnique, receivedUnique        one answer of AL1M (Theorems)
---   whole-length                         how long a whole is (Wholes)
 --   sentIsWhole, readBack, readIsWhole, nextInOrder, plainReceived   AL2's sending and receiving undo each other (InStep)
 --   inStep, wholesFrom-append, numberAfter-append, expectedAfter-append, numberAfter-lt
 --                                        .. and so do units that follow one another, and their numbers (InStep)
@@ -16,11 +19,12 @@
 --   says-once, passed-once, read-once, received-once   one answer of AL1 and AL2 (Unique)
 --
 -- Assumes nothing.
+pub use Rattle.adaptation.proofs.Applying.{whole-length, unit-not, adaptation-limits}
+pub use Rattle.adaptation.proofs.Assembled.{adaptation-exactly}
 pub use Rattle.adaptation.proofs.Refusals.{sent-leaves, refused-not, refused-none}
 pub use Rattle.adaptation.proofs.Coding.{coding-all}
 pub use Rattle.adaptation.proofs.Badges.{badge-exactly, outOfReachExactly, outOfReachLeaves, faultlessIsCodeWord}
 pub use Rattle.adaptation.proofs.Theorems.{sent-small, handed-small, sentIsHandedUp, encodedUnique, receivedUnique}
-pub use Rattle.adaptation.proofs.Wholes.{whole-length}
 pub use Rattle.adaptation.proofs.InStep.{sentIsWhole, readBack, readIsWhole, nextInOrder, plainReceived, inStep}
 pub use Rattle.adaptation.proofs.InStep.{wholesFrom-append, numberAfter-append, expectedAfter-append, numberAfter-lt}
 pub use Rattle.adaptation.proofs.Unique.{check8-once, badge-most, says-once, passed-once, read-once, received-once}

@@ -1,8 +1,10 @@
+pub mod Applying
 pub mod Octets
 pub mod Remainders
 pub mod Residue
 pub mod Rule
 pub mod Behind
+pub mod Assembled
 pub mod Coding
 pub mod Judging
 pub mod Settings

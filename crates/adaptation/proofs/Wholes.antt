@@ -1,7 +1,6 @@
--- AL2's wholes: how long they are, what each operation answers case by case, and that reading undoes putting together.
+-- AL2's wholes: what each operation answers case by case, and that reading undoes putting together.
 --
 --   field-most, fieldLength-most   a number takes at most one octet
---   whole-length                   of a whole
 --   sent-empty, sent-long          refusal 2: no unit, or a whole that is too long
 --   sent-room                      refusal 3: too little room
 --   sent-parts                     else the whole is written, part after part
@@ -32,7 +31,8 @@ use Rattle.adaptation.specs.AL2.{settled, received}
 use Rattle.adaptation.specs.AL2Claims.{isNumbered}
 use Rattle.adaptation.specs.declared.al2.Number.{Number}
 use Rattle.adaptation.specs.declared.al2.Number.the-variants.{Numbered, Plain}
-use Rattle.adaptation.proofs.Behind.{check-length, sealed-front, agrees-own}
+use Rattle.adaptation.proofs.Applying.{whole-length}
+use Rattle.adaptation.proofs.Behind.{sealed-front, agrees-own}
 
 pub field-most : (n : Number) → length (field n) ≤ 1
 field-most (Numbered n) = omega arith
@@ -46,9 +46,8 @@ fieldLength-most false = omega arith
 
 -- m is how many octets the number takes
 module _ (n : Number) (u : List ℕ) (m : ℕ) (e : m ≡ length (field n)) where
-  pub whole-length : length (whole n u) ≡ m + length u + 1
-  unfolding eight
-  whole-length = rw e (length-append (field n ++ u) _ ∙ ap₂ _+_ (length-append (field n) u) (check-length eight _))
+  long : length (whole n u) ≡ m + length u + 1
+  long = whole-length n u m e
 
   module _ (out : List ℕ) where
     pub sent-empty : length u ≡ 0 → sent n u out ≡ refusing out 2
@@ -57,20 +56,20 @@ module _ (n : Number) (u : List ℕ) (m : ℕ) (e : m ≡ length (field n)) wher
 
     pub sent-long : longestUnit < m + length u + 1 → sent n u out ≡ refusing out 2
     unfolding sent
-    sent-long l = rw (lt-leb (length (whole n u)) longestUnit (rw whole-length l), and-false (leb 1 (length u)))
+    sent-long l = rw (lt-leb (length (whole n u)) longestUnit (rw long l), and-false (leb 1 (length u)))
 
     module _ (p : 0 < length u) (fits : m + length u + 1 ≤ longestUnit) where
       allowed : isSendable n u ≡ true
-      allowed = rw (le-leb 1 (length u) p, le-leb (length (whole n u)) longestUnit (rw whole-length fits))
+      allowed = rw (le-leb 1 (length u) p, le-leb (length (whole n u)) longestUnit (rw long fits))
 
       pub sent-room : length out < m + length u + 1 → sent n u out ≡ refusing out 3
       unfolding sent
-      sent-room l = rw (allowed, lt-ltb (length out) (length (whole n u)) (rw whole-length l))
+      sent-room l = rw (allowed, lt-ltb (length out) (length (whole n u)) (rw long l))
 
       module _ (room : m + length u + 1 ≤ length out) where
         sent-whole : sent n u out ≡ leaving (m + length u + 1) (written out 0 (whole n u))
         unfolding sent
-        sent-whole = rw (allowed, le-ltb (length out) (length (whole n u)) (rw whole-length room), whole-length)
+        sent-whole = rw (allowed, le-ltb (length out) (length (whole n u)) (rw long room), long)
 
         -- what stands in the output after the number, after the unit, and after the check
         pub sent-parts : (a b c : List ℕ) → a ≡ written out 0 (field n) → b ≡ written a m u

@@ -13,3 +13,5 @@ pub mod Sending
 pub mod Receiving
 pub mod Claims
 pub mod Small
+pub mod Limits
+pub mod Exactly

@@ -8,16 +8,15 @@ use mathlib.Core.Path.{_≡_}
 use mathlib.Core.Logic.{_↔_, _⊎_}
 use mathlib.Core.Bool.{Bool, true, false}
 use mathlib.Core.List.{List, [], _∷_, _++_}
-use Prim.Native.Nat.{ℕ, _+_, _*_, _≤_, _<_}
+use Prim.Native.Nat.{ℕ, _+_, _≤_, _<_}
 use lib.ListN.{length}
-use Rattle.calls.specs.Refusal.{refused, told, refusal}
+use Rattle.calls.specs.Refusal.{refused, refusal}
 use Rattle.adaptation.specs.AL1M as al1m
 use Rattle.adaptation.specs.Sending.{encodeTests}
 use Rattle.adaptation.specs.Receiving.{isWord, receiveTests}
-use Rattle.adaptation.specs.AL1.{passTests}
 use Rattle.adaptation.specs.AL2 as al2
 use Rattle.adaptation.specs.declared.al2.Number.{Number}
-use Rattle.adaptation.specs.declared.al2.Number.the-variants.{Numbered, Plain}
+use Rattle.adaptation.specs.Limits.{AdaptationLimits}
 use Rattle.table.specs.Limits.{TableLimits}
 use Rattle.table.specs.Slots.{Slot, payloadSlots, octetsOf, numbersOf}
 use Rattle.table.specs.Table.{entryOf, isDefined}
@@ -30,19 +29,8 @@ use Rattle.multiplex.specs.Demultiplexer.{Delivery, DemuxLent, roomIn, tooSmall
 use Rattle.multiplex.specs.Multiplexer.{MuxLent, walked, multiplexTests}
 
 pub record Limits : Type 0 where
-  -- refusal 1: the check's width is not 0, 8 or 16, or e is over 127
-  pub settings : (b e : ℕ) → al1m.isSetting b e ≡ true ↔ (((b ≡ 0) ⊎ ((b ≡ 8) ⊎ (b ≡ 16))) × (e ≤ 127))
-  -- "AL1M units": t at least 1, and t + l + 2e at most 255; received, no more than 255 octets and no fewer than 1 + l + 2e
-  pub plainSent : (t e : ℕ) → al1m.isSendable t 0 e ≡ true ↔ ((1 ≤ t) × (t + 0 + 2 * e ≤ 255))
-  pub eightSent : (t e : ℕ) → al1m.isSendable t 8 e ≡ true ↔ ((1 ≤ t) × (t + 1 + 2 * e ≤ 255))
-  pub sixteenSent : (t e : ℕ) → al1m.isSendable t 16 e ≡ true ↔ ((1 ≤ t) × (t + 2 + 2 * e ≤ 255))
-  pub plainWord : (n e : ℕ) → isWord n 0 e ≡ true ↔ ((n ≤ 255) × (1 + 0 + 2 * e ≤ n))
-  pub eightWord : (n e : ℕ) → isWord n 8 e ≡ true ↔ ((n ≤ 255) × (1 + 1 + 2 * e ≤ n))
-  pub sixteenWord : (n e : ℕ) → isWord n 16 e ≡ true ↔ ((n ≤ 255) × (1 + 2 + 2 * e ≤ n))
-  -- "AL1 and AL2": units have at least 1 octet, the whole at most 1,024
-  pub passed : (u : List ℕ) → refusal (passTests u) ≡ told tt ↔ ((1 ≤ length u) × (length u ≤ 1024))
-  pub numbered : (n : ℕ) (u : List ℕ) → al2.isSendable (Numbered n) u ≡ true ↔ ((1 ≤ length u) × (1 + length u + 1 ≤ 1024))
-  pub unnumbered : (u : List ℕ) → al2.isSendable Plain u ≡ true ↔ ((1 ≤ length u) × (length u + 1 ≤ 1024))
+  -- "Checks", "AL1M units", "AL1 and AL2"
+  pub adaptation : AdaptationLimits
   -- "Multiplexer": a unit that waits has 1 to 1,024 octets, and the room is up to 255
   pub posted : (s : Channels) (n : ℕ) (u : List ℕ) → refusal (postTests s n u) ≡ refused 2 ↔ ((1 ≤ length u) × (length u ≤ 1024) → ⊥)
   pub room : (x : MuxLent) (t : List ℕ) (c k : ℕ) → refusal (multiplexTests x t c k) ≡ refused 2 ↔ (255 < k)

@@ -1,0 +1,205 @@
+-- Document 01's numbers and its "exactly when", proved of the adaptation layers' definitions by computing with them.
+--
+--   whole-length        how long a whole of AL2 is
+--   unit-not            what is no unit of 1 to 1,024 octets
+--   adaptation-limits   the numbers (specs/Limits.antt)
+--   of-al1m, of-units   the refusals (specs/Exactly.antt)
+--   agreeing            .. when a check agrees
+--   unchecked           .. when there is neither check nor code
+--   failed              .. what becomes of a unit of AL2 whose check disagrees
+--
+-- It takes nothing from the other proofs: a definition that fails a claim is refused here, before a lemma that it breaks besides.
+--
+-- Assumes nothing.
+use mathlib.Core.Path.{_≡_, refl, sym, ap, _∙_, subst}
+use mathlib.Core.Logic.{_↔_, _⊎_, inl, inr}
+use mathlib.Core.Bool.{Bool, true, false, cond, not, and-true, and-false}
+use mathlib.Core.List.{List, [], _∷_, _++_}
+use Prim.Native.Nat.{ℕ, _+_, _-_, _*_, _≤_}
+use native.Mathlib.Nat.{zero-add}
+use native.Mathlib.Omega.{arith}
+use borrow.Author.Tests.{le-leb, leb-true, eqb-true}
+use lib.Dec.{T, leb, ltb, eqb}
+use lib.ListN.{length, take, length-append}
+use lib.Seq.{take-at, drop-at}
+use Rattle.octets.specs.Exact.{chain, both-of, is-true, is-false, less, two-at-most, equal}
+use Rattle.octets.specs.Same.{same, same-self, same-equal}
+use Rattle.octets.specs.Tests.{both-true, never}
+use Rattle.calls.specs.Refusal.{told, _when_, refusal, Gives}
+use Rattle.calls.proofs.Laws.{given-exactly}
+use Rattle.adaptation.specs.Bits.{octetsOf}
+use Rattle.adaptation.specs.Check.{Kind, none, eight, sixteen, checkOf, agrees}
+use Rattle.adaptation.specs.Width.{widthOf, isKnown, kindAt}
+use Rattle.adaptation.specs.declared.checks.Asked.the-variants.{Known, Unknown}
+use Rattle.adaptation.specs.declared.checks.Width.the-variants.{Zero, Eight, Sixteen}
+use Rattle.adaptation.specs.AL1M.{isSetting, sentOctets, isSendable, al1mTests, sentLength}
+use Rattle.adaptation.specs.Receiving.{isWord, isBare}
+use Rattle.adaptation.specs.Handed.{isUnit}
+use Rattle.adaptation.specs.AL1.{passTests}
+use Rattle.adaptation.specs.AL2 as al2
+use Rattle.adaptation.specs.AL2Claims.{isNumbered}
+use Rattle.adaptation.specs.declared.al2.Number.{Number}
+use Rattle.adaptation.specs.declared.al2.Number.the-variants.{Numbered, Plain}
+use Rattle.adaptation.specs.Limits.{AdaptationLimits}
+use Rattle.adaptation.specs.Exactly.{OfAL1M, OfUnits}
+
+-- ---- the settings
+
+known : (b : ℕ) → isKnown (widthOf b) ≡ true → (b ≡ 0) ⊎ ((b ≡ 8) ⊎ (b ≡ 16))
+unfolding widthOf
+known b = zero (eqb b 0) refl
+  where
+    sixteenth : (t : Bool) → eqb b 16 ≡ t → isKnown (cond t (Known Sixteen) Unknown) ≡ true → (b ≡ 0) ⊎ ((b ≡ 8) ⊎ (b ≡ 16))
+    sixteenth true e h = inr (inr (eqb-true b 16 e))
+    sixteenth false e h = never (cc)
+
+    eighth : (t : Bool) → eqb b 8 ≡ t → isKnown (cond t (Known Eight) (cond (eqb b 16) (Known Sixteen) Unknown)) ≡ true → (b ≡ 0) ⊎ ((b ≡ 8) ⊎ (b ≡ 16))
+    eighth true e h = inr (inl (eqb-true b 8 e))
+    eighth false e h = sixteenth (eqb b 16) refl h
+
+    zero : (t : Bool) → eqb b 0 ≡ t → isKnown (cond t (Known Zero) (cond (eqb b 8) (Known Eight) (cond (eqb b 16) (Known Sixteen) Unknown))) ≡ true
+        → (b ≡ 0) ⊎ ((b ≡ 8) ⊎ (b ≡ 16))
+    zero true e h = inl (eqb-true b 0 e)
+    zero false e h = eighth (eqb b 8) refl h
+
+known-back : (b : ℕ) → (b ≡ 0) ⊎ ((b ≡ 8) ⊎ (b ≡ 16)) → isKnown (widthOf b) ≡ true
+unfolding widthOf
+known-back b (inl e) = rw e
+known-back b (inr (inl e)) = rw e
+known-back b (inr (inr e)) = rw e
+
+settings : (b e : ℕ) → isSetting b e ≡ true ↔ (((b ≡ 0) ⊎ ((b ≡ 8) ⊎ (b ≡ 16))) × (e ≤ 127))
+unfolding isSetting
+settings b e = (
+  λ h. let t = both-true (isKnown (widthOf b)) (leb e 127) h in (known b (t .0), leb-true e 127 (t .1)),
+  λ h. rw (known-back b (h .0), le-leb e 127 (h .1)),
+)
+
+widths : (kindAt 0 ≡ none) × (kindAt 8 ≡ eight) × (kindAt 16 ≡ sixteen)
+unfolding widthOf
+widths = (refl, refl, refl)
+
+-- ---- lengths
+
+sentLengths : (t e : ℕ) → (sentOctets t 0 e ≡ t + 0 + 2 * e) × (sentOctets t 8 e ≡ t + 1 + 2 * e) × (sentOctets t 16 e ≡ t + 2 + 2 * e)
+unfolding widthOf none eight sixteen
+sentLengths t e = (refl, refl, refl)
+
+asked : (t b e : ℕ) → isSetting b e ≡ true → isSendable t b e ≡ true → sentLength t b e ≡ told (sentOctets t b e)
+unfolding sentLength
+asked t b e s r = rw (s, r)
+
+-- m is how many octets the number takes
+pub whole-length : (n : Number) (u : List ℕ) (m : ℕ) → m ≡ length (al2.field n) → length (al2.whole n u) ≡ m + length u + 1
+unfolding octetsOf checkOf eight
+whole-length n u m e = rw e (length-append (al2.field n ++ u) _ ∙ ap (λ (k : ℕ). k + 1) (length-append (al2.field n) u))
+
+alone : (k : ℕ) (b : Bool) → refusal (k when not b ∷ []) ≡ told tt ↔ (b ≡ true)
+alone k true = (λ e. refl, λ e. refl)
+alone k false = (λ e. never (cc), λ e. never (cc))
+
+pub adaptation-limits : AdaptationLimits
+unfolding isSendable isWord widthOf none eight sixteen
+adaptation-limits = record {
+  settings = settings;
+  widths = widths;
+  sentLengths = sentLengths;
+  asked = asked;
+  plainSent = λ t e. two-at-most 1 t (t + 0 + 2 * e) 255;
+  eightSent = λ t e. two-at-most 1 t (t + 1 + 2 * e) 255;
+  sixteenSent = λ t e. two-at-most 1 t (t + 2 + 2 * e) 255;
+  plainWord = λ n e. two-at-most n 255 (1 + 0 + 2 * e) n;
+  eightWord = λ n e. two-at-most n 255 (1 + 1 + 2 * e) n;
+  sixteenWord = λ n e. two-at-most n 255 (1 + 2 + 2 * e) n;
+  passed = λ u. chain (alone 2 (isUnit 1024 u)) (two-at-most 1 (length u) (length u) 1024);
+  numbered = λ n u. rw (whole-length (Numbered n) u 1 refl) (two-at-most 1 (length u) (1 + length u + 1) 1024);
+  unnumbered = λ u. rw (whole-length Plain u 0 refl, zero-add (length u)) (two-at-most 1 (length u) (length u + 1) 1024);
+  numberedWhole = λ w. two-at-most (1 + 1 + 1) (length w) (length w) 1024;
+  unnumberedWhole = λ w. two-at-most (1 + 1) (length w) (length w) 1024;
+}
+
+-- ---- refusals
+
+-- AL1M's three tests in their order
+module _ (s r x : Bool) where
+  first : Gives (al1mTests s r x) 1 ↔ (s ≡ false)
+  first = chain (given-exactly 1 (al1mTests s r x) refl) (is-false s)
+
+  second : Gives (al1mTests s r x) 2 ↔ ((s ≡ true) × (r ≡ false))
+  second = chain (given-exactly 2 (al1mTests s r x) refl) (both-of (is-true s) (is-false r))
+
+  third : {A : Type 0} → x ≡ true ↔ A → Gives (al1mTests s r x) 3 ↔ ((s ≡ true) × ((r ≡ true) × A))
+  third q = chain (given-exactly 3 (al1mTests s r x) refl) (both-of (is-true s) (both-of (is-true r) q))
+
+pub of-al1m : (t n b e k : ℕ) → OfAL1M t n b e k
+of-al1m t n b e k =
+    let s = isSetting b e in
+    let r = isSendable t b e in
+    let x = ltb k (sentOctets t b e) in
+    let w = isWord n b e in
+    record {
+      length1 = first s r false;
+      length2 = second s r false;
+      length3 = λ g. let z : false ≡ true = third s r false (λ h. h, λ h. h) .0 g .1 .1 in never (cc);
+      encode1 = first s r x;
+      encode2 = second s r x;
+      encode3 = third s r x (less k (sentOctets t b e));
+      receive1 = first s w (ltb k n);
+      receive2 = second s w (ltb k n);
+      receive3 = third s w (ltb k n) (less k n);
+    }
+
+-- a test that was turned over holds where what the test says does not
+denied : {A : Type 0} (b : Bool) → b ≡ true ↔ A → not b ≡ true ↔ (A → ⊥)
+denied true q = (λ h. never (cc), λ f. absurd (f (q .0 refl)))
+denied false q = (λ h a. let z : false ≡ true = q .1 a in never (cc), λ f. refl)
+
+pub unit-not : (u : List ℕ) → not (isUnit 1024 u) ≡ true ↔ ((1 ≤ length u) × (length u ≤ 1024) → ⊥)
+unit-not u = denied (isUnit 1024 u) (two-at-most 1 (length u) (length u) 1024)
+
+pub of-units : (n : Number) (s : Bool) (u out : List ℕ) → OfUnits n s u out
+of-units n s u out = record {
+  pass2 = chain (given-exactly 2 (passTests u) refl) (unit-not u);
+  send2 = chain (given-exactly 2 (al2.sendTests n u out) refl) (is-false (al2.isSendable n u));
+  send3 = chain (given-exactly 3 (al2.sendTests n u out) refl)
+      (both-of (is-true (al2.isSendable n u)) (less (length out) (length (al2.whole n u))));
+  read2 = chain (given-exactly 2 (al2.readTests s u) refl) (is-false (al2.isWhole s u));
+}
+
+-- ---- checks
+
+pub agreeing : (κ : Kind) (u c : List ℕ) → length c ≡ κ .octets → agrees κ (u ++ c) ≡ true ↔ (c ≡ checkOf κ u)
+unfolding agrees
+agreeing κ u c h =
+    let n : length (u ++ c) - κ .octets ≡ length u = omega (arith, length-append u c) in
+    let a : agrees κ (u ++ c) ≡ same c (checkOf κ u) = rw (n, take-at u c (length u) refl, drop-at u c (length u) refl) in
+    (λ e. same-equal c (checkOf κ u) (subst T (sym (sym a ∙ e)) tt), λ e. a ∙ (rw e (same-self (checkOf κ u))))
+
+pub unchecked : (e : ℕ) → (isBare none e ≡ true ↔ (e ≡ 0)) × ((isBare eight e ≡ false) × (isBare sixteen e ≡ false))
+unfolding none eight sixteen
+unchecked e = (rw (and-true (eqb e 0)) (equal e 0), (and-false (eqb e 0), and-false (eqb e 0)))
+
+-- a unit behind its number, if it has one, and before an octet
+parted : (n : Number) (u : List ℕ) (c : ℕ) → al2.unitOf (isNumbered n) ((al2.field n ++ u) ++ c ∷ []) ≡ u
+parted (Numbered m) u c =
+    let k : length ((m ∷ u) ++ c ∷ []) - 1 - 1 ≡ length u = omega (arith, length-append u (c ∷ [])) in
+    ap (λ (j : ℕ). take j (u ++ c ∷ [])) k ∙ take-at u (c ∷ []) (length u) refl
+parted Plain u c =
+    let k : length (u ++ c ∷ []) - 1 - 0 ≡ length u = omega (arith, length-append u (c ∷ [])) in
+    ap (λ (j : ℕ). take j (u ++ c ∷ [])) k ∙ take-at u (c ∷ []) (length u) refl
+
+enough : (n : Number) (u : List ℕ) (c : ℕ) → 1 ≤ length u → al2.fieldLength (isNumbered n) + 1 + 1 ≤ length ((al2.field n ++ u) ++ c ∷ [])
+enough (Numbered m) u c h = omega (arith, length-append u (c ∷ []))
+enough Plain u c h = omega (arith, length-append u (c ∷ []))
+
+pub failed : (n : Number) (u : List ℕ) (c e : ℕ) → 1 ≤ length u → length (al2.field n ++ u) + 1 ≤ 1024 → (c ∷ [] ≡ checkOf eight (al2.field n ++ u) → ⊥)
+    → al2.received (isNumbered n) ((al2.field n ++ u) ++ c ∷ []) e ≡ told (al2.handedUp (record { badge = 3; changed = 0; unit = u }) 0 e)
+unfolding eight al2.received
+failed n u c e h l f =
+    let w = (al2.field n ++ u) ++ c ∷ [] in
+    let long : length w ≤ 1024 = omega (arith, length-append (al2.field n ++ u) (c ∷ [])) in
+    rw (le-leb (al2.fieldLength (isNumbered n) + 1 + 1) (length w) (enough n u c h), le-leb (length w) 1024 long, by (agrees eight w) refl, parted n u c)
+  where
+    by : (b : Bool) → agrees eight ((al2.field n ++ u) ++ c ∷ []) ≡ b → agrees eight ((al2.field n ++ u) ++ c ∷ []) ≡ false
+    by true q = absurd (f (agreeing eight (al2.field n ++ u) (c ∷ []) refl .0 q))
+    by false q = q
