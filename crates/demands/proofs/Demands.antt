@@ -8,6 +8,7 @@ use Rattle.runs.proofs.Laws.{demand-met, unit-to-unit}
 use Rattle.demands.specs.Demands.{Demands}
 use Rattle.demands.proofs.First.{demand1}
 use Rattle.demands.proofs.Ordered.{orders}
+use Rattle.demands.proofs.Exact.{exactly}
 use Rattle.demands.proofs.Limited.{limits}
 use Rattle.demands.proofs.Reached.{demand3}
 use Rattle.demands.proofs.Hosted.{host}
@@ -16,6 +17,7 @@ pub demands : Demands
 demands = record {
   first = demand1;
   orders = orders;
+  exactly = exactly;
   limits = limits;
   calls = calls-refuse;
   sound = always-sound;

@@ -4,6 +4,7 @@ pub mod Generating
 pub mod Vectors
 pub mod First
 pub mod Ordered
+pub mod Exact
 pub mod Limited
 pub mod Reached
 pub mod Trying

@@ -3,9 +3,9 @@
 --   Demands     all three; proofs/Demands.antt proves them
 --
 --   1  specs/Answers.antt, `Demand1`: any octets, settings, tables and order of calls are answered; what is refused, is refused under the
---      first number that applies, and a refusal leaves the state and every lent buffer as it came. Which numbers, and in which order:
---      specs/Orders.antt, `Orders`; at which limits: specs/Limits.antt, `Limits`; the same of any call as a run makes it: the multiplexer's `CallsRefuse`. (Any order of calls: the definitions
---      are total, and the multiplexer's `AlwaysSound` says that no call leads to a state that would not be one of document 01's.)
+--      first of the operation's tests that holds, and a refusal leaves the state and every lent buffer as it came. Which numbers the tests
+--      have: specs/Orders.antt, `Orders`; exactly when each is given: specs/Exactly.antt, `Exactly`; at which limits: specs/Limits.antt, `Limits`; the same
+--      of any call as a run makes it: the multiplexer's `CallsRefuse`. (Any order of calls: the definitions are total, and the multiplexer's `AlwaysSound` says that no call leads to a state that would not be one of document 01's.)
 --   2  `Demand2` in the specs/Demand.antt of `runs`: both ends fresh, the same table changes and openings at the same points, both sending and
 --      receiving, each payload given once, in order, with enough room: no payload is refused, and each end delivers on each channel
 --      exactly the units wholly sent at the other, in order. `UnitToUnit` in its specs/Carried.antt: from the unit handed in to the unit handed up
@@ -19,6 +19,7 @@ use Rattle.multiplex.specs.Calls.{AlwaysSound}
 use Rattle.multiplex.specs.Claims.{CallsRefuse}
 use Rattle.demands.specs.Answers.{Demand1}
 use Rattle.demands.specs.Orders.{Orders}
+use Rattle.demands.specs.Exactly.{Exactly}
 use Rattle.demands.specs.Limits.{Limits}
 use Rattle.demands.specs.Repairs.{Demand3}
 use Rattle.demands.specs.Host.{Host}
@@ -26,6 +27,7 @@ use Rattle.demands.specs.Host.{Host}
 pub record Demands : Type 1 where
   pub first : Demand1
   pub orders : Orders
+  pub exactly : Exactly
   pub limits : Limits
   pub calls : CallsRefuse
   pub sound : AlwaysSound

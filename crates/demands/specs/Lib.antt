@@ -1,6 +1,7 @@
 pub mod Small
 pub mod Answers
 pub mod Orders
+pub mod Exactly
 pub mod Limits
 pub mod Repairs
 pub mod Host

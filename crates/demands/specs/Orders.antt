@@ -1,5 +1,5 @@
--- Document 01's refusal numbers, operation by operation, in the order in which each looks at them. Each operation's tests stand
--- beside its definition; this says, in the paper's words, which numbers they give and in which order.
+-- Document 01's refusal numbers, operation by operation, in document 01's order: the numbers of each operation's tests, which stand
+-- beside its definition. Of the tests themselves this says nothing; exactly when each number is given is said in specs/Exactly.antt.
 --
 --   numbers l    the numbers of the tests l, in their order
 --   Orders       those of each operation; proofs/Ordered.antt proves it

@@ -1,33 +1,24 @@
 -- That slots stay apart, whoever's they are: those of an element behind one another, those of each pass of a list, and those of a payload.
 -- Worked out on the definitions alone.
 --
---   passes-apart    a channel element is one slot, and each pass of an inner list has all slots of the list
+--   slots-in-turn   the slots of an element before those behind it, and of each pass of a list behind the one before
 --   passes-are      how often an element is passed
 --   cut-none        no octets: no slots
 --   cut-more        a cut of one slot and more, for one octet or more
 --   cut-front       a payload's slots are the entry's, the last maybe shorter
 --
 -- Assumes nothing.
-use mathlib.Core.Path.{_≡_, refl, ap, _∙_}
+use mathlib.Core.Path.{_≡_, refl, _∙_}
 use mathlib.Core.List.{List, [], _∷_}
-use Prim.Native.Nat.{ℕ, zero, suc, _+_, _-_, _*_, min}
+use Prim.Native.Nat.{ℕ, _-_, min}
 use native.Mathlib.Omega.{arith}
 use borrow.Author.Tests.{ne-eqb}
-use lib.ListN.{length, length-append}
-use Rattle.table.specs.Slots.{Slot, passes, copies, slots, cut}
-use Rattle.table.specs.Claims.{PassesApart, PassesAre, CutFront}
+use Rattle.table.specs.Slots.{Slot, copies, slots, cut}
+use Rattle.table.specs.Claims.{SlotsInTurn, PassesAre, CutFront}
 
-copies-length : (k : ℕ) (x : List Slot) → length (copies k x) ≡ k * length x
-unfolding copies
-copies-length zero x = omega arith
-copies-length (suc k) x = omega (arith, length-append x (copies k x), copies-length k x)
-
-pub passes-apart : PassesApart
-unfolding slots
-passes-apart n c r i l = (
-  omega arith,
-  length-append (copies (passes n r) (slots n i)) (slots n l) ∙ ap (λ (m : ℕ). m + length (slots n l)) (copies-length (passes n r) (slots n i)),
-)
+pub slots-in-turn : SlotsInTurn
+unfolding slots copies
+slots-in-turn n k c r i l s = (refl, refl, refl, refl, refl)
 
 pub passes-are : PassesAre
 passes-are n k = (refl, refl)

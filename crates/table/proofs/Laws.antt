@@ -2,7 +2,7 @@
 --
 --   cut-none, Filled, filled-length, cut-octets                           slots and cuts (Apart, Cutting)
 --   payloadSlots-filled, payloadSlots-most, payloadSlots-cut              the slots of a payload (Expanding)
---   numbersRead, slotsAreThose, closingTakesAll, finiteOrClosing, finiteExactly, passesApart, passesAre, cutFront   entries and slots (Theorems)
+--   numbersRead, slotsAreThose, closingTakesAll, finiteOrClosing, finiteExactly, slotsInTurn, passesAre, cutFront   entries and slots (Theorems)
 --   tree-exactly, of-table                                                which trees are entries, and where replacing is refused (Allowed)
 --   table-limits                                                          document 01's numbers (Limited)
 --   defined-most, fixedIs, freshEntries, replacedEntries, replacedUnique, replacedKeeps   the table (Theorems)
@@ -20,7 +20,7 @@ pub use Rattle.table.proofs.Theorems.{
   finiteOrClosing,
   closingTakesAll,
   finiteExactly,
-  passesApart,
+  slotsInTurn,
   passesAre,
   cutFront,
   defined-most,

@@ -1,6 +1,6 @@
 -- The claims of specs/Claims.antt; and what a code is that has an entry.
 --
---   numbersRead, slotsAreThose, isEntryExactly, entryFits, finiteOrClosing, closingTakesAll, finiteExactly, passesApart, fixedIs,
+--   numbersRead, slotsAreThose, isEntryExactly, entryFits, finiteOrClosing, closingTakesAll, finiteExactly, slotsInTurn, fixedIs,
 --   freshEntries, replacedEntries, replacedUnique, laidUnique, freshHasNone, octetsInTurn, refusalLeaves, replacedKeeps, othersStay,
 --   replacedIsRead, passesAre, cutFront   the claims
 --   defined-most     a code that has an entry is at most the highest
@@ -31,7 +31,7 @@ use Rattle.table.specs.Claims.{
   FiniteOrClosing,
   ClosingTakesAll,
   FiniteExactly,
-  PassesApart,
+  SlotsInTurn,
   FixedIs,
   FreshEntries,
   ReplacedEntries,
@@ -49,7 +49,7 @@ use Rattle.table.specs.Claims.{
 use Rattle.table.proofs.Cutting.{channels-cut}
 use Rattle.table.proofs.Joining.{numbers-read, is-entry, entry-tree}
 use Rattle.table.proofs.Parts.{entry-some}
-use Rattle.table.proofs.Apart.{passes-apart, passes-are, cut-front}
+use Rattle.table.proofs.Apart.{slots-in-turn, passes-are, cut-front}
 use Rattle.table.proofs.Closing.{finite-or-closing, closing-takes, finite-exactly}
 use Rattle.table.proofs.Entries.{entry-fixed, defined-not, defined-fixed, defined-put, entry-fits, entry-short}
 use Rattle.table.proofs.Placed.{withEntry-front, withEntry-other}
@@ -78,8 +78,8 @@ closingTakesAll = closing-takes
 pub finiteExactly : FiniteExactly
 finiteExactly = finite-exactly
 
-pub passesApart : PassesApart
-passesApart = passes-apart
+pub slotsInTurn : SlotsInTurn
+slotsInTurn = slots-in-turn
 
 pub passesAre : PassesAre
 passesAre = passes-are

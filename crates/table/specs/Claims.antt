@@ -7,7 +7,8 @@
 --   FiniteOrClosing    an entry is finite, or its last element repeats until closing
 --   ClosingTakesAll    one that ends until closing takes every payload
 --   FiniteExactly      a payload has more octets than its entry exactly where that is finite and has fewer
---   PassesApart        a channel element is one slot, and each pass of an inner list has all slots of the list, whatever its count: none are joined
+--   SlotsInTurn        a channel element is one slot, before those of the elements behind it; an inner list's slots are those of each of its passes,
+--                      one pass behind another, whatever its count: none are joined
 --   PassesAre          an element is passed as often as its count says; until closing is once for each octet of the payload
 --   CutFront n x l     the slots of n octets are those of the entry in their turn: a slot that the payload fills is there whole, the one
 --                      in which it ends is the last, with the octets that are left, and none are joined
@@ -28,15 +29,15 @@ use mathlib.Core.Path.{_≡_}
 use mathlib.Core.Logic.{_↔_}
 use mathlib.Core.Bool.{true, not}
 use mathlib.Core.List.{List, [], _∷_, _++_}
-use Prim.Native.Nat.{ℕ, _+_, _-_, _*_, _≤_, _<_}
+use Prim.Native.Nat.{ℕ, suc, _+_, _-_, _*_, _≤_, _<_}
 use lib.Dec.{eqb}
 use lib.ListN.{length, replicate, take}
 use Rattle.calls.specs.declared.Outcome.{Outcome}
 use Rattle.calls.specs.Refusal.{refused, ended, leaving, outcomeSays}
 use Rattle.table.specs.declared.walk.Laid.{Laid}
-use Rattle.table.specs.Entry.{Count, times, untilClosing, Elements, channel, list, isEntryTree, numbers, isFinite, isClosing, octetsIn, fixedTree}
+use Rattle.table.specs.Entry.{Count, times, none, untilClosing, Elements, channel, list, isEntryTree, numbers, isFinite, isClosing, octetsIn, fixedTree}
 use Rattle.table.specs.Form.{treeOf, isEntry}
-use Rattle.table.specs.Slots.{Slot, passes, slots, cut, entrySlots, payloadSlots, octetsOf, channelsOf}
+use Rattle.table.specs.Slots.{Slot, passes, copies, slots, cut, entrySlots, payloadSlots, octetsOf, channelsOf}
 use Rattle.table.specs.Table.{highestCode, longestEntry, tableNumbers, entryOf, isDefined, Entries, withEntry, replaced}
 use Rattle.table.specs.Lays.{Lays}
 
@@ -63,10 +64,10 @@ ClosingTakesAll = (l : Elements) (n : ℕ) → isEntryTree l ≡ true → isClos
 abbrev pub FiniteExactly : Type 0
 FiniteExactly = (l : Elements) (n : ℕ) → isEntryTree l ≡ true → octetsOf (entrySlots l n) < n ↔ ((isFinite l ≡ true) × (octetsIn l < n))
 
-abbrev pub PassesApart : Type 0
-PassesApart =
-    (n c : ℕ) (r : Count) (i l : Elements) → (length (slots n (channel r c l)) ≡ 1 + length (slots n l))
-    × (length (slots n (list r i l)) ≡ passes n r * length (slots n i) + length (slots n l))
+abbrev pub SlotsInTurn : Type 0
+SlotsInTurn =
+    (n k c : ℕ) (r : Count) (i l : Elements) (s : List Slot) → (slots n (channel r c l) ≡ record { channel = c; octets = passes n r } ∷ slots n l)
+    × (slots n (list r i l) ≡ copies (passes n r) (slots n i) ++ slots n l) × (slots n none ≡ []) × (copies (suc k) s ≡ s ++ copies k s) × (copies 0 s ≡ [])
 
 abbrev pub PassesAre : Type 0
 PassesAre = (n k : ℕ) → (passes n (times k) ≡ k) × (passes n untilClosing ≡ n)
