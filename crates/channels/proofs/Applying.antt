@@ -20,7 +20,7 @@ use Rattle.channels.specs.Layers.{SendLent, sendingTests, takingTests}
 use Rattle.channels.specs.Claims.{channelOf}
 use Rattle.channels.specs.Exactly.{OfChannels, OfLayers}
 
--- what fails a test, where we know exactly what passes it
+-- a test that says something exactly fails where that is not so
 fails : {A : Type 0} (b : Bool) → b ≡ true ↔ A → not b ≡ true ↔ (A → ⊥)
 fails true p = (λ e. never (cc), λ f. absurd (f (p .0 refl)))
 fails false p = (λ e a. let z : false ≡ true = p .1 a in never (cc), λ f. refl)

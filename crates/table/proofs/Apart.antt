@@ -1,5 +1,5 @@
--- That slots stay apart, whoever's they are: those of an element behind one another, those of each pass of a list, and those of a payload.
--- Worked out on the definitions alone.
+-- That slots stay apart: those of elements one behind another, those of each pass of a list, and those of a payload. Worked out on the
+-- definitions alone.
 --
 --   slots-in-turn   the slots of an element before those behind it, and of each pass of a list behind the one before
 --   passes-are      how often an element is passed
