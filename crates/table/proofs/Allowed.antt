@@ -1,6 +1,7 @@
 -- Which trees are entries, by document 01's numbers, and where replacing is refused: worked out on the definitions alone.
 --
 --   tree-limits     the numbers of an entry
+--   tree-sizes      what is counted of a tree
 --   tree-exactly    .. and which trees are entries, exactly
 --   of-table        the refusals of replacing, exactly
 --
@@ -20,7 +21,7 @@ use Rattle.table.specs.Entry.{Count, times, untilClosing, Elements, none
 use Rattle.table.specs.Form.{isEntry}
 use Rattle.table.specs.Table.{replaceTests}
 use Rattle.table.specs.Limits.{TreeLimits}
-use Rattle.table.specs.Exactly.{Counted, Well, TreeExactly, OfTable}
+use Rattle.table.specs.Exactly.{Counted, Well, TreeSizes, TreeExactly, OfTable}
 
 -- two tests, each of which says something exactly
 both : {A B : Type 0} (a b : Bool) → a ≡ true ↔ A → b ≡ true ↔ B → (a && b) ≡ true ↔ (A × B)
@@ -61,6 +62,10 @@ list-exactly top none = (λ e. tt, λ w. refl)
 list-exactly top (channel r c l) = both _ _ (count-exactly top r l) (both _ _ (at-most c 65535) (list-exactly top l))
 list-exactly top (list r i l) =
     both _ _ (count-exactly top r l) (both _ _ (at-most 2 (size i)) (both _ _ (list-exactly false i) (list-exactly top l)))
+
+pub tree-sizes : (r : Count) (c : ℕ) (i l : Elements) → TreeSizes r c i l
+unfolding size allElements depth
+tree-sizes r c i l = record { size = (refl, omega arith, omega arith); all = (refl, refl, refl); depth = (refl, refl, refl) }
 
 pub tree-exactly : TreeExactly
 unfolding isEntryTree
