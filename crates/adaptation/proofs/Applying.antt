@@ -20,7 +20,7 @@ use native.Mathlib.Nat.{zero-add}
 use native.Mathlib.Omega.{arith}
 use borrow.Author.Tests.{le-leb, leb-true, eqb-true}
 use lib.Dec.{T, leb, ltb, eqb}
-use lib.ListN.{length, take, length-append}
+use lib.ListN.{length, take, drop, length-append}
 use lib.Seq.{take-at, drop-at}
 use Rattle.octets.specs.Exact.{chain, both-of, is-true, is-false, less, two-at-most, equal}
 use Rattle.octets.specs.Same.{same, same-self, same-equal}
@@ -180,7 +180,8 @@ unfolding none eight sixteen
 unchecked e = (rw (and-true (eqb e 0)) (equal e 0), (and-false (eqb e 0), and-false (eqb e 0)))
 
 -- a unit behind its number, if it has one, and before an octet
-parted : (n : Number) (u : List ℕ) (c : ℕ) → al2.unitOf (isNumbered n) ((al2.field n ++ u) ++ c ∷ []) ≡ u
+parted : (n : Number) (u : List ℕ) (c : ℕ) → let w = (al2.field n ++ u) ++ c ∷ [] in
+    let f = al2.fieldLength (isNumbered n) in take (length w - 1 - f) (drop f w) ≡ u
 parted (Numbered m) u c =
     let k : length ((m ∷ u) ++ c ∷ []) - 1 - 1 ≡ length u = omega (arith, length-append u (c ∷ [])) in
     ap (λ (j : ℕ). take j (u ++ c ∷ [])) k ∙ take-at u (c ∷ []) (length u) refl
@@ -198,7 +199,8 @@ unfolding eight al2.received
 failed n u c e h l f =
     let w = (al2.field n ++ u) ++ c ∷ [] in
     let long : length w ≤ 1024 = omega (arith, length-append (al2.field n ++ u) (c ∷ [])) in
-    rw (le-leb (al2.fieldLength (isNumbered n) + 1 + 1) (length w) (enough n u c h), le-leb (length w) 1024 long, by (agrees eight w) refl, parted n u c)
+    rw (le-leb (al2.fieldLength (isNumbered n) + 1 + 1) (length w) (enough n u c h), le-leb (length w) 1024 long, by (agrees eight w) refl)
+    (ap (λ (v : List ℕ). told (al2.handedUp (record { badge = 3; changed = 0; unit = v }) 0 e)) (parted n u c))
   where
     by : (b : Bool) → agrees eight ((al2.field n ++ u) ++ c ∷ []) ≡ b → agrees eight ((al2.field n ++ u) ++ c ∷ []) ≡ false
     by true q = absurd (f (agreeing eight (al2.field n ++ u) (c ∷ []) refl .0 q))
