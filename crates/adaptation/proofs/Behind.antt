@@ -2,6 +2,7 @@
 --
 --   check-length      it has the octets of its kind
 --   check-octets      .. and they are octets
+--   message-length    a unit with its check
 --   check-part        of a list that begins with the check, the part of that length is the check
 --   check-fits        .. and it is there
 --   sealed-front      a content written at the front, and its check behind it, are both written there together
@@ -13,7 +14,7 @@
 use mathlib.Core.Path.{_≡_, refl, sym, ap, ap₂, _∙_}
 use mathlib.Core.Bool.{true}
 use mathlib.Core.List.{List, _++_}
-use Prim.Native.Nat.{ℕ, _-_, _≤_, _<_}
+use Prim.Native.Nat.{ℕ, _+_, _-_, _≤_, _<_}
 use native.Mathlib.Nat.{sub-zero}
 use native.Mathlib.Omega.{arith}
 use lib.ListN.{length, getD, take, drop, length-append, length-drop}
@@ -22,6 +23,7 @@ use Rattle.octets.specs.Same.{same, same-self}
 use Rattle.octets.specs.Written.{written, written-front, written-next}
 use Rattle.adaptation.specs.Bits.{octetsOf}
 use Rattle.adaptation.specs.Check.{Kind, checkOf, agrees}
+use Rattle.adaptation.specs.Sending.{message}
 use Rattle.adaptation.proofs.Octets.{octetsOf-length, octetsOf-lt}
 
 module _ (κ : Kind) (u : List ℕ) where
@@ -32,6 +34,9 @@ module _ (κ : Kind) (u : List ℕ) where
   pub check-octets : (i : ℕ) → getD (checkOf κ u) i 0 < 256
   unfolding checkOf
   check-octets i = octetsOf-lt (κ .octets) _ i
+
+  pub message-length : length (message κ u) ≡ length u + κ .octets
+  message-length = length-append u (checkOf κ u) ∙ ap (λ (k : ℕ). length u + k) check-length
 
   module _ (l : ℕ) (r z : List ℕ) (n : l ≡ κ .octets) (e : r ≡ checkOf κ u ++ z) where
     pub check-part : take l r ≡ checkOf κ u

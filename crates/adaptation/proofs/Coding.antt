@@ -1,7 +1,6 @@
 -- What AL1M sends.
 --
---   message-length   a unit with its check
---   message-octets   .. is octets where the unit is
+--   message-octets   a unit with its check is octets where the unit is
 --   message-built    unit and check, written one behind the other into a buffer, are the message
 --   sent-is          what encoding it leaves is what the unit is sent as
 --   coding-refused   what refuses to say a length refuses to send
@@ -30,26 +29,23 @@ use Rattle.adaptation.specs.Check.{Kind, checkOf}
 use Rattle.adaptation.specs.Width.{kindAt}
 use Rattle.adaptation.specs.AL1M.{isSetting, isSendable, sentOctets, sentLength}
 use Rattle.adaptation.specs.Sending.{message, encodeTests, SentIs}
-use Rattle.adaptation.proofs.Behind.{check-length, check-octets, sealed-front}
+use Rattle.adaptation.proofs.Behind.{check-octets, message-length, sealed-front}
 use Rattle.adaptation.proofs.Refusals.{refused-room, refused-not, refused-sooner, refused-later}
 
 module _ (κ : Kind) (u : List ℕ) where
-  pub message-length : length (message κ u) ≡ length u + κ .octets
-  message-length = length-append u (checkOf κ u) ∙ ap (λ (k : ℕ). length u + k) (check-length κ u)
-
   pub message-octets : Octets u → Octets (message κ u)
   message-octets o = octets-append u (checkOf κ u) o (check-octets κ u)
 
   pub message-built : (d a b : List ℕ) (k : ℕ) → length u + κ .octets ≤ length d → a ≡ written d 0 u → b ≡ written a (length u) (checkOf κ (take (length u) a))
       → k ≡ length u + κ .octets → take k b ≡ message κ u
   message-built d a b k h ha hb hk =
-      ap₂ take (hk ∙ sym message-length) (hb ∙ ap (λ (x : List ℕ). written x (length u) (checkOf κ (take (length u) x))) ha ∙ sealed-front κ u d (omega arith))
-      ∙ written-front d (message κ u) (rw message-length h)
+      ap₂ take (hk ∙ sym (message-length κ u)) (hb ∙ ap (λ (x : List ℕ). written x (length u) (checkOf κ (take (length u) x))) ha ∙ sealed-front κ u d (omega arith))
+      ∙ written-front d (message κ u) (rw (message-length κ u) h)
 
   pub sent-is : (e : ℕ) (m before after : List ℕ) (n : ℕ) → Octets u → m ≡ message κ u → 0 < length u → length u + κ .octets + 2 * e ≤ longestWord
       → length u + κ .octets + 2 * e ≤ length before → Encoded e m before n after → SentIs κ e u before (length u + κ .octets + 2 * e) after
   sent-is e m before after n o is some all room p =
-      let l = message-length in
+      let l = message-length κ u in
       let fits = encodes-true (length (message κ u)) e (length before) (omega (arith, l)) (omega (arith, l)) (omega (arith, l)) in
       let d = encoded-is e (message κ u) before after n fits (rw is at p) in
       let long : length (message κ u ++ d .parity) ≡ length (message κ u) + 2 * e =

@@ -6,16 +6,15 @@
 --
 -- Assumes nothing.
 use mathlib.Core.Path.{_≡_, sym, ap, ap₂, _∙_}
-use mathlib.Core.Bool.{true, false}
+use mathlib.Core.Bool.{true}
 use mathlib.Core.List.{List}
-use Prim.Native.Nat.{ℕ, _+_, _-_, _*_, _≤_, _<_}
+use Prim.Native.Nat.{ℕ, _-_, _*_, _≤_, _<_}
 use native.Mathlib.Omega.{arith}
-use borrow.Author.Tests.{ltb-false, leb-true, le-ltb}
+use borrow.Author.Tests.{leb-true, le-ltb}
 use lib.Dec.{leb, ltb}
 use lib.ListN.{length, take}
-use lib.Seq.{take-take, take-append-seam}
 use Rattle.octets.specs.Tests.{both-true}
-use Rattle.octets.specs.Written.{written, written-front}
+use Rattle.octets.specs.Written.{written}
 use Rattle.codeword.specs.CodeWord.{distance, Within, longestWord}
 use Rattle.codeword.specs.Repair.{Repaired}
 use Rattle.codeword.specs.declared.Reach.{Reach}
@@ -34,10 +33,10 @@ use Rattle.adaptation.specs.declared.Badge.{Badge}
 use Rattle.adaptation.specs.declared.al1m.Judgement.{Judgement}
 use Rattle.adaptation.specs.declared.al1m.Received.{Received}
 use Rattle.adaptation.specs.declared.al1m.Received.the-variants as receive
+use Rattle.adaptation.proofs.Assembled.{sendable, long, word, unit-sent}
 use Rattle.adaptation.proofs.Badges.{passed, word-is, changed-found, badge-sent, unit-found}
 use Rattle.adaptation.proofs.Behind.{agrees-own}
-use Rattle.adaptation.proofs.Coding.{message-length}
-use Rattle.adaptation.proofs.Refusals.{refused-none, refused-not}
+use Rattle.adaptation.proofs.Refusals.{refused-not}
 use Rattle.adaptation.proofs.Settings.{word-true}
 
 -- ---- sent, and handed up
@@ -54,24 +53,17 @@ module _ (n e m : ℕ) (u room sent : List ℕ) (s : Sends n e u room (sends.Oct
   coded : Coded (kindAt n) e u (s .1 .sent)
   coded = s .1 .coded
 
-  sendable : (isSetting n e ≡ true) × (isSendable (length u) n e ≡ true) × (ltb (length room) (sentOctets (length u) n e) ≡ false)
-  sendable = refused-none (isSetting n e) (isSendable (length u) n e) (ltb (length room) (sentOctets (length u) n e)) (s .0)
+  sent-long : m ≡ sentOctets (length u) n e
+  sent-long = long n e m u room sent s
 
-  long : m ≡ sentOctets (length u) n e
-  long = s .1 .count ∙ coded .long ∙ ap (λ (k : ℕ). k + 2 * e) (message-length (kindAt n) u)
-
-  sizes : (0 < length u) × (m ≤ longestWord) × (m ≤ length room)
+  sizes : (0 < length u) × (m ≤ longestWord)
   unfolding isSendable
   sizes =
-      let b = both-true (leb 1 (length u)) (leb (sentOctets (length u) n e) longestWord) (sendable .1) in (
-        leb-true 1 (length u) (b .0),
-        rw long (leb-true (sentOctets (length u) n e) longestWord (b .1)),
-        rw long
-            (ltb-false (length room) (sentOctets (length u) n e) (sendable .2)),
-      )
+      let b = both-true (leb 1 (length u)) (leb (sentOctets (length u) n e) longestWord) (sendable n e m u room sent s .1) in
+      (leb-true 1 (length u) (b .0), rw sent-long (leb-true (sentOctets (length u) n e) longestWord (b .1)))
 
   sent-front : take m sent ≡ s .1 .sent
-  sent-front = ap₂ take (s .1 .count) (s .1 .written-is) ∙ written-front room (s .1 .sent) (omega (arith, s .1 .count, sizes .2))
+  sent-front = word n e m u room sent s
 
   module _ (w before after : List ℕ) (l : length w ≡ m) (near : distance w (take m sent) ≤ e) (fits : m ≤ length before) where
     within : Within e w (s .1 .sent)
@@ -85,16 +77,10 @@ module _ (n e m : ℕ) (u room sent : List ℕ) (s : Sends n e u room (sends.Oct
     agrees-sent : isAgreeing n e (s .1 .sent) ≡ true
     agrees-sent = ap (agrees (kindAt n)) content ∙ agrees-own (kindAt n) u
 
-    unit-sent : take (length u) (s .1 .sent) ≡ u
-    unit-sent =
-        sym (take-take (length u) (length (message (kindAt n) u)) (s .1 .sent) (omega (arith, message-length (kindAt n) u)))
-        ∙ ap (take (length u)) (coded .begins)
-        ∙ take-append-seam u _
-
     allowed : refusal (receiveTests (length w) n e (length before)) ≡ told tt
     allowed =
-        refused-not (isSetting n e) (isWord (length w) n e) (ltb (length before) (length w)) (sendable .0)
-        (word-true (length w) n e (omega (arith, sizes)) (omega (arith, sizes, long))) (le-ltb (length before) (length w) (omega arith))
+        refused-not (isSetting n e) (isWord (length w) n e) (ltb (length before) (length w)) (sendable n e m u room sent s .0)
+        (word-true (length w) n e (omega (arith, sizes)) (omega (arith, sizes, sent-long))) (le-ltb (length before) (length w) (omega arith))
 
     abbrev badge : Badge
     badge = badgeOfSent (kindAt n) e (distance w (take m sent))
@@ -104,13 +90,13 @@ module _ (n e m : ℕ) (u room sent : List ℕ) (s : Sends n e u room (sends.Oct
     handed (receive.Refused k) p = told-refused allowed (p .first)
     handed (receive.Unit j) (a, h) =
         let c = s .1 .sent in
-        let t : j .length ≡ length u = h .length-is ∙ omega (arith, l, long) in
+        let t : j .length ≡ length u = h .length-is ∙ omega (arith, l, sent-long) in
         let d : j .changed ≡ distance w (take m sent) = changed-found n e w before after j a h c within ∙ ap (distance w) (sym sent-front) in
         let b : j .badge ≡ badge =
         badge-sent n e w before after j a h c within agrees-sent ∙ ap (λ (x : List ℕ). badgeOfSent (kindAt n) e (distance w x)) (sym sent-front) in (
           ap receive.Unit (judgement-same j badge (distance w (take m sent)) (length u) b d t),
           ap₂ (λ (x : Badge) (i : ℕ). handedUnit x w after i) (sym b) (sym t) ∙ unit-found n e w before after j a h c within agrees-sent
-              ∙ ap (λ (i : ℕ). take i c) t ∙ unit-sent,
+              ∙ ap (λ (i : ℕ). take i c) t ∙ unit-sent n e m u room sent s,
         )
 
 pub sentIsHandedUp : SentIsHandedUp
