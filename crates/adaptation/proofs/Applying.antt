@@ -22,7 +22,7 @@ use borrow.Author.Tests.{le-leb, leb-true, eqb-true}
 use lib.Dec.{T, leb, ltb, eqb}
 use lib.ListN.{length, take, drop, length-append}
 use lib.Seq.{take-at, drop-at}
-use Rattle.octets.specs.Exact.{chain, both-of, is-true, is-false, less, two-at-most, equal}
+use Rattle.octets.specs.Exact.{chain, both-of, is-true, is-false, denied, less, two-at-most, equal}
 use Rattle.octets.specs.Same.{same, same-self, same-equal}
 use Rattle.octets.specs.Tests.{both-true, never}
 use Rattle.calls.specs.Refusal.{told, _when_, refusal, Gives}
@@ -148,11 +148,6 @@ of-al1m t n b e k =
       receive2 = second s w (ltb k n);
       receive3 = third s w (ltb k n) (less k n);
     }
-
--- a test that was turned over holds where what the test says does not
-denied : {A : Type 0} (b : Bool) → b ≡ true ↔ A → not b ≡ true ↔ (A → ⊥)
-denied true q = (λ h. never (cc), λ f. absurd (f (q .0 refl)))
-denied false q = (λ h a. let z : false ≡ true = q .1 a in never (cc), λ f. refl)
 
 pub unit-not : (u : List ℕ) → not (isUnit 1024 u) ≡ true ↔ ((1 ≤ length u) × (length u ≤ 1024) → ⊥)
 unit-not u = denied (isUnit 1024 u) (two-at-most 1 (length u) (length u) 1024)

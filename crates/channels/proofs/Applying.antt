@@ -6,30 +6,22 @@
 -- Assumes nothing.
 use mathlib.Core.Path.{_≡_, refl}
 use mathlib.Core.Logic.{_↔_}
-use mathlib.Core.Bool.{Bool, true, false, not}
+use mathlib.Core.Bool.{Bool, false, not}
 use mathlib.Core.List.{List}
 use Prim.Native.Nat.{ℕ, _≤_}
 use lib.ListN.{length}
-use Rattle.octets.specs.Tests.{never}
 use Rattle.octets.specs.Exact.{chain, both-of, is-true, is-false, less, at-most, two-at-most, equal}
 use Rattle.calls.proofs.Laws.{given-exactly}
 use Rattle.adaptation.specs.Handed.{isUnit}
+use Rattle.adaptation.proofs.Laws.{unit-not}
 use Rattle.channels.specs.declared.Channels.{Channels}
 use Rattle.channels.specs.Channels.{isIn, openTests, closeTests, resetTests, postTests}
 use Rattle.channels.specs.Layers.{SendLent, sendingTests, takingTests}
 use Rattle.channels.specs.Claims.{channelOf}
 use Rattle.channels.specs.Exactly.{OfChannels, OfLayers}
 
--- a test that says something exactly fails where that is not so
-fails : {A : Type 0} (b : Bool) → b ≡ true ↔ A → not b ≡ true ↔ (A → ⊥)
-fails true p = (λ e. never (cc), λ f. absurd (f (p .0 refl)))
-fails false p = (λ e a. let z : false ≡ true = p .1 a in never (cc), λ f. refl)
-
-unit-exactly : (u : List ℕ) → isUnit 1024 u ≡ true ↔ ((1 ≤ length u) × (length u ≤ 1024))
-unit-exactly u = two-at-most 1 (length u) (length u) 1024
-
 unit-is : (u : List ℕ) → not (isUnit 1024 u) ≡ false ↔ ((1 ≤ length u) × (length u ≤ 1024))
-unit-is u = chain (is-true (isUnit 1024 u)) (unit-exactly u)
+unit-is u = chain (is-true (isUnit 1024 u)) (two-at-most 1 (length u) (length u) 1024)
 
 pub of-channels : (s : Channels) (n : ℕ) (u : List ℕ) → OfChannels s n u
 of-channels s n u = record {
@@ -37,7 +29,7 @@ of-channels s n u = record {
   close5 = chain (given-exactly 5 (closeTests s n) refl) (is-false (isIn s n));
   close14 = chain (given-exactly 14 (closeTests s n) refl) (both-of (is-true (isIn s n)) (equal n 0));
   reset5 = chain (given-exactly 5 (resetTests s n) refl) (is-false (isIn s n));
-  post2 = chain (given-exactly 2 (postTests s n u) refl) (fails (isUnit 1024 u) (unit-exactly u));
+  post2 = chain (given-exactly 2 (postTests s n u) refl) (unit-not u);
   post5 = chain (given-exactly 5 (postTests s n u) refl) (both-of (unit-is u) (is-false (isIn s n)));
   post11 = chain (given-exactly 11 (postTests s n u) refl) (both-of (unit-is u) (both-of (is-true (isIn s n)) (at-most 1 (channelOf s n .waiting))));
 }

@@ -8,7 +8,7 @@
 --   waits-put, bounded-put                                      the bounds (Bounds)
 --   channel-put, channel-else, IsSent, sent-is, taken-is                      AL2 by channel, where it is not refused (Keeping)
 --   takenAsSent                                                 .. and from channel to channel (Theorems)
---   openExactly, fullExactly                                    when a channel is open (Found), and when no other is opened (Full)
+--   openExactly, allOpenExactly, fullExactly                    when a channel is open (Found), and when no other is opened (Full)
 --   of-channels, of-layers                                      where each call is refused (Applying)
 --   startBounded, callsKeepBounds                               what every call keeps (Theorems)
 --   afterUnique, postUnique, sendUnique, takeUnique             one answer (Theorems)
@@ -21,7 +21,7 @@ pub use Rattle.channels.proofs.Holding.{heldAt, orderly-put, filled-roo
 pub use Rattle.channels.proofs.Seating.{seated-kept, seated-put}
 pub use Rattle.channels.proofs.Bounds.{waits-put, bounded-put}
 pub use Rattle.channels.proofs.Keeping.{channel-put, channel-else, IsSent, sent-is, taken-is}
-pub use Rattle.channels.proofs.Found.{openExactly}
+pub use Rattle.channels.proofs.Found.{openExactly, allOpenExactly}
 pub use Rattle.channels.proofs.Full.{fullExactly}
 pub use Rattle.channels.proofs.Applying.{of-channels, of-layers}
 pub use Rattle.channels.proofs.Theorems.{startBounded, callsKeepBounds, takenAsSent, afterUnique, postUnique, sendUnique, takeUnique}

@@ -2,7 +2,8 @@
 -- hold. A test that a definition and its code had beyond these, or without one of them, would be refused here. Refusal 12 is said in
 -- specs/Full.antt; what AL2 may send and what is whole in `adaptation`.
 --
---   OpenExactly      a channel is open exactly where some place has it; proofs/Found.antt proves it
+--   OpenExactly      a channel is open exactly where some place has it
+--   AllOpenExactly   .. and channels all are exactly where each is; proofs/Found.antt proves both
 --   OfChannels       "Demultiplexer", "Multiplexer": channel n opened, closed, reset, and the unit u posted on it
 --   OfLayers         "AL1 and AL2": the unit u sent on channel n into the output of x, and taken there; proofs/Applying.antt proves both
 --
@@ -12,11 +13,11 @@ use mathlib.Core.Logic.{_↔_}
 use mathlib.Core.Bool.{Bool, true, false}
 use mathlib.Core.List.{List}
 use Prim.Native.Nat.{ℕ, _≤_, _<_}
-use lib.ListN.{length}
+use lib.ListN.{length, getD}
 use Rattle.calls.specs.Refusal.{Gives}
 use Rattle.adaptation.specs.AL2.{isSendable, whole, isWhole}
 use Rattle.channels.specs.declared.Channels.{Channels}
-use Rattle.channels.specs.Channels.{isIn, channelAt, openTests, closeTests, resetTests, postTests}
+use Rattle.channels.specs.Channels.{isIn, allOpen, channelAt, openTests, closeTests, resetTests, postTests}
 use Rattle.channels.specs.Layers.{SendLent, numberAs, sendingTests, takingTests}
 use Rattle.channels.specs.Claims.{channelOf}
 
@@ -25,6 +26,9 @@ abbrev pub OpenExactly : Type 0
 OpenExactly =
     (s : Channels) (n : ℕ) → length (s .at) ≡ 16
     → isIn s n ≡ true ↔ ((p : ℕ) × (channelAt s p .«open» ≡ true) × (channelAt s p .number .0 ≡ n))
+
+abbrev pub AllOpenExactly : Type 0
+AllOpenExactly = (s : Channels) (l : List ℕ) → allOpen s l ≡ true ↔ ((j : ℕ) → j < length l → isIn s (getD l j 0) ≡ true)
 
 pub record OfChannels (s : Channels) (n : ℕ) (u : List ℕ) : Type 0 where
   pub open13 : Gives (openTests s n) 13 ↔ (isIn s n ≡ true)

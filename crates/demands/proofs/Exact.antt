@@ -5,7 +5,7 @@
 -- Assumes nothing.
 use Rattle.adaptation.proofs.Laws.{adaptation-exactly}
 use Rattle.table.proofs.Laws.{tree-exactly, of-table}
-use Rattle.channels.proofs.Laws.{openExactly, of-channels, of-layers, fullExactly}
+use Rattle.channels.proofs.Laws.{openExactly, allOpenExactly, of-channels, of-layers, fullExactly}
 use Rattle.multiplex.proofs.Laws.{six-exactly, fitsExactly, threeExactly, ofDemultiplexer, ofMultiplexer, lastOctet}
 use Rattle.demands.specs.Exactly.{Exactly}
 
@@ -18,6 +18,7 @@ exactly = record {
   channels = of-channels;
   full = fullExactly;
   opened = openExactly;
+  allOpened = allOpenExactly;
   demultiplexer = ofDemultiplexer;
   six = six-exactly;
   fits = fitsExactly;

@@ -12,7 +12,7 @@ use Rattle.adaptation.specs.Exactly.{AdaptationExactly}
 use Rattle.table.specs.Exactly.{TreeExactly, OfTable}
 use Rattle.channels.specs.declared.Channels.{Channels}
 use Rattle.channels.specs.Layers.{SendLent}
-use Rattle.channels.specs.Exactly.{OpenExactly, OfChannels, OfLayers}
+use Rattle.channels.specs.Exactly.{OpenExactly, AllOpenExactly, OfChannels, OfLayers}
 use Rattle.channels.specs.Full.{FullExactly}
 use Rattle.multiplex.specs.Demultiplexer.{DemuxLent}
 use Rattle.multiplex.specs.Multiplexer.{MuxLent}
@@ -32,6 +32,7 @@ pub record Exactly : Type 0 where
   pub channels : (s : Channels) (n : ℕ) (u : List ℕ) → OfChannels s n u
   pub full : FullExactly
   pub opened : OpenExactly
+  pub allOpened : AllOpenExactly
   -- 2, 4, 6, 5, 7, 8, 3 of the demultiplexer; 6, 8, 3 and 7's last octet in the paper's words
   pub demultiplexer : (x : DemuxLent) (t : List ℕ) (c : ℕ) (mark : Bool) (xs : List ℕ) → OfDemultiplexer x t c mark xs
   pub six : SixExactly

@@ -3,6 +3,7 @@
 --   chain                  one equivalence behind another
 --   both-of                two of them, beside each other
 --   is-true, is-false      the outcome of a test that was turned over
+--   denied                 .. where the test says something exactly
 --   and-not, not-and-not   one test and not another
 --   less, not-less         one number is less than another
 --   at-most, two-at-most   .. or at most as much; and two such comparisons
@@ -32,6 +33,10 @@ is-true false = (λ e. never (cc), λ e. never (cc))
 pub is-false : (b : Bool) → not b ≡ true ↔ (b ≡ false)
 is-false true = (λ e. never (cc), λ e. never (cc))
 is-false false = (λ e. refl, λ e. refl)
+
+pub denied : {A : Type 0} (b : Bool) → b ≡ true ↔ A → not b ≡ true ↔ (A → ⊥)
+denied true q = (λ h. never (cc), λ f. absurd (f (q .0 refl)))
+denied false q = (λ h a. let z : false ≡ true = q .1 a in never (cc), λ f. refl)
 
 pub and-not : (m g : Bool) → (m && not g) ≡ true ↔ ((m ≡ true) × (g ≡ false))
 and-not true true = (λ e. never (cc), λ h. never (cc (h .1)))
