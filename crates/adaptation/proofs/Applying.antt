@@ -4,6 +4,7 @@
 --   unit-not            what is no unit of 1 to 1,024 octets
 --   adaptation-limits   the numbers (specs/Limits.antt)
 --   of-al1m, of-units   the refusals (specs/Exactly.antt)
+--   whole-is            .. what AL2 sends a unit as
 --   agreeing            .. when a check agrees
 --   unchecked           .. when there is neither check nor code
 --   failed              .. what becomes of a unit of AL2 whose check disagrees
@@ -41,7 +42,7 @@ use Rattle.adaptation.specs.AL2Claims.{isNumbered}
 use Rattle.adaptation.specs.declared.al2.Number.{Number}
 use Rattle.adaptation.specs.declared.al2.Number.the-variants.{Numbered, Plain}
 use Rattle.adaptation.specs.Limits.{AdaptationLimits}
-use Rattle.adaptation.specs.Exactly.{OfAL1M, OfUnits}
+use Rattle.adaptation.specs.Exactly.{OfAL1M, OfUnits, WholeIs}
 
 -- ---- the settings
 
@@ -151,6 +152,9 @@ of-al1m t n b e k =
 
 pub unit-not : (u : List ℕ) → not (isUnit 1024 u) ≡ true ↔ ((1 ≤ length u) × (length u ≤ 1024) → ⊥)
 unit-not u = denied (isUnit 1024 u) (two-at-most 1 (length u) (length u) 1024)
+
+pub whole-is : (n : ℕ) (u : List ℕ) → WholeIs n u
+whole-is n u = record { numbered = refl; unnumbered = refl }
 
 pub of-units : (n : Number) (s : Bool) (u out : List ℕ) → OfUnits n s u out
 of-units n s u out = record {

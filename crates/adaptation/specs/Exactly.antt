@@ -9,6 +9,7 @@
 --                            as a whole, with a number or not, by s
 --   SentLeaves b e u before m after   what sending u into the lent octets `before`, with a check of b bits and e repairs, leaves there
 --                            where it answers m octets
+--   WholeIs n u              "optional one-octet number, unit, 8 bit check over both": what AL2 sends u as, with number n or without
 --   AdaptationExactly        all of it; proofs/Applying.antt and proofs/Assembled.antt prove it
 --
 -- Assumes nothing.
@@ -30,6 +31,7 @@ use Rattle.adaptation.specs.AL1.{passTests}
 use Rattle.adaptation.specs.AL2 as al2
 use Rattle.adaptation.specs.AL2Claims.{isNumbered}
 use Rattle.adaptation.specs.declared.al2.Number.{Number}
+use Rattle.adaptation.specs.declared.al2.Number.the-variants.{Numbered, Plain}
 
 -- "AL1M units"
 pub record OfAL1M (t n b e k : ℕ) : Type 0 where
@@ -63,9 +65,14 @@ pub record SentLeaves (b e : ℕ) (u before : List ℕ) (m : ℕ) (after : List 
   -- "an answer leaves a lent output unchanged past what it writes"
   pub past : drop m after ≡ drop m before
 
+pub record WholeIs (n : ℕ) (u : List ℕ) : Type 0 where
+  pub numbered : al2.whole (Numbered n) u ≡ (n ∷ u) ++ checkOf eight (n ∷ u)
+  pub unnumbered : al2.whole Plain u ≡ u ++ checkOf eight u
+
 pub record AdaptationExactly : Type 0 where
   pub al1m : (t n b e k : ℕ) → OfAL1M t n b e k
   pub units : (n : Number) (s : Bool) (u out : List ℕ) → OfUnits n s u out
+  pub whole : (n : ℕ) (u : List ℕ) → WholeIs n u
   -- a check agrees where all its octets are the check of what stands before them
   pub agreeing : (κ : Kind) (u c : List ℕ) → length c ≡ κ .octets → agrees κ (u ++ c) ≡ true ↔ (c ≡ checkOf κ u)
   -- badge 4, "for AL1M exactly when e = 0 and l = 0"

@@ -5,6 +5,7 @@
 --   IsSent          what a sending that is not refused leaves
 --   sent-is         .. it does
 --   taken-is        what a taking that is not refused answers, and expects next
+--   sendingLeaves   .. so that it leaves the whole in front, and the rest as it was
 --   taken-as-sent   a unit that is taken where its number is expected is handed up as sent, and the numbers are in step again
 --
 -- Assumes nothing.
@@ -12,10 +13,11 @@ use mathlib.Core.Path.{_≡_, refl, sym, ap, _∙_}
 use mathlib.Core.Logic.{_≢_}
 use mathlib.Core.Bool.{Bool, true, false}
 use mathlib.Core.List.{List}
-use Prim.Native.Nat.{ℕ, _<_}
+use Prim.Native.Nat.{ℕ, _+_, _≤_, _<_}
 use borrow.Author.Tests.{ltb-true, ltb-false, not-false}
-use lib.ListN.{length, take}
-use Rattle.octets.specs.Written.{written, written-front}
+use lib.ListN.{length, take, drop}
+use Rattle.octets.specs.Written.{written, written-front, written-behind}
+use native.Mathlib.Omega.{arith}
 use Rattle.calls.specs.Refusal.{told, Ended, leaving, refusing, None}
 use Rattle.calls.proofs.Laws.{told-refused, leaving-same, by-tests}
 use Rattle.adaptation.specs.AL2.{whole, isSendable, Receipt, handedUp, expectedBy, received}
@@ -25,7 +27,7 @@ use Rattle.channels.specs.declared.Channel.{Channel}
 use Rattle.channels.specs.declared.Channels.{Channels}
 use Rattle.channels.specs.Channels.{placeCount, placeOf, isIn, channelAt, put, numbering}
 use Rattle.channels.specs.Layers.{SendLent, numberAs, risen, sendingTests, sending, taking}
-use Rattle.channels.specs.Claims.{channelOf, TakenAsSent}
+use Rattle.channels.specs.Claims.{channelOf, TakenAsSent, SendingLeaves}
 use Rattle.channels.proofs.Seats.{seat, place-seats, seats-put, place-unique, put-there, put-elsewhere}
 use Rattle.channels.proofs.Layering.{taking-by}
 
@@ -51,6 +53,9 @@ risen-seat : (numbered : Bool) (c : Channel) → seat (risen numbered c) ≡ sea
 risen-seat true c = refl
 risen-seat false c = refl
 
+written-rest : (d s : List ℕ) → length s ≤ length d → drop (length s) (written d 0 s) ≡ drop (length s) d
+written-rest d s h = let e : 0 + length s ≡ length s = omega arith in ap (λ (m : ℕ). drop m (written d 0 s)) (sym e) ∙ written-behind d 0 s (omega arith) ∙ ap (λ (m : ℕ). drop m d) e
+
 -- a unit that was sent
 module _ (s : Channels) (n : ℕ) (numbered : Bool) (u out : List ℕ) where
   abbrev c : Channel
@@ -64,6 +69,7 @@ module _ (s : Channels) (n : ℕ) (numbered : Bool) (u out : List ℕ) where
     pub may : isSendable (numberAs numbered c) u ≡ true
     pub channels : t ≡ put s (placeOf s n) (risen numbered c)
     pub octets : take k after ≡ w
+    pub rest : drop k after ≡ drop k out
 
   pub sent-is : (t : Channels) (after : List ℕ) (k : ℕ)
       → sending (record { channels = s; output = out }) n numbered u ≡ leaving k (record { channels = t; output = after }) → IsSent t after k
@@ -85,6 +91,7 @@ module _ (s : Channels) (n : ℕ) (numbered : Bool) (u out : List ℕ) where
             inside = ltb-true (placeOf s n) placeCount (not-false (isIn s n) a);
             may = not-false (isSendable (numberAs numbered c) u) b;
             channels = sym (ap (λ (y : SendLent). y .channels) (both .1));
+            rest = rw (← both .0, ← (ap (λ (y : SendLent). y .output) (both .1))) (written-rest out w (ltb-false (length out) (length w) d));
             octets = rw (← both .0, ← (ap (λ (y : SendLent). y .output) (both .1))) (written-front out w (ltb-false (length out) (length w) d));
           }
 
@@ -99,6 +106,9 @@ module _ (r : Channels) (m : ℕ) (numbered : Bool) (full : length (r .at) ≡ p
         ap (λ (y : Ended Receipt Channels). channelOf (y .left) m .expected) (sym e)
             ∙ ap (λ (y : Channel). y .expected) (channel-put r m (numbering (channelOf r m) (channelOf r m .sent) (expectedBy x)) full inside refl),
       )
+
+pub sendingLeaves : SendingLeaves
+sendingLeaves s t n k numbered u out after e = let a = sent-is s n numbered u out t after k e in (a .octets, a .rest)
 
 pub taken-as-sent : TakenAsSent
 taken-as-sent s r t n m k numbered u out after fs fr here l e q =

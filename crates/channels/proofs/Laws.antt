@@ -6,7 +6,7 @@
 --   heldAt, orderly-put, filled-room, held-grown, held-else, orderly-joined, orderly-emptied   what a place holds (Holding)
 --   seated-kept, seated-put                                     the seats (Seating)
 --   waits-put, bounded-put                                      the bounds (Bounds)
---   channel-put, channel-else, IsSent, sent-is, taken-is                      AL2 by channel, where it is not refused (Keeping)
+--   channel-put, channel-else, IsSent, sent-is, taken-is, sendingLeaves                      AL2 by channel, where it is not refused (Keeping)
 --   takenAsSent                                                 .. and from channel to channel (Theorems)
 --   openExactly, allOpenExactly, fullExactly                    when a channel is open (Found), and when no other is opened (Full)
 --   of-channels, of-layers                                      where each call is refused (Applying)
@@ -20,7 +20,7 @@ pub use Rattle.channels.proofs.Placing.{sought-place, in-placed}
 pub use Rattle.channels.proofs.Holding.{heldAt, orderly-put, filled-room, held-grown, held-else, orderly-joined, orderly-emptied}
 pub use Rattle.channels.proofs.Seating.{seated-kept, seated-put}
 pub use Rattle.channels.proofs.Bounds.{waits-put, bounded-put}
-pub use Rattle.channels.proofs.Keeping.{channel-put, channel-else, IsSent, sent-is, taken-is}
+pub use Rattle.channels.proofs.Keeping.{channel-put, channel-else, IsSent, sent-is, taken-is, sendingLeaves}
 pub use Rattle.channels.proofs.Found.{openExactly, allOpenExactly}
 pub use Rattle.channels.proofs.Full.{fullExactly}
 pub use Rattle.channels.proofs.Applying.{of-channels, of-layers}

@@ -10,6 +10,7 @@
 --   TakenAsSent       a unit that AL2 sent on a channel, with a number or none, and that is taken on one that expects the number which the
 --                     first sends next, is handed up as sent: badge 0, nothing changed, none missing; and again the second expects the
 --                     number that the first sends next
+--   SendingLeaves     AL2's sending leaves the whole at the front of the output, and what stands behind it as it was
 --   AfterUnique       any two answers that the promise of opening, closing or resetting allows are equal, the channels included
 --   PostUnique        .. of posting, with the octets that wait
 --   SendUnique        .. of sending by AL2, with the output
@@ -20,9 +21,9 @@ use mathlib.Core.Path.{_≡_}
 use mathlib.Core.Bool.{Bool, true, false}
 use mathlib.Core.List.{List}
 use Prim.Native.Nat.{ℕ, _≤_, _<_}
-use lib.ListN.{length, take}
+use lib.ListN.{length, take, drop}
 use Rattle.calls.specs.Refusal.{told, Ended, ended, leaving, outcomeSays}
-use Rattle.adaptation.specs.AL2.{handedUp}
+use Rattle.adaptation.specs.AL2.{handedUp, whole}
 use Rattle.adaptation.specs.AL2Claims.{asSent}
 use Rattle.channels.specs.declared.Channel.{Channel}
 use Rattle.channels.specs.declared.Channels.{Channels}
@@ -30,7 +31,7 @@ use Rattle.channels.specs.declared.After.{After}
 use Rattle.channels.specs.declared.layers.Sent.{Sent}
 use Rattle.channels.specs.declared.layers.Taken.{Taken}
 use Rattle.channels.specs.Channels.{placeCount, placeOctets, allOctets, vacant, start, placeOf, isIn, channelAt, opened, closed, reset, posted, Posts}
-use Rattle.channels.specs.Layers.{sending, SendsOn, taking, TakesOn}
+use Rattle.channels.specs.Layers.{numberAs, sending, SendsOn, taking, TakesOn}
 
 pub record Orderly (s : Channels) (h : List ℕ) : Type 0 where
   pub full : length (s .at) ≡ placeCount
@@ -79,6 +80,12 @@ TakenAsSent =
     → sending (record { channels = s; output = out }) n numbered u ≡ leaving k (record { channels = t; output = after })
     → (taking r m numbered (take k after) .answer ≡ told (handedUp (asSent u) 0 (channelOf t n .sent)))
     × (channelOf (taking r m numbered (take k after) .left) m .expected ≡ channelOf t n .sent)
+
+abbrev pub SendingLeaves : Type 0
+SendingLeaves =
+    (s t : Channels) (n k : ℕ) (numbered : Bool) (u out after : List ℕ)
+    → sending (record { channels = s; output = out }) n numbered u ≡ leaving k (record { channels = t; output = after })
+    → (take k after ≡ whole (numberAs numbered (channelOf s n)) u) × (drop k after ≡ drop k out)
 
 -- ---- any two answers are equal
 

@@ -4,7 +4,7 @@
 --
 -- Assumes nothing.
 use Rattle.adaptation.proofs.Laws.{adaptation-exactly}
-use Rattle.table.proofs.Laws.{tree-exactly, of-table}
+use Rattle.table.proofs.Laws.{definedExactly, tree-exactly, of-table}
 use Rattle.channels.proofs.Laws.{openExactly, allOpenExactly, of-channels, of-layers, fullExactly}
 use Rattle.multiplex.proofs.Laws.{six-exactly, fitsExactly, threeExactly, ofDemultiplexer, ofMultiplexer, lastOctet}
 use Rattle.demands.specs.Exactly.{Exactly}
@@ -14,6 +14,7 @@ exactly = record {
   adaptation = adaptation-exactly;
   layers = of-layers;
   table = of-table;
+  defined = definedExactly;
   trees = tree-exactly;
   channels = of-channels;
   full = fullExactly;

@@ -10,6 +10,7 @@ use mathlib.Core.List.{List}
 use Prim.Native.Nat.{ℕ}
 use Rattle.adaptation.specs.Exactly.{AdaptationExactly}
 use Rattle.table.specs.Exactly.{TreeExactly, OfTable}
+use Rattle.table.specs.Claims.{DefinedExactly}
 use Rattle.channels.specs.declared.Channels.{Channels}
 use Rattle.channels.specs.Layers.{SendLent}
 use Rattle.channels.specs.Exactly.{OpenExactly, AllOpenExactly, OfChannels, OfLayers}
@@ -25,8 +26,9 @@ pub record Exactly : Type 0 where
   pub adaptation : AdaptationExactly
   -- 5, 2, 3 of AL2 on a channel
   pub layers : (x : SendLent) (n : ℕ) (numbered : Bool) (u : List ℕ) → OfLayers x n numbered u
-  -- 4, 14, 10 of replacing; and what 10 is not given for
+  -- 4, 14, 10 of replacing; what 4 and 10 are not given for
   pub table : (c : ℕ) (s : List ℕ) → OfTable c s
+  pub defined : DefinedExactly
   pub trees : TreeExactly
   -- 13 and 12 of opening, 5 and 14 of closing, 5 of a reset, 2, 5, 11 of posting; and what 5 is not given for
   pub channels : (s : Channels) (n : ℕ) (u : List ℕ) → OfChannels s n u

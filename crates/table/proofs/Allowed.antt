@@ -3,24 +3,27 @@
 --   tree-limits     the numbers of an entry
 --   tree-sizes      what is counted of a tree
 --   tree-exactly    .. and which trees are entries, exactly
+--   defined-exactly   where an entry is defined
 --   of-table        the refusals of replacing, exactly
 --
 -- Assumes nothing.
 use mathlib.Core.Path.{_≡_, refl}
 use mathlib.Core.Logic.{_↔_}
-use mathlib.Core.Bool.{Bool, true, false, _&&_}
+use mathlib.Core.Bool.{Bool, true, false, not, _&&_}
 use mathlib.Core.List.{List}
 use Prim.Native.Nat.{ℕ, _≤_}
 use native.Mathlib.Omega.{arith}
 use borrow.Author.Tests.{le-leb, leb-true}
-use lib.Dec.{leb}
+use lib.Dec.{leb, eqb}
+use lib.ListN.{getD}
 use Rattle.octets.specs.Tests.{both-true, never}
-use Rattle.octets.specs.Exact.{chain, both-of, is-false, less, not-less, at-most, two-at-most, equal, not-equal}
+use Rattle.octets.specs.Exact.{chain, both-of, is-false, denied, less, not-less, at-most, two-at-most, equal, not-equal}
 use Rattle.calls.proofs.Laws.{given-exactly}
 use Rattle.table.specs.Entry.{Count, times, untilClosing, Elements, none, channel, list, size, allElements, depth, isNone, isCount, isList, isEntryTree}
 use Rattle.table.specs.Form.{isEntry}
-use Rattle.table.specs.Table.{replaceTests}
+use Rattle.table.specs.Table.{entryOf, isDefined, replaceTests}
 use Rattle.table.specs.Limits.{TreeLimits}
+use Rattle.table.specs.Claims.{DefinedExactly}
 use Rattle.table.specs.Exactly.{Counted, Well, TreeSizes, TreeExactly, OfTable}
 
 -- two tests, each of which says something exactly
@@ -72,6 +75,11 @@ unfolding isEntryTree
 tree-exactly l = both _ _ (at-most 1 (allElements l)) (both _ _ (at-most (allElements l) 32) (both _ _ (at-most (depth l) 3) (list-exactly true l)))
 
 -- ---- replacing
+
+pub defined-exactly : DefinedExactly
+unfolding isDefined
+defined-exactly t c =
+    both (leb c 15) (not (eqb (getD (entryOf t c) 0 0) 0)) (at-most c 15) (denied (eqb (getD (entryOf t c) 0 0) 0) (equal (getD (entryOf t c) 0 0) 0))
 
 pub of-table : (c : ℕ) (s : List ℕ) → OfTable c s
 of-table c s = record {

@@ -2,6 +2,7 @@
 -- definitions alone.
 --
 --   slots-in-turn   the slots of an element before those behind it, and of each pass of a list behind the one before
+--   slots-are       a payload's slots are the entry's, cut to its octets
 --   passes-are      how often an element is passed
 --   cut-none        no octets: no slots
 --   cut-more        a cut of one slot and more, for one octet or more
@@ -13,12 +14,16 @@ use mathlib.Core.List.{List, [], _∷_}
 use Prim.Native.Nat.{ℕ, _-_, min}
 use native.Mathlib.Omega.{arith}
 use borrow.Author.Tests.{ne-eqb}
-use Rattle.table.specs.Slots.{Slot, copies, slots, cut}
-use Rattle.table.specs.Claims.{SlotsInTurn, PassesAre, CutFront}
+use Rattle.table.specs.Slots.{Slot, copies, slots, cut, payloadSlots}
+use Rattle.table.specs.Claims.{SlotsInTurn, SlotsAre, PassesAre, CutFront}
 
 pub slots-in-turn : SlotsInTurn
 unfolding slots copies
 slots-in-turn n k c r i l s = (refl, refl, refl, refl, refl)
+
+pub slots-are : SlotsAre
+unfolding payloadSlots cut
+slots-are l s n = (refl, refl, refl)
 
 pub passes-are : PassesAre
 passes-are n k = (refl, refl)

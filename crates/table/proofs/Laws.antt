@@ -2,10 +2,10 @@
 --
 --   cut-none, Filled, filled-length, cut-octets                           slots and cuts (Apart, Cutting)
 --   payloadSlots-filled, payloadSlots-most, payloadSlots-cut              the slots of a payload (Expanding)
---   numbersRead, slotsAreThose, closingTakesAll, finiteOrClosing, finiteExactly, slotsInTurn, passesAre, cutFront   entries and slots (Theorems)
+--   numbersRead, slotsAreThose, closingTakesAll, finiteOrClosing, finiteExactly, slotsInTurn, slotsAre, passesAre, cutFront   entries and slots (Theorems)
 --   tree-exactly, of-table                                                which trees are entries, and where replacing is refused (Allowed)
 --   table-limits                                                          document 01's numbers (Limited)
---   defined-most, fixedIs, freshEntries, replacedEntries, replacedUnique, replacedKeeps   the table (Theorems)
+--   defined-most, definedExactly, fixedIs, freshEntries, replacedEntries, replacedUnique, replacedKeeps   the table (Theorems)
 --
 -- Assumes nothing.
 pub use Rattle.table.proofs.Allowed.{tree-exactly, of-table}
@@ -21,6 +21,8 @@ pub use Rattle.table.proofs.Theorems.{
   closingTakesAll,
   finiteExactly,
   slotsInTurn,
+  slotsAre,
+  definedExactly,
   passesAre,
   cutFront,
   defined-most,

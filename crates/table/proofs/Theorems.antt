@@ -1,6 +1,6 @@
 -- The claims of specs/Claims.antt; and what a code is that has an entry.
 --
---   numbersRead, slotsAreThose, isEntryExactly, entryFits, finiteOrClosing, closingTakesAll, finiteExactly, slotsInTurn, fixedIs,
+--   numbersRead, slotsAreThose, isEntryExactly, entryFits, finiteOrClosing, closingTakesAll, finiteExactly, slotsInTurn, slotsAre, fixedIs, definedExactly,
 --   freshEntries, replacedEntries, replacedUnique, laidUnique, freshHasNone, octetsInTurn, refusalLeaves, replacedKeeps, othersStay,
 --   replacedIsRead, passesAre, cutFront   the claims
 --   defined-most     a code that has an entry is at most the highest
@@ -8,7 +8,7 @@
 -- Assumes nothing.
 use mathlib.Core.Path.{_≡_, refl, sym, ap, ap₂, subst, _∙_}
 use mathlib.Core.Bool.{Bool, true, false, not}
-use mathlib.Core.List.{List, [], _∷_, _++_}
+use mathlib.Core.List.{List, [], _++_}
 use Prim.Native.Nat.{ℕ, zero, suc, _-_, _*_, _≤_}
 use native.Mathlib.Omega.{arith}
 use native.Mathlib.Decide.{decLe}
@@ -32,6 +32,8 @@ use Rattle.table.specs.Claims.{
   ClosingTakesAll,
   FiniteExactly,
   SlotsInTurn,
+  SlotsAre,
+  DefinedExactly,
   FixedIs,
   FreshEntries,
   ReplacedEntries,
@@ -49,7 +51,8 @@ use Rattle.table.specs.Claims.{
 use Rattle.table.proofs.Cutting.{channels-cut}
 use Rattle.table.proofs.Joining.{numbers-read, is-entry, entry-tree}
 use Rattle.table.proofs.Parts.{entry-some}
-use Rattle.table.proofs.Apart.{slots-in-turn, passes-are, cut-front}
+use Rattle.table.proofs.Allowed.{defined-exactly}
+use Rattle.table.proofs.Apart.{slots-in-turn, slots-are, passes-are, cut-front}
 use Rattle.table.proofs.Closing.{finite-or-closing, closing-takes, finite-exactly}
 use Rattle.table.proofs.Entries.{entry-fixed, defined-not, defined-fixed, defined-put, entry-fits, entry-short}
 use Rattle.table.proofs.Placed.{withEntry-front, withEntry-other}
@@ -88,8 +91,14 @@ pub cutFront : (n : ℕ) (x : Slot) (l : List Slot) → CutFront n x l
 cutFront = cut-front
 
 pub fixedIs : FixedIs
-unfolding size allElements depth isList isEntryTree elementNumbers entryOf
-fixedIs t = (refl, refl)
+unfolding size allElements depth isList isEntryTree elementNumbers entryOf isDefined
+fixedIs t = (refl, refl, refl)
+
+pub definedExactly : DefinedExactly
+definedExactly = defined-exactly
+
+pub slotsAre : SlotsAre
+slotsAre = slots-are
 
 -- ---- any two answers are equal
 

@@ -10,9 +10,11 @@
 --   SlotsInTurn        a channel element is one slot, before those of the elements behind it; an inner list's slots are those of each of its passes,
 --                      one pass behind another, whatever its count: none are joined
 --   PassesAre          an element is passed as often as its count says; until closing is once for each octet of the payload
---   CutFront n x l     the slots of n octets are those of the entry in their turn: a slot that the payload fills is there whole, the one
---                      in which it ends is the last, with the octets that are left, and none are joined
---   FixedIs            entry 0 is channel 0 until closing
+--   SlotsAre           a payload's slots are the entry's, cut to its octets
+--   CutFront n x l     .. and a cut leaves slots in their turn: one that n octets fill is there whole, the one in which they end is the
+--                      last, with the octets that are left, and none are joined
+--   FixedIs            entry 0 is channel 0 until closing, and defined, whatever else the table has
+--   DefinedExactly     a code has an entry exactly where it is at most 15 and the numbers at its place have elements
 --   FreshEntries       a fresh table has an entry's numbers at each code that is defined
 --   ReplacedEntries    .. and so has one in which an entry was replaced, or not
 --   ReplacedUnique     any two answers that replacing's promise allows are equal, the table included
@@ -31,7 +33,7 @@ use mathlib.Core.Bool.{true, not}
 use mathlib.Core.List.{List, [], _∷_, _++_}
 use Prim.Native.Nat.{ℕ, suc, _+_, _-_, _*_, _≤_, _<_}
 use lib.Dec.{eqb}
-use lib.ListN.{length, replicate, take}
+use lib.ListN.{length, replicate, take, getD}
 use Rattle.calls.specs.declared.Outcome.{Outcome}
 use Rattle.calls.specs.Refusal.{refused, ended, leaving, outcomeSays}
 use Rattle.table.specs.declared.walk.Laid.{Laid}
@@ -78,7 +80,13 @@ pub record CutFront (n : ℕ) (x : Slot) (l : List Slot) : Type 0 where
   pub none : cut 0 (x ∷ l) ≡ []
 
 abbrev pub FixedIs : Type 0
-FixedIs = (t : List ℕ) → (isEntryTree fixedTree ≡ true) × (entryOf t 0 ≡ numbers fixedTree)
+FixedIs = (t : List ℕ) → (isEntryTree fixedTree ≡ true) × (entryOf t 0 ≡ numbers fixedTree) × (isDefined t 0 ≡ true)
+
+abbrev pub DefinedExactly : Type 0
+DefinedExactly = (t : List ℕ) (c : ℕ) → isDefined t c ≡ true ↔ ((c ≤ 15) × (getD (entryOf t c) 0 0 ≡ 0 → ⊥))
+
+abbrev pub SlotsAre : Type 0
+SlotsAre = (l : Elements) (s : List ℕ) (n : ℕ) → (entrySlots l n ≡ cut n (slots n l)) × (payloadSlots s n ≡ cut n (slots n (treeOf s))) × (cut n [] ≡ [])
 
 -- ---- tables
 

@@ -3,7 +3,7 @@
 --   a10      A10's entry: [channel 1 twice, [channel 2 once, channel 3 twice] until closing]
 --   small    A10: it is an entry, its numbers are these and are an entry, and the channels of a payload of 8 octets are 1 1 2 3 3 2 3 3
 --   beside, twice   [channel 1 once, channel 1 twice] and [[channel 1 once, channel 2 once] twice, channel 3 once]
---   apart    the slots of one channel are never joined, and a list is passed where it stands: 3 octets are 1 and 2, 2 are 1 and 1; and 1 2 1 2 3
+--   apart    the slots of one channel are not joined, and a list is passed where it stands: 3 octets are 1 and 2, 2 are 1 and 1; and 1 2 1 2 3
 --
 -- Assumes nothing.
 use mathlib.Core.Path.{_≡_, refl}
