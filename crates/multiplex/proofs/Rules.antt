@@ -1,6 +1,6 @@
 -- Document 01's rules of one payload hold of the definitions: the claims of specs/Rules.antt.
 --
---   flat                    an accepted call's finished octets are its delivery's
+--   octets-flat, tale, told-units, units-are, flat   what an accepted call tells of, by its delivery: its units, their list, and their octets
 --   slotIsUnit, markEnds, threeExactly, demuxRest   of the demultiplexer; refusal 8 is in Admitting
 --   walkMakes               of the multiplexer; how far its walk goes is in Advancing
 --
@@ -14,7 +14,7 @@ use native.Mathlib.Decide.{ℕ-discrete}
 use native.Mathlib.Omega.{arith}
 use borrow.Author.Tests.{eqb-false, eq-eqb, ne-eqb, not-false}
 use lib.Dec.{eqb}
-use lib.ListN.{length}
+use lib.ListN.{length, drop}
 use lib.Seq.{take-append-seam}
 use Rattle.octets.specs.Tests.{never}
 use Rattle.octets.specs.Exact.{either-less}
@@ -34,7 +34,7 @@ use Rattle.multiplex.specs.Multiplexer.{MuxLent, Payload, left, walked, 
 use Rattle.multiplex.specs.Units.{UnitOn, unitsOn, unitsIn}
 use Rattle.multiplex.specs.Claims.{goingTo, heldOn}
 use Rattle.multiplex.specs.Rules.{finishedOctets, SlotIsUnit, MarkEnds, ThreeExactly, DemuxRest, WalkMakes}
-use Rattle.multiplex.proofs.Records.{rest-stays, unitOctets, records-length, tells-nothing, tells-read}
+use Rattle.multiplex.proofs.Records.{rest-stays, unitOctets, records, records-length, tells-nothing, tells-read}
 use Rattle.multiplex.proofs.Adjacent.{Has, has-slots, has-joined-slots, has-else, has-unit, has-delivery}
 use Rattle.multiplex.proofs.Keeping.{nothing-holds, slots-hold, last-known}
 use Rattle.multiplex.proofs.Lying.{Tale, tale-delivery}
@@ -132,7 +132,7 @@ markEnds x y t c mark xs k n o g e =
 
 -- ---- what stands behind
 
-octets-flat : (l : List UnitOn) → flatten (map (λ (u : UnitOn). u .octets) l) ≡ unitOctets l
+pub octets-flat : (l : List UnitOn) → flatten (map (λ (u : UnitOn). u .octets) l) ≡ unitOctets l
 unfolding flatten
 octets-flat [] = refl
 octets-flat (u ∷ l) = ap (λ (x : List ℕ). u .octets ++ x) (octets-flat l)
@@ -142,15 +142,23 @@ module _ (x y : DemuxLent) (t : List ℕ) (c : ℕ) (mark : Bool) (xs : List ℕ
   abbrev d : Delivery
   d = delivery (x .channels) (x .held) mark (placed (x .channels) (payloadSlots (entryOf t c) (length xs))) xs
 
-  tale : Tale d
+  pub tale : Tale d
   tale = tale-delivery (x .channels) (x .held) mark (placed (x .channels) (payloadSlots (entryOf t c) (length xs))) xs
 
-  pub flat : finishedOctets y k ≡ d .octets
-  flat =
+  pub told-units : unitsIn (y .output) (y .units) k ≡ tale .0
+  told-units =
       let a = is-accepted x y t c mark xs k e in
-      let told : unitsIn (y .output) (y .units) k ≡ tale .0 =
-      ap₂ (λ (z : DemuxLent) (j : ℕ). unitsIn (z .output) (z .units) j) (sym (a .left)) (sym (a .count)) ∙ tells-read d (tale .0) (x .output) (x .units) (tale .1) in
-      ap (λ (l : List UnitOn). flatten (map (λ (u : UnitOn). u .octets) l)) told ∙ octets-flat (tale .0) ∙ sym (tale .1 .octets)
+      ap₂ (λ (z : DemuxLent) (j : ℕ). unitsIn (z .output) (z .units) j) (sym (a .left)) (sym (a .count)) ∙ tells-read d (tale .0) (x .output) (x .units) (tale .1)
+
+  pub flat : finishedOctets y k ≡ d .octets
+  flat = ap (λ (l : List UnitOn). flatten (map (λ (u : UnitOn). u .octets) l)) told-units ∙ octets-flat (tale .0) ∙ sym (tale .1 .octets)
+
+  pub units-are : (k ≡ length (tale .0)) × (y .units ≡ records 0 (tale .0) ++ drop (0 + length (records 0 (tale .0))) (x .units))
+  units-are =
+      let a = is-accepted x y t c mark xs k e in (
+        sym (a .count) ∙ tale .1 .count,
+        ap (λ (z : DemuxLent). z .units) (sym (a .left)) ∙ ap (written (x .units) 0) (tale .1 .units),
+      )
 
   size : length (d .units) ≡ 3 * k
   size =

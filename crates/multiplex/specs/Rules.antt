@@ -1,5 +1,5 @@
 -- Document 01's rules of one payload ("Demultiplexer", "Multiplexer"), each as a claim on the definitions. proofs/Rules.antt proves them,
--- but for FitsExactly (Admitting), RoomEnough (Sufficing), WalkParts and WalkRules (Advancing). When each refusal is given: specs/Exactly.antt.
+-- but for FitsExactly (Admitting), StartsAre (Starting), RoomEnough (Sufficing), WalkParts and WalkRules (Advancing). When each refusal is given: specs/Exactly.antt.
 --
 --   slotOctets n l xs   of the octets xs of the slots l, those of each slot of channel n
 --   SlotIsUnit          on a channel that isn't segmentable each slot is a unit: the units finished there are the slots' octets, none joined
@@ -10,6 +10,7 @@
 --   FitsExactly         refusal 8: where the slots' channels are open, all fits exactly where on no segmentable channel what is held and
 --                       what comes, together, pass 1,024 octets
 --   finishedOctets y k  the octets of the k units that a call's list tells of, one after another
+--   StartsAre           "written one after another": each unit starts where those before it end
 --   ThreeExactly        refusal 3: exactly where with some other room the payload is accepted, and the octets that it then finishes, or three
 --                       numbers for each of its units, are more than was lent
 --   RoomEnough          .. so that an output of `enoughOutput` octets and a list of `enoughUnits` numbers are never too small
@@ -27,7 +28,7 @@ use mathlib.Core.Bool.{Bool, true, false, cond, _&&_}
 use mathlib.Core.List.{List, [], _∷_, _++_, map, flatten}
 use Prim.Native.Nat.{ℕ, _+_, _*_, _≤_, _<_}
 use lib.Dec.{eqb}
-use lib.ListN.{length, take, drop}
+use lib.ListN.{length, getD, take, drop}
 use Rattle.calls.specs.Refusal.{refused, leaving}
 use Rattle.table.specs.Slots.{Slot, payloadSlots, numbersOf, channelsOf}
 use Rattle.table.specs.Table.{entryOf}
@@ -73,6 +74,11 @@ FitsExactly =
 
 abbrev pub finishedOctets : DemuxLent → ℕ → List ℕ
 finishedOctets y k = flatten (map (λ (u : UnitOn). u .octets) (unitsIn (y .output) (y .units) k))
+
+abbrev pub StartsAre : Type 0
+StartsAre =
+    (x y : DemuxLent) (t : List ℕ) (c : ℕ) (mark : Bool) (xs : List ℕ) (k j : ℕ) → demultiplexed x t c mark xs ≡ leaving k y → j < k
+    → getD (y .units) (3 * j + 1) 0 ≡ length (finishedOctets y j)
 
 abbrev pub ThreeExactly : Type 0
 ThreeExactly =
