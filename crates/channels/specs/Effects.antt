@@ -1,18 +1,27 @@
--- What an opening, a closing and a reset do that are accepted, in document 01's words ("Demultiplexer"); proofs/Effects.antt proves each claim.
+-- What each call on channels does that is accepted, in document 01's words ("Demultiplexer", "AL1 and AL2"); proofs/Effects.antt proves the claims on
+-- opening, closing and a reset, and proofs/Doing.antt the others.
 --
 --   OthersStay s t n   every other channel than n is in t as it was in s
 --   OpenedIs           opening starts the channel empty, with AL2 numbers 0, segmentable or not as it was given
 --   ClosedIs           a channel that was closed is not open
+--   StartIs            at first channel 0 is open, segmentable and empty, and no other is
+--   SendingIs          AL2's sending raises the channel's number modulo 256 if units have one, and leaves all else
+--   TakingIs           AL2's taking answers what AL2 says of the whole where the channel's number is expected, keeps the number expected next,
+--                      and leaves all else
 --   ResetIs            a reset empties what the channel holds and sets both its AL2 numbers to 0; what waits stays
 --
 -- Assumes nothing.
 use mathlib.Core.Path.{_≡_}
-use mathlib.Core.Bool.{Bool, true, false}
-use Prim.Native.Nat.{ℕ}
+use mathlib.Core.Bool.{Bool, true, false, cond}
+use mathlib.Core.List.{List}
+use Prim.Native.Nat.{ℕ, _+_, _%_}
+use lib.Dec.{eqb}
 use lib.ListN.{length}
-use Rattle.calls.specs.Refusal.{leaving}
+use Rattle.calls.specs.Refusal.{told, leaving}
+use Rattle.adaptation.specs.AL2.{Receipt, expectedBy, received}
 use Rattle.channels.specs.declared.Channels.{Channels}
-use Rattle.channels.specs.Channels.{placeCount, isIn, opened, closed, reset}
+use Rattle.channels.specs.Channels.{placeCount, start, isIn, opened, closed, reset}
+use Rattle.channels.specs.Layers.{sending, taking}
 use Rattle.channels.specs.Claims.{Seated, channelOf}
 
 abbrev pub OthersStay : Channels → Channels → ℕ → Type 0
@@ -41,5 +50,44 @@ ResetIs =
       waiting = channelOf s n .waiting;
       sent = 0;
       expected = 0;
+    })
+    × OthersStay s t n
+
+abbrev pub StartIs : Type 0
+StartIs =
+    (n : ℕ) → (isIn start n ≡ eqb n 0)
+    × (channelOf start 0 ≡ record { «open» = true; segmentable = true; number = record { 0 = 0 }; held = 0; waiting = 0; sent = 0; expected = 0 })
+
+-- ---- AL2
+
+abbrev pub SendingIs : Type 0
+SendingIs =
+    (s t : Channels) (n k : ℕ) (numbered : Bool) (u out after : List ℕ) → length (s .at) ≡ placeCount
+    → sending (record { channels = s; output = out }) n numbered u ≡ leaving k (record { channels = t; output = after })
+    → (channelOf t n
+    ≡ record {
+      «open» = channelOf s n .«open»;
+      segmentable = channelOf s n .segmentable;
+      number = channelOf s n .number;
+      held = channelOf s n .held;
+      waiting = channelOf s n .waiting;
+      sent = cond numbered ((channelOf s n .sent + 1) % 256) (channelOf s n .sent);
+      expected = channelOf s n .expected;
+    })
+    × OthersStay s t n
+
+abbrev pub TakingIs : Type 0
+TakingIs =
+    (s t : Channels) (n : ℕ) (numbered : Bool) (w : List ℕ) (r : Receipt) → length (s .at) ≡ placeCount → taking s n numbered w ≡ leaving r t
+    → (received numbered w (channelOf s n .expected) ≡ told r)
+    × (channelOf t n
+    ≡ record {
+      «open» = channelOf s n .«open»;
+      segmentable = channelOf s n .segmentable;
+      number = channelOf s n .number;
+      held = channelOf s n .held;
+      waiting = channelOf s n .waiting;
+      sent = channelOf s n .sent;
+      expected = expectedBy r;
     })
     × OthersStay s t n

@@ -2,6 +2,7 @@
 -- definitions alone.
 --
 --   slots-in-turn   the slots of an element before those behind it, and of each pass of a list behind the one before
+--   numbers-in-turn the channels of slots, in turn
 --   slots-are       a payload's slots are the entry's, cut to its octets
 --   passes-are      how often an element is passed
 --   cut-none        no octets: no slots
@@ -15,11 +16,14 @@ use Prim.Native.Nat.{ℕ, _-_, min}
 use native.Mathlib.Omega.{arith}
 use borrow.Author.Tests.{ne-eqb}
 use Rattle.table.specs.Slots.{Slot, copies, slots, cut, payloadSlots}
-use Rattle.table.specs.Claims.{SlotsInTurn, SlotsAre, PassesAre, CutFront}
+use Rattle.table.specs.Claims.{SlotsInTurn, NumbersInTurn, SlotsAre, PassesAre, CutFront}
 
 pub slots-in-turn : SlotsInTurn
 unfolding slots copies
 slots-in-turn n k c r i l s = (refl, refl, refl, refl, refl)
+
+pub numbers-in-turn : NumbersInTurn
+numbers-in-turn x l = (refl, refl)
 
 pub slots-are : SlotsAre
 unfolding payloadSlots cut

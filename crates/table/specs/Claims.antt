@@ -10,6 +10,7 @@
 --   SlotsInTurn        a channel element is one slot, before those of the elements behind it; an inner list's slots are those of each of its passes,
 --                      one pass behind another, whatever its count: none are joined
 --   PassesAre          an element is passed as often as its count says; until closing is once for each octet of the payload
+--   NumbersInTurn      the channels of slots are those of each slot, in turn
 --   SlotsAre           a payload's slots are the entry's, cut to its octets
 --   CutFront n x l     .. and a cut leaves slots in their turn: one that n octets fill is there whole, the one in which they end is the
 --                      last, with the octets that are left, and none are joined
@@ -37,9 +38,9 @@ use lib.ListN.{length, replicate, take, getD}
 use Rattle.calls.specs.declared.Outcome.{Outcome}
 use Rattle.calls.specs.Refusal.{refused, ended, leaving, outcomeSays}
 use Rattle.table.specs.declared.walk.Laid.{Laid}
-use Rattle.table.specs.Entry.{Count, times, none, untilClosing, Elements, channel, list, isEntryTree, numbers, isFinite, isClosing, octetsIn, fixedTree}
+use Rattle.table.specs.Entry.{Count, times, none, untilClosing, Elements, channel, list, isEntryTree, numbers, isFinite, isClosing, octetsIn}
 use Rattle.table.specs.Form.{treeOf, isEntry}
-use Rattle.table.specs.Slots.{Slot, passes, copies, slots, cut, entrySlots, payloadSlots, octetsOf, channelsOf}
+use Rattle.table.specs.Slots.{Slot, passes, copies, slots, cut, entrySlots, payloadSlots, octetsOf, numbersOf, channelsOf}
 use Rattle.table.specs.Table.{highestCode, longestEntry, tableNumbers, entryOf, isDefined, Entries, withEntry, replaced}
 use Rattle.table.specs.Lays.{Lays}
 
@@ -80,10 +81,14 @@ pub record CutFront (n : ℕ) (x : Slot) (l : List Slot) : Type 0 where
   pub none : cut 0 (x ∷ l) ≡ []
 
 abbrev pub FixedIs : Type 0
-FixedIs = (t : List ℕ) → (isEntryTree fixedTree ≡ true) × (entryOf t 0 ≡ numbers fixedTree) × (isDefined t 0 ≡ true)
+FixedIs =
+    (t : List ℕ) → (isEntryTree (channel untilClosing 0 none) ≡ true) × (entryOf t 0 ≡ numbers (channel untilClosing 0 none)) × (isDefined t 0 ≡ true)
 
 abbrev pub DefinedExactly : Type 0
 DefinedExactly = (t : List ℕ) (c : ℕ) → isDefined t c ≡ true ↔ ((c ≤ 15) × (getD (entryOf t c) 0 0 ≡ 0 → ⊥))
+
+abbrev pub NumbersInTurn : Type 0
+NumbersInTurn = (x : Slot) (l : List Slot) → (numbersOf [] ≡ []) × (numbersOf (x ∷ l) ≡ x .channel ∷ numbersOf l)
 
 abbrev pub SlotsAre : Type 0
 SlotsAre = (l : Elements) (s : List ℕ) (n : ℕ) → (entrySlots l n ≡ cut n (slots n l)) × (payloadSlots s n ≡ cut n (slots n (treeOf s))) × (cut n [] ≡ [])
