@@ -28,6 +28,7 @@ pub mod Ordering
 pub mod Rules
 pub mod Starting
 pub mod Sufficing
+pub mod Preserving
 pub mod Theorems
 pub mod Bounds
 pub mod Laws

@@ -7,6 +7,7 @@
 --   isEnded x t c xs      the payload's last octet is on a segmentable channel
 --   Walkable x t c room   the room is allowed, the code has an entry, and the lent payload has the room
 --   OfDemultiplexer       the demultiplexer's refusals; proofs/Applying.antt proves them
+--   TotalIs               how many octets pieces have: those of each, added up
 --   OfMultiplexer         .. and the multiplexer's
 --   LastOctet             the last octet of a payload is absent where there is none, and else on the channel of the last slot
 --   Enough                the room that is always enough: a unit that was held and a payload, and three numbers for each of its octets
@@ -23,7 +24,7 @@ use Rattle.table.specs.Slots.{Slot, payloadSlots, octetsOf, numbersOf}
 use Rattle.table.specs.Table.{entryOf, isDefined}
 use Rattle.channels.specs.declared.Channels.{Channels}
 use Rattle.channels.specs.Channels.{placeOf, allOpen, channelAt}
-use Rattle.multiplex.specs.Pieces.{placed, lastPlace, total}
+use Rattle.multiplex.specs.Pieces.{Piece, placed, lastPlace, total}
 use Rattle.multiplex.specs.Demultiplexer.{DemuxLent, fits, delivery, demultiplexTests}
 use Rattle.multiplex.specs.Multiplexer.{MuxLent, walked, multiplexTests}
 use Rattle.multiplex.specs.Units.{enoughOutput, enoughUnits}
@@ -66,6 +67,9 @@ pub record OfMultiplexer (x : MuxLent) (t : List ℕ) (c room : ℕ) : Type 0 wh
       Gives (multiplexTests x t c room) 5 ↔ (Walkable x t c room × (r .allOpen ≡ false))
   pub mux9 : let r = walked (x .channels) (payloadSlots (entryOf t c) room) in
       Gives (multiplexTests x t c room) 9 ↔ (Walkable x t c room × ((r .allOpen ≡ true) × (total (r .pieces) ≡ 0)))
+
+abbrev pub TotalIs : Type 0
+TotalIs = (q : Piece) (l : List Piece) → (total [] ≡ 0) × (total (q ∷ l) ≡ q .octets + total l)
 
 pub record LastOctet (s : Channels) : Type 0 where
   pub absent : length (s .at) ≡ 16 → channelAt s (lastPlace (placed s [])) .segmentable ≡ false

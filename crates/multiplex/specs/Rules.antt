@@ -1,5 +1,5 @@
 -- Document 01's rules of one payload ("Demultiplexer", "Multiplexer"), each as a claim on the definitions. proofs/Rules.antt proves them,
--- but for FitsExactly (Admitting), StartsAre (Starting), RoomEnough (Sufficing), WalkParts and WalkRules (Advancing). When each refusal is given: specs/Exactly.antt.
+-- but for FitsExactly (Admitting), StartsAre (Starting), RoomEnough (Sufficing), DemuxKeeps and MuxKeeps (Preserving), WalkParts and WalkRules (Advancing). When each refusal is given: specs/Exactly.antt.
 --
 --   slotOctets n l xs   of the octets xs of the slots l, those of each slot of channel n
 --   SlotIsUnit          on a channel that isn't segmentable each slot is a unit: the units finished there are the slots' octets, none joined
@@ -16,6 +16,8 @@
 --   RoomEnough          .. so that an output of `enoughOutput` octets and a list of `enoughUnits` numbers are never too small
 --   DemuxRest           the finished units stand from the start of the lent output, and their list from the start of the lent numbers: what
 --                       stands behind stays
+--   DemuxKeeps          a payload that is accepted changes of a channel what it holds, and nothing else
+--   MuxKeeps            .. and one that is made what waits there
 --   WalkParts           what a walk has that stops, or ends with a piece; and a piece sent before a walk leaves its mark, what it reaches that is
 --                       not open, and the channels, as they are
 --   WalkRules           how far the walk goes, slot by slot
@@ -99,7 +101,39 @@ DemuxRest =
     → let n = length (finishedOctets y k) in
     (take n (y .output) ≡ finishedOctets y k) × (drop n (y .output) ≡ drop n (x .output)) × (drop (3 * k) (y .units) ≡ drop (3 * k) (x .units))
 
+abbrev pub DemuxKeeps : Type 0
+DemuxKeeps =
+    (x y : DemuxLent) (t : List ℕ) (c : ℕ) (mark : Bool) (xs : List ℕ) (k n : ℕ) → demultiplexed x t c mark xs ≡ leaving k y
+    → let a = channelOf (x .channels) n in
+    let b = channelOf (y .channels) n in
+    b
+    ≡ record {
+      «open» = a .«open»;
+      segmentable = a .segmentable;
+      number = a .number;
+      held = b .held;
+      waiting = a .waiting;
+      sent = a .sent;
+      expected = a .expected;
+    }
+
 -- ---- the multiplexer
+
+abbrev pub MuxKeeps : Type 0
+MuxKeeps =
+    (x y : MuxLent) (w t : List ℕ) (c room n : ℕ) (p : Payload) → multiplexed x w t c room ≡ leaving p y
+    → let a = channelOf (x .channels) n in
+    let b = channelOf (y .channels) n in
+    b
+    ≡ record {
+      «open» = a .«open»;
+      segmentable = a .segmentable;
+      number = a .number;
+      held = a .held;
+      waiting = b .waiting;
+      sent = a .sent;
+      expected = a .expected;
+    }
 
 pub record WalkParts (s : Channels) (q : Piece) (r : Walk) (b : Bool) : Type 0 where
   pub stops : stopped s b ≡ record { pieces = []; mark = false; allOpen = b; channels = s }
