@@ -10,6 +10,6 @@ pub mod Keeping
 pub mod Full
 pub mod Found
 pub mod Effects
-pub mod Doing
+pub mod Acting
 pub mod Theorems
 pub mod Laws

@@ -1,10 +1,11 @@
 -- What each call on channels does that is accepted, in document 01's words ("Demultiplexer", "AL1 and AL2"); proofs/Effects.antt proves the claims on
--- opening, closing and a reset, and proofs/Doing.antt the others.
+-- opening, closing and a reset, and proofs/Acting.antt the others.
 --
 --   OthersStay s t n   every other channel than n is in t as it was in s
 --   OpenedIs           opening starts the channel empty, with AL2 numbers 0, segmentable or not as it was given
 --   ClosedIs           a channel that was closed is not open
 --   StartIs            at first channel 0 is open, segmentable and empty, and no other is
+--   PostedIs           the unit that was posted waits on its channel, and all else is as it was: what waits elsewhere, and the channels
 --   SendingIs          AL2's sending raises the channel's number modulo 256 if units have one, and leaves all else
 --   TakingIs           AL2's taking answers what AL2 says of the whole where the channel's number is expected, keeps the number expected next,
 --                      and leaves all else
@@ -20,7 +21,7 @@ use lib.ListN.{length}
 use Rattle.calls.specs.Refusal.{told, leaving}
 use Rattle.adaptation.specs.AL2.{Receipt, expectedBy, received}
 use Rattle.channels.specs.declared.Channels.{Channels}
-use Rattle.channels.specs.Channels.{placeCount, start, isIn, opened, closed, reset}
+use Rattle.channels.specs.Channels.{placeCount, allOctets, start, placeOf, isIn, waitingOf, opened, closed, reset, Post, posted}
 use Rattle.channels.specs.Layers.{sending, taking}
 use Rattle.channels.specs.Claims.{Seated, channelOf}
 
@@ -57,6 +58,23 @@ abbrev pub StartIs : Type 0
 StartIs =
     (n : ℕ) → (isIn start n ≡ eqb n 0)
     × (channelOf start 0 ≡ record { «open» = true; segmentable = true; number = record { 0 = 0 }; held = 0; waiting = 0; sent = 0; expected = 0 })
+
+abbrev pub PostedIs : Type 0
+PostedIs =
+    (s : Channels) (w : List ℕ) (n : ℕ) (u : List ℕ) (y : Post) → length (s .at) ≡ placeCount → length w ≡ allOctets → posted s w n u ≡ leaving tt y
+    → (waitingOf (y .channels) (y .octets) (placeOf (y .channels) n) ≡ u)
+    × ((m : ℕ) → (n ≡ m → ⊥) → waitingOf (y .channels) (y .octets) (placeOf (y .channels) m) ≡ waitingOf s w (placeOf s m))
+    × (channelOf (y .channels) n
+    ≡ record {
+      «open» = channelOf s n .«open»;
+      segmentable = channelOf s n .segmentable;
+      number = channelOf s n .number;
+      held = channelOf s n .held;
+      waiting = length u;
+      sent = channelOf s n .sent;
+      expected = channelOf s n .expected;
+    })
+    × OthersStay s (y .channels) n
 
 -- ---- AL2
 
