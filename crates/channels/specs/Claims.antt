@@ -1,4 +1,4 @@
--- What is claimed of the channels, over every state and every call on them; proofs/Theorems.antt proves each claim.
+-- What is claimed of the channels, over every state and every call on them; proofs/Theorems.antt proves each claim but SendingLeaves (Keeping).
 --
 --   Orderly s h       arrays of their lengths; no place holds more octets than it has, and only a segmentable channel holds any
 --   Seated s          channel 0 is open and segmentable, no channel is open at two places, and a place that is free has nothing

@@ -1,6 +1,6 @@
 -- How far the walk goes, slot by slot.
 --
---   walkParts, walkRules    the claims
+--   totalIs, walkParts, walkRules    the claims
 --
 -- Assumes nothing.
 use mathlib.Core.Path.{_≡_, refl, _∙_}
@@ -15,9 +15,14 @@ use Rattle.channels.specs.declared.Channel.{Channel}
 use Rattle.channels.specs.declared.Channels.{Channels}
 use Rattle.channels.specs.Channels.{placeOf, isIn, waits}
 use Rattle.channels.specs.Claims.{channelOf}
-use Rattle.multiplex.specs.Pieces.{Piece, piece}
+use Rattle.multiplex.specs.Pieces.{Piece, piece, total}
 use Rattle.multiplex.specs.Multiplexer.{Walk, isBlocked, goesOn, moved, left, stopped, sending, ending, walked}
+use Rattle.multiplex.specs.Exactly.{TotalIs}
 use Rattle.multiplex.specs.Rules.{WalkParts, WalkRules}
+
+pub totalIs : TotalIs
+unfolding total
+totalIs q l = (refl, refl)
 
 pub walkParts : (s : Channels) (q : Piece) (r : Walk) (b : Bool) → WalkParts s q r b
 walkParts s q r b = record { stops = refl; ends = refl; sends = refl }

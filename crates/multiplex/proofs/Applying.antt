@@ -1,6 +1,6 @@
 -- Each refusal of the demultiplexer and the multiplexer applies exactly where document 01 says.
 --
---   ofDemultiplexer, ofMultiplexer, totalIs, lastOctet, enough    the claims of specs/Exactly.antt
+--   ofDemultiplexer, ofMultiplexer, lastOctet, enough    the claims of specs/Exactly.antt
 --
 -- Assumes nothing.
 use mathlib.Core.Path.{_≡_, refl}
@@ -18,10 +18,10 @@ use Rattle.table.specs.Table.{entryOf, isDefined}
 use Rattle.channels.specs.declared.Channels.{Channels}
 use Rattle.channels.specs.Channels.{placeOf, allOpen}
 use Rattle.channels.proofs.Laws.{vacant-behind}
-use Rattle.multiplex.specs.Pieces.{placed, lastPlace, total}
+use Rattle.multiplex.specs.Pieces.{placed, lastPlace}
 use Rattle.multiplex.specs.Demultiplexer.{DemuxLent, demultiplexTests}
 use Rattle.multiplex.specs.Multiplexer.{MuxLent, multiplexTests}
-use Rattle.multiplex.specs.Exactly.{Sorted, Walkable, OfDemultiplexer, OfMultiplexer, TotalIs, LastOctet, Enough}
+use Rattle.multiplex.specs.Exactly.{Sorted, Walkable, OfDemultiplexer, OfMultiplexer, LastOctet, Enough}
 
 -- a payload's length and its code are right, and what is looked at then
 allowed : {A B : Type 0} (n : ℕ) (b : Bool) → A ↔ B → ((ltb 255 n ≡ false) × ((not b ≡ false) × A)) ↔ ((n ≤ 255) × ((b ≡ true) × B))
@@ -81,10 +81,6 @@ last-on s (z ∷ v ∷ l) y = last-on s (v ∷ l) y
 pub lastOctet : (s : Channels) → LastOctet s
 unfolding placed lastPlace
 lastOctet s = record { absent = λ full. rw (vacant-behind s full 16 (omega arith)); on = last-on s }
-
-pub totalIs : TotalIs
-unfolding total
-totalIs q l = (refl, refl)
 
 pub enough : Enough
 enough = (refl, refl)

@@ -17,7 +17,7 @@
 --   begun h w        the state at first, with any octets in its arrays
 --   Sound x          the channels are as they must be: channel 0 open and segmentable, none open twice, nothing at a free place, all within
 --                    their bounds; and the table has its length, and an entry's numbers at each code that is defined
---   AlwaysSound      whatever is called, the state is sound
+--   AlwaysSound      whatever is called, the state is sound; proofs/Bounds.antt proves it
 --
 -- Assumes nothing.
 use mathlib.Core.Path.{_≡_}

@@ -7,7 +7,7 @@
 --   isEnded x t c xs      the payload's last octet is on a segmentable channel
 --   Walkable x t c room   the room is allowed, the code has an entry, and the lent payload has the room
 --   OfDemultiplexer       the demultiplexer's refusals; proofs/Applying.antt proves them
---   TotalIs               how many octets pieces have: those of each, added up
+--   TotalIs               how many octets pieces have: those of each, added up; proofs/Advancing.antt proves it
 --   OfMultiplexer         .. and the multiplexer's
 --   LastOctet             the last octet of a payload is absent where there is none, and else on the channel of the last slot
 --   Enough                the room that is always enough: a unit that was held and a payload, and three numbers for each of its octets

@@ -16,7 +16,7 @@
 --   CarriedByAL2       every unit coded is posted, every unit delivered is taken, and no octet changes: each unit wholly sent is handed up as
 --                      it was handed in, with badge 0 and none missing
 --   CarriedByPlainAL2  a unit that AL2 sent without a number is handed up so too
---   CarriedByAL1       a unit that is delivered is passed as it is, with badge 4
+--   CarriedByAL1       a unit that is delivered is passed as it is, unchecked
 --   CarriedByAL1M      the unit j that is delivered, whatever changed on the way, has as many octets as the one wholly sent; and where at most e
 --                      of them differ, AL1M hands up the unit that was coded, with the true count and its badge
 --   UnitToUnit         all of these, and that the unit which a layer reads where it lies in the output is the one delivered (the multiplexer's
