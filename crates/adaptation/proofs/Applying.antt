@@ -4,6 +4,7 @@
 --   unit-not            what is no unit of 1 to 1,024 octets
 --   adaptation-limits   the numbers (specs/Limits.antt)
 --   of-al1m, of-units   the refusals (specs/Exactly.antt)
+--   passes              .. what AL1 passes, and how
 --   whole-is            .. what AL2 sends a unit as
 --   agreeing            .. when a check agrees
 --   unchecked           .. when there is neither check nor code
@@ -36,7 +37,7 @@ use Rattle.adaptation.specs.declared.checks.Width.the-variants.{Zero, Ei
 use Rattle.adaptation.specs.AL1M.{isSetting, sentOctets, isSendable, al1mTests, sentLength}
 use Rattle.adaptation.specs.Receiving.{isWord, isBare}
 use Rattle.adaptation.specs.Handed.{isUnit}
-use Rattle.adaptation.specs.AL1.{passTests}
+use Rattle.adaptation.specs.AL1.{passTests, passed}
 use Rattle.adaptation.specs.AL2 as al2
 use Rattle.adaptation.specs.AL2Claims.{isNumbered}
 use Rattle.adaptation.specs.declared.al2.Number.{Number}
@@ -152,6 +153,10 @@ of-al1m t n b e k =
 
 pub unit-not : (u : List ℕ) → not (isUnit 1024 u) ≡ true ↔ ((1 ≤ length u) × (length u ≤ 1024) → ⊥)
 unit-not u = denied (isUnit 1024 u) (two-at-most 1 (length u) (length u) 1024)
+
+pub passes : (u : List ℕ) → 1 ≤ length u → length u ≤ 1024 → passed u ≡ told (record { badge = 4; changed = 0; unit = u })
+unfolding passed
+passes u h l = rw (le-leb 1 (length u) h, le-leb (length u) 1024 l)
 
 pub whole-is : (n : ℕ) (u : List ℕ) → WholeIs n u
 whole-is n u = record { numbered = refl; unnumbered = refl }

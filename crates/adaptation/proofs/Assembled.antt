@@ -23,7 +23,7 @@ use Rattle.adaptation.specs.Width.{kindAt}
 use Rattle.adaptation.specs.AL1M.{isSetting, isSendable, sentOctets}
 use Rattle.adaptation.specs.Sending.{message, Sends}
 use Rattle.adaptation.specs.Exactly.{SentLeaves, AdaptationExactly}
-use Rattle.adaptation.proofs.Applying.{of-al1m, of-units, whole-is, agreeing, unchecked, failed}
+use Rattle.adaptation.proofs.Applying.{of-al1m, of-units, passes, whole-is, agreeing, unchecked, failed}
 use Rattle.adaptation.proofs.Behind.{message-length}
 use Rattle.adaptation.proofs.Refusals.{refused-none}
 
@@ -85,6 +85,7 @@ pub adaptation-exactly : AdaptationExactly
 adaptation-exactly = record {
   al1m = of-al1m;
   units = of-units;
+  passes = passes;
   whole = whole-is;
   agreeing = agreeing;
   unchecked = unchecked;

@@ -27,7 +27,7 @@ use Rattle.adaptation.specs.Width.{kindAt}
 use Rattle.adaptation.specs.AL1M as al1m
 use Rattle.adaptation.specs.Sending.{encodeTests, Sends}
 use Rattle.adaptation.specs.Receiving.{isWord, receiveTests, isBare}
-use Rattle.adaptation.specs.AL1.{passTests}
+use Rattle.adaptation.specs.AL1.{passTests, passed}
 use Rattle.adaptation.specs.AL2 as al2
 use Rattle.adaptation.specs.AL2Claims.{isNumbered}
 use Rattle.adaptation.specs.declared.al2.Number.{Number}
@@ -72,6 +72,8 @@ pub record WholeIs (n : ℕ) (u : List ℕ) : Type 0 where
 pub record AdaptationExactly : Type 0 where
   pub al1m : (t n b e k : ℕ) → OfAL1M t n b e k
   pub units : (n : Number) (s : Bool) (u out : List ℕ) → OfUnits n s u out
+  -- AL1 passes a unit of 1 to 1,024 octets as it is, badge 4
+  pub passes : (u : List ℕ) → 1 ≤ length u → length u ≤ 1024 → passed u ≡ told (record { badge = 4; changed = 0; unit = u })
   pub whole : (n : ℕ) (u : List ℕ) → WholeIs n u
   -- a check agrees where all its octets are the check of what stands before them
   pub agreeing : (κ : Kind) (u c : List ℕ) → length c ≡ κ .octets → agrees κ (u ++ c) ≡ true ↔ (c ≡ checkOf κ u)
