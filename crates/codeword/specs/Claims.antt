@@ -1,7 +1,9 @@
--- What is claimed of encoding and repair, over every word and every setting; proofs/Theorems.antt proves each claim. `encodes` and
--- `reads` hold exactly of words of at least one octet and at most `longestWord` with 2e below their length, where there is room.
+-- What is claimed of encoding and repair, over every word and every setting; proofs/Counting.antt proves `DistanceIs`, and
+-- proofs/Theorems.antt each other claim. `encodes` and `reads` hold exactly of words of at least one octet and at most `longestWord`
+-- with 2e below their length, where there is room.
 --
 --   isFound r            whether a repair's answer is that it found a code word
+--   DistanceIs           the distance of two words is the number of octets in which they differ
 --   EncodedIsCodeWord    encoding gives a code word that begins with the message
 --   EncodedIsOnly        .. and the only one of its length that does
 --   CodeWordsApart       two code words of one length that differ in at most 2e octets are equal
@@ -18,7 +20,7 @@
 use mathlib.Core.Path.{_≡_}
 use mathlib.Core.Logic.{_↔_}
 use mathlib.Core.Bool.{Bool, true, false}
-use mathlib.Core.List.{List}
+use mathlib.Core.List.{List, [], _∷_}
 use Prim.Native.Nat.{ℕ, suc, _+_, _*_, _≤_, _<_}
 use lib.ListN.{length, take, drop}
 use Rattle.algebra.specs.Power.{pow}
@@ -34,6 +36,11 @@ use Rattle.codeword.specs.declared.Reach.the-variants.{Found, OutOfReach
 abbrev pub isFound : Reach → Bool
 isFound (Found changed) = true
 isFound OutOfReach = false
+
+abbrev pub DistanceIs : Type 0
+DistanceIs =
+    (a b : ℕ) (v w : List ℕ)
+    → (distance [] [] ≡ 0) × (distance (a ∷ v) (a ∷ w) ≡ distance v w) × ((a ≡ b → ⊥) → distance (a ∷ v) (b ∷ w) ≡ 1 + distance v w)
 
 abbrev pub EncodedIsCodeWord : Type 0
 EncodedIsCodeWord =
