@@ -1,4 +1,5 @@
 pub mod Applying
+pub mod Bits
 pub mod Octets
 pub mod Remainders
 pub mod Residue

@@ -1,5 +1,6 @@
 -- The checks in the words of their clauses (000, 7.3.3.2.3 and 7.4.3.2.3; document 01, "Checks"), by the one notion of a remainder that the
--- parity is told in too (`IsRemainder` of crate algebra); proofs/Remainders.antt proves each claim.
+-- parity is told in too (`IsRemainder` of crate algebra); proofs/Bits.antt proves `BitsAre`, and
+-- proofs/Remainders.antt each other claim.
 --
 --   sumOf t               the sum of the powers of x with the exponents t
 --   G8, G16               x^8 + x^2 + x + 1 and x^16 + x^12 + x^5 + 1
@@ -8,6 +9,7 @@
 --   ofOnes w k            x^k (x^(w-1) + .. + x + 1)
 --   Conditioned g w c r   r is the ones' complement of the sum of two remainders by g: of x^k (x^(w-1) + .. + x + 1), where the content c has
 --                         k bits, and of x^w c
+--   BitsAre               the bits of octets are eight of the first, its least significant first, and then those of the others
 --   GeneratorsAre         the generators of the checks of 8 and 16 bits are G8 and G16
 --   PlainIsRemainder      what is not conditioned is the remainder of x^w times the content, for every kind of check
 --   Check8Exactly         an octet is the check of 8 bits exactly if it is the remainder of x^8 times the content by G8
@@ -16,10 +18,11 @@
 -- A content's bits are read in the order of sending: bit 1 of its first octet is the highest coefficient, and so of a check. Assumes nothing.
 use mathlib.Core.Path.{_≡_}
 use mathlib.Core.Logic.{_↔_}
-use mathlib.Core.Bool.{Bool, true, not}
+use mathlib.Core.Bool.{Bool, true, false, not}
 use mathlib.Core.List.{List, [], _∷_, map}
-use Prim.Native.Nat.{ℕ}
-use lib.ListN.{length, replicate}
+use Prim.Native.Nat.{ℕ, _/_, _%_, _^_, _<_}
+use lib.Dec.{eqb}
+use lib.ListN.{length, getD, drop, replicate}
 use Rattle.algebra.specs.Series.{Series, Operations, operations}
 use Rattle.algebra.specs.Polynomial.{monomial, polynomial, raised}
 use Rattle.algebra.specs.Division.{sum}
@@ -57,6 +60,12 @@ pub record Conditioned (g : Series 𝔹) (w : ℕ) (c r : List Bool) : Type 0 wh
   pub ones-are : IsRemainder 𝔹 g w (ofOnes w (length c)) ones
   pub content-is : IsRemainder 𝔹 g w (ofContent w c) content
   pub is : r ≡ map not (sum 𝔹 ones content)
+
+-- "Bit number 1 is an octet's least significant bit and comes first"
+abbrev pub BitsAre : Type 0
+BitsAre =
+    (a : ℕ) (u : List ℕ)
+    → (bits [] ≡ []) × (drop 8 (bits (a ∷ u)) ≡ bits u) × ((i : ℕ) → i < 8 → getD (bits (a ∷ u)) i false ≡ eqb (a / 2 ^ i % 2) 1)
 
 abbrev pub GeneratorsAre : Type 0
 GeneratorsAre = (divisor eight ≡ G8) × (divisor sixteen ≡ G16)
