@@ -1,6 +1,6 @@
 -- The checks in the words of their clauses (000, 7.3.3.2.3 and 7.4.3.2.3; document 01, "Checks"), by the one notion of a remainder that the
--- parity is told in too (`IsRemainder` of crate algebra); proofs/Bits.antt proves `BitsAre`, and
--- proofs/Remainders.antt each other claim.
+-- parity is told in too (`IsRemainder` of crate algebra); proofs/Bits.antt proves `BitsAre`, and proofs/Remainders.antt
+-- each other claim.
 --
 --   sumOf t               the sum of the powers of x with the exponents t
 --   G8, G16               x^8 + x^2 + x + 1 and x^16 + x^12 + x^5 + 1

@@ -1,8 +1,8 @@
--- The claims of specs/Claims.antt.
+-- The claims of specs/Claims.antt, but for `DistanceIs` (Counting.antt).
 --
---   encodedIsCodeWord, encodedIsOnly, encodedUnique              of encoding
---   codeWordsApart, withoutParity, zeroSyndromes, neverSecond    of code words
---   foundExactly, foundIsIt, lostUntouched, repairedUnique       of the repair
+--   encodedIsCodeWord, encodedIsOnly, encodedUnique                      of encoding
+--   codeWordsApart, withoutParity, zeroSyndromes, neverSecond            of code words
+--   foundExactly, foundIsIt, lostUntouched, unusedZero, repairedUnique   of the repair
 --
 -- Assumes nothing.
 use mathlib.Core.Path.{_≡_, refl, sym, ap, ap₂, _∙_}
@@ -15,11 +15,14 @@ use lib.ListN.{length, take, drop, length-append}
 use lib.Seq.{take-take}
 use Rattle.octets.specs.Tests.{never}
 use Rattle.octets.specs.Written.{written, written-part, written-behind}
+use Rattle.codeword.specs.Element.{octet}
+use Rattle.codeword.specs.Element.Laws.{octet-element, octet-nil}
 use Rattle.codeword.specs.CodeWord.{distance}
 use Rattle.codeword.specs.Encoding.{encodes, Done, Encoded}
 use Rattle.codeword.specs.Claims.{EncodedIsCodeWord, EncodedIsOnly, CodeWordsApart, WithoutParity, ZeroSyndromes}
-use Rattle.codeword.specs.Claims.{FoundExactly, FoundIsIt, NeverSecond, LostUntouched, EncodedUnique, RepairedUnique}
+use Rattle.codeword.specs.Claims.{FoundExactly, FoundIsIt, NeverSecond, LostUntouched, UnusedZero, EncodedUnique, RepairedUnique}
 use Rattle.codeword.specs.declared.Reach.the-variants.{Found, OutOfReach}
+use Rattle.codeword.proofs.Word.{places-at}
 use Rattle.codeword.proofs.Criterion.{codeWord-zero, zero-codeWord}
 use Rattle.codeword.proofs.Distance.{codeWords-apart, within-unique}
 use Rattle.codeword.proofs.Systematic.{parity-codeWord, codeWord-begins, parity-unique, encoded-unique, encoded-is, encodes-all}
@@ -102,6 +105,12 @@ foundIsIt e w before after changed p c h =
 
 pub lostUntouched : LostUntouched
 lostUntouched e w before after p = p .same
+
+pub unusedZero : UnusedZero
+unusedZero e w s c l sy lo o = (
+  sy .unused,
+  λ i h. sym (octet-element _ (o i)) ∙ ap octet (sym (places-at c i) ∙ lo .state .c-below i h) ∙ octet-nil,
+)
 
 pub repairedUnique : RepairedUnique
 repairedUnique e w before (Found k) (Found j) after left p q =

@@ -13,6 +13,7 @@
 --   FoundIsIt            .. what is found is that code word, and the number is that of the octets that differ
 --   NeverSecond          .. and there is never a second one
 --   LostUntouched        where it finds none, the lent octets are as they came
+--   UnusedZero           the syndromes past 2e are zero, and so are the locator's coefficients past its length
 --   EncodedUnique        any two answers that encoding's promise allows are equal, lent octets included
 --   RepairedUnique       any two answers that the repair's promise allows are equal, lent octets included
 --
@@ -22,12 +23,14 @@ use mathlib.Core.Logic.{_↔_}
 use mathlib.Core.Bool.{Bool, true, false}
 use mathlib.Core.List.{List, [], _∷_}
 use Prim.Native.Nat.{ℕ, suc, _+_, _*_, _≤_, _<_}
-use lib.ListN.{length, take, drop}
+use lib.ListN.{length, getD, take, drop}
 use Rattle.algebra.specs.Power.{pow}
 use Rattle.field.specs.Octet.{order}
 use Rattle.codeword.specs.Element.{elements, α}
 use Rattle.codeword.specs.CodeWord.{longestWord, Octets, CodeWord, distance, Within}
 use Rattle.codeword.specs.Places.{value}
+use Rattle.codeword.specs.Syndromes.{SyndromesAre}
+use Rattle.codeword.specs.Locator.{LocatorIs}
 use Rattle.codeword.specs.Encoding.{encodes, Encoded}
 use Rattle.codeword.specs.Repair.{reads, Repaired}
 use Rattle.codeword.specs.declared.Reach.{Reach}
@@ -76,6 +79,12 @@ NeverSecond = (e : ℕ) (w c d : List ℕ) → length w ≤ longestWord → With
 
 abbrev pub LostUntouched : Type 0
 LostUntouched = (e : ℕ) (w before after : List ℕ) → Repaired e w before OutOfReach after → after ≡ before
+
+-- "have room for 255 coefficients, zero where unused"
+abbrev pub UnusedZero : Type 0
+UnusedZero =
+    (e : ℕ) (w s c : List ℕ) (l : ℕ) → SyndromesAre (2 * e) w s → LocatorIs (2 * e) s c l → Octets c
+    → ((i : ℕ) → 2 * e ≤ i → getD s i 0 ≡ 0) × ((i : ℕ) → l < i → getD c i 0 ≡ 0)
 
 abbrev pub EncodedUnique : Type 0
 EncodedUnique =
