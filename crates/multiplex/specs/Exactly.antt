@@ -1,7 +1,8 @@
 -- Document 01's table of refusals, "given exactly when", of the demultiplexer and the multiplexer: each number where the tests before it do
 -- not hold. A test that a definition and its code had beyond these, or without one of them, fails here. What the conditions come to is said
--- in the paper's words by other claims: that a code has an entry by `DefinedExactly` in `table`, that channels are open by `AllOpenExactly` in `channels`, of which channels slots are by `NumbersInTurn` in `table`; refusal 6 by `SixExactly` in specs/Claims.antt; 8, 3 and what the walk reaches by `FitsExactly`, `ThreeExactly`
--- and `WalkRules` in specs/Rules.antt.
+-- in the paper's words by other claims: that a code has an entry by `DefinedExactly`, and of which channels slots are by `NumbersInTurn`, both
+-- in `table`; that channels are open by `AllOpenExactly` in `channels`; refusal 6 by `SixExactly` in specs/Claims.antt; 8, 3 and what the walk
+-- reaches by `FitsExactly`, `ThreeExactly` and `WalkRules` in specs/Rules.antt.
 --
 --   Sorted x t c xs       the payload xs has an allowed length; its code has an entry, of as many octets, and each of their channels is open
 --   isEnded x t c xs      the payload's last octet is on a segmentable channel
