@@ -6,16 +6,20 @@
 --   receiveAnswer r                .. or minus a refusal's number
 --   EncodeIs b e u before r after  what kyte_encode answers and leaves, by AL1M's sending
 --   ReceiveIs b e w before r after .. and kyte_receive, by AL1M's receiving
+--   lentTo n o                     what is lent to kyte_record_read to write to
+--   RecordWriteIs n o before r after   what kyte_record_write answers and leaves, by the record's writing
+--   RecordReadIs s n o r m p       .. and kyte_record_read, by its reading
 --
 -- Assumes nothing.
 use mathlib.Core.Path.{_≡_}
 use mathlib.Core.List.{List}
 use Prim.Native.Nat.{ℕ, _+_, _*_}
 use lib.IntN.{ℤ, pos, negℤ}
-use Rattle.calls.specs.Refusal.{Told, refused, told, lengthSays}
+use Rattle.calls.specs.Refusal.{Told, refused, told, ended, lengthSays}
 use Rattle.adaptation.specs.Handed.{badgeNumber}
 use Rattle.adaptation.specs.Sending.{Sends}
 use Rattle.adaptation.specs.Receiving.{Receives}
+use Rattle.record.specs.Call.{Writes, ReadLent, Reads}
 use Rattle.calls.specs.declared.Length.{Length}
 use Rattle.adaptation.specs.declared.al1m.Judgement.{Judgement}
 use Rattle.adaptation.specs.declared.al1m.Received.{Received}
@@ -44,3 +48,16 @@ pub record ReceiveIs (b e : ℕ) (w before : List ℕ) (r : ℤ) (after : List �
   pub outcome : Received
   pub received : Receives b e w before outcome after
   pub number : r ≡ receiveAnswer outcome
+
+abbrev pub lentTo : List ℕ → List ℕ → ReadLent
+lentTo n o = record { numbers = n; octets = o }
+
+pub record RecordWriteIs (n o before : List ℕ) (r : ℤ) (after : List ℕ) : Type 0 where
+  pub outcome : Told ℕ
+  pub writes : Writes n o before (ended outcome after)
+  pub number : r ≡ answer outcome
+
+pub record RecordReadIs (s n o : List ℕ) (r : ℤ) (m p : List ℕ) : Type 0 where
+  pub outcome : Told ℕ
+  pub reads : Reads s (lentTo n o) (ended outcome (lentTo m p))
+  pub number : r ≡ answer outcome

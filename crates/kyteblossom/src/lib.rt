@@ -3,11 +3,12 @@ use adaptation::al1m;
 use adaptation::al1m::Judgement;
 use adaptation::al1m::Received;
 use calls::Length;
+use record::Reading;
 ghost use mathlib.Core.Path.{_≡_};
 ghost use Prim.Native.Nat.{_<_};
 ghost use lib.IntN.{pos, negℤ};
 ghost use Rattle.adaptation.specs.AL1M.{sentLength};
-ghost use Rattle.kyteblossom.specs.Answer.{answer, packed, EncodeIs, ReceiveIs};
+ghost use Rattle.kyteblossom.specs.Answer.{answer, packed, EncodeIs, ReceiveIs, RecordWriteIs, RecordReadIs};
 
 // A refusal as the host reads it: minus its number.
 fn refusal(k: u8) -> i32
@@ -57,5 +58,27 @@ pub extern "C" fn kyte_receive(received: &[u8], width: u32, e: u32, repair: &mut
     match al1m::receive(received, width, e, repair) {
         Received::Unit(j) => pack(j),
         Received::Refused(k) => refusal(k),
+    }
+}
+
+// Writes the record of a list of units: how many octets of `output` were written, or minus the refusal's number.
+#[no_mangle]
+pub extern "C" fn kyte_record_write(units: &[u16], content: &[u8], output: &mut [u8]) -> i32
+    ensures { λ r. ⌜ RecordWriteIs (now (units .entry)) (now (content .entry)) (now (output .entry)) r (now (output .exit)) ⌝ }
+{
+    match record::write(units, content, output) {
+        Length::Octets(n) => n as i32,
+        Length::Refused(k) => refusal(k),
+    }
+}
+
+// Reads a record: how many units there are, or minus the refusal's number.
+#[no_mangle]
+pub extern "C" fn kyte_record_read(input: &[u8], units: &mut [u16], content: &mut [u8]) -> i32
+    ensures { λ r. ⌜ RecordReadIs (now (input .entry)) (now (units .entry)) (now (content .entry)) r (now (units .exit)) (now (content .exit)) ⌝ }
+{
+    match record::read(input, units, content) {
+        Reading::Units(n) => n as i32,
+        Reading::Refused(k) => refusal(k),
     }
 }

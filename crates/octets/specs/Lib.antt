@@ -5,3 +5,4 @@ pub mod Written
 pub mod Parts
 pub mod Tests
 pub mod Exact
+pub mod High

@@ -1,7 +1,8 @@
 // What every layer does with octets and no document names. No host calls these functions: each caller has tested what they require.
 ghost use mathlib.Core.Path.{_≡_};
 ghost use Prim.Native.Nat.{_+_, _≤_};
-ghost use lib.ListN.{length, take};
+ghost use lib.ListN.{length, take, drop};
+ghost use Rattle.octets.specs.High.{high};
 ghost use Rattle.octets.specs.Same as sameness;
 ghost use Rattle.octets.specs.Written.{written};
 
@@ -54,4 +55,23 @@ pub fn same(a: &[u8], b: &[u8]) -> bool
         j += 1;
     }
     true
+}
+
+// The number that stands in the two octets from `at` on, the high one first.
+pub fn two(s: &[u8], at: usize) -> u16
+    requires { ⌜ at + 2 ≤ length (now s) ⌝ }
+    ensures { λ r. ⌜ take 2 (drop at (now (s .entry))) ≡ high 2 r ⌝ }
+{
+    s[at] as u16 * 256 + s[at + 1] as u16
+}
+
+// .. and in the four from `at` on.
+pub fn four(s: &[u8], at: usize) -> u32
+    requires { ⌜ at + 4 ≤ length (now s) ⌝ }
+    ensures { λ r. ⌜ take 4 (drop at (now (s .entry))) ≡ high 4 r ⌝ }
+{
+    let high = two(s, at) as u32;
+    let third = s[at + 2] as u32;
+    let fourth = s[at + 3] as u32;
+    (high * 256 + third) * 256 + fourth
 }

@@ -1,0 +1,16 @@
+-- The places of the array are the octets of the numbers, and the mark. Assumes nothing.
+use borrow.Author.Needs.{needs}
+use mathlib.Core.Path.{refl}
+use Rattle.octets.specs.High.{high}
+use Rattle.record.proofs.trailer.ends.Statement.{statement}
+use Rattle.record.proofs.trailer.ends.Tie as tie
+
+returns : tie.Need-returns
+unfolding high
+returns c = refl
+
+pub ends-spec : {M : Type 1} → statement M
+ends-spec =
+    tie.close
+    (tie.spec (λ c. search needs) (λ c. search needs) (λ c. search needs) (λ c. search needs) (λ c. search needs) (λ c. search needs)
+    (λ c. search needs) (λ c. search needs) returns)
