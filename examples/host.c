@@ -1,6 +1,7 @@
 /*
  * A host in C: it sends units, a bad link damages them by a fixed pattern, and it receives them again and shows each badge. Then it
- * receives noise, which nobody sent, and shows why a unit without a check may not be trusted, whatever its badge says.
+ * receives noise, which nobody sent, and shows why a unit without a check may not be trusted, whatever its badge says. Last it writes
+ * what it received to the record of the call, and reads that back.
  * './kyte host' builds and runs it; examples/host.expected is what it prints.
  */
 #include "kyteblossom.h"
@@ -31,7 +32,27 @@ static const struct trip trips[] = {
 
 static const char *const badges[] = { "clean", "corrected", "out of reach", "check failed", "unchecked" };
 
-static const char *const refusals[] = { "", "width or e is none of the code's", "the unit is too short or too long", "the buffer is too small" };
+static const char *const refusals[] = {
+    [KYTE_REFUSED_SETTING] = "width or e is none of the code's",
+    [KYTE_REFUSED_LENGTH] = "the unit is too short or too long",
+    [KYTE_REFUSED_ROOM] = "the buffer is too small",
+    [KYTE_REFUSED_CHANNELS] = "there is a seventeenth channel",
+    [KYTE_REFUSED_FORM] = "these are no units, or it is no record",
+};
+
+#define TRIPS (sizeof trips / sizeof *trips)
+#define MOST_UNITS (TRIPS + 3)
+
+/* The channels of the call. */
+enum { CRANE = 4, NOISE = 5 };
+
+/* The units that were received, as a record wants them: four numbers each, and their octets one behind another. */
+struct kept {
+    uint16_t units[4 * MOST_UNITS];
+    size_t units_len;
+    uint8_t octets[MOST_UNITS * KYTE_LONGEST];
+    size_t octets_len;
+};
 
 /* The link: `wrong` octets, spread over the word, each changed in some bits. */
 static void damage(uint8_t *word, size_t n, size_t wrong)
@@ -53,8 +74,22 @@ static void show_badge(int32_t answer, uint32_t width)
     printf("%-13s %7zu  %-7s  ", badges[kyte_badge(answer)], kyte_changed(answer), kyte_trusted(answer, width) ? "yes" : "no");
 }
 
-/* Sends, damages and receives one unit. Whether a unit that may be trusted is not the one that was sent. */
-static int is_deceived_by(const struct trip *t)
+/* Keeps a unit that was handed up. */
+static void keep(struct kept *kept, uint16_t channel, int32_t answer, const uint8_t *unit)
+{
+    size_t length = kyte_unit_length(answer);
+    uint16_t *u = kept->units + kept->units_len;
+    u[0] = channel;
+    u[1] = (uint16_t)kyte_badge(answer);
+    u[2] = (uint16_t)kyte_changed(answer);
+    u[3] = (uint16_t)length;
+    memcpy(kept->octets + kept->octets_len, unit, length);
+    kept->units_len += 4;
+    kept->octets_len += length;
+}
+
+/* Sends, damages and receives one unit, and keeps it. Whether a unit that may be trusted is not the one that was sent. */
+static int is_deceived_by(const struct trip *t, struct kept *kept)
 {
     size_t length = strlen(t->unit);
     uint8_t sent[KYTE_LONGEST], repair[KYTE_LONGEST];
@@ -74,6 +109,7 @@ static int is_deceived_by(const struct trip *t)
         return 0;
     }
     const uint8_t *unit = kyte_unit(answer, sent, repair);
+    keep(kept, CRANE, answer, unit);
     int is_same = kyte_unit_length(answer) == length && memcmp(unit, t->unit, length) == 0;
     show_badge(answer, t->width);
     printf("%s\n", is_same ? "as it was sent" : "damaged");
@@ -84,7 +120,7 @@ static int is_deceived_by(const struct trip *t)
  * Receives 255 octets that nobody sent. Nearly all such words lie within one octet of some code word, so that with e = 1 and no check
  * noise is called corrected; a check of 8 bits agrees by chance with one such word in 256, one of 16 bits with one in 65,536.
  */
-static int is_deceived_by_noise(uint32_t width)
+static int is_deceived_by_noise(uint32_t width, struct kept *kept)
 {
     uint8_t noise[KYTE_LONGEST], repair[KYTE_LONGEST];
     uint32_t state = 1;
@@ -93,21 +129,45 @@ static int is_deceived_by_noise(uint32_t width)
         noise[i] = (uint8_t)(state >> 16);
     }
     int32_t answer = kyte_receive(noise, sizeof noise, width, 1, repair, sizeof repair);
+    keep(kept, NOISE, answer, kyte_unit(answer, noise, repair));
     printf("%-21s %5u %4u %6s  ", "(noise)", (unsigned)width, 1u, "all");
     show_badge(answer, width);
     printf("noise\n");
     return kyte_trusted(answer, width);
 }
 
+/* Writes the record of what was kept and reads it back. Whether that is something else. */
+static int is_lost_in_record(const struct kept *kept)
+{
+    static uint8_t record[10 * MOST_UNITS + sizeof kept->octets + KYTE_RECORD_TRAILER];
+    static struct kept back;
+
+    int32_t n = kyte_record_write(kept->units, kept->units_len, kept->octets, kept->octets_len, record, sizeof record);
+    if (n < 0) {
+        show_refusal(n);
+        return 1;
+    }
+    int32_t units = kyte_record_read(record, (size_t)n, back.units, 4 * MOST_UNITS, back.octets, sizeof back.octets);
+    if (units < 0) {
+        show_refusal(units);
+        return 1;
+    }
+    int is_same = 4 * (size_t)units == kept->units_len && memcmp(back.units, kept->units, sizeof *back.units * kept->units_len) == 0 &&
+                  memcmp(back.octets, kept->octets, kept->octets_len) == 0;
+    printf("Record of the call: %d units in %d octets, read back %s\n", (int)units, (int)n, is_same ? "as they were received" : "otherwise");
+    return !is_same;
+}
+
 int main(void)
 {
+    static struct kept kept;
     int deceived = 0;
 
     printf("%-21s %5s %4s %6s  %-13s %7s  %-7s  %s\n", "unit", "check", "e", "wrong", "badge", "changed", "trusted", "what is handed up");
-    for (size_t i = 0; i < sizeof trips / sizeof *trips; i++)
-        deceived += is_deceived_by(&trips[i]);
+    for (size_t i = 0; i < TRIPS; i++)
+        deceived += is_deceived_by(&trips[i], &kept);
     for (uint32_t width = 0; width <= 16; width += 8)
-        deceived += is_deceived_by_noise(width);
+        deceived += is_deceived_by_noise(width, &kept);
     printf("Trusted units that differ from what was sent: %d\n", deceived);
-    return deceived != 0;
+    return is_lost_in_record(&kept) || deceived != 0;
 }

@@ -1,17 +1,19 @@
 /*
- * Kyteblossom: the protected units of ITU-T H.223, Annex D (AL1M, mode FEC_ONLY), for a host in C or C++.
+ * Kyteblossom: the protected units of ITU-T H.223, Annex D (AL1M, mode FEC_ONLY), and the record of a call's units, for a host in C
+ * or C++.
  *
  * Every function answers every number and every buffer: widths, limits and lengths out of range are refused by a number, and a
- * refusal leaves every lent octet as it came. What a function writes it writes from the start of the buffer; octets past that never
- * change.
+ * refusal leaves all that was lent as it came. What a function writes it writes from the start of the buffer; what lies past that never
+ * changes. A length counts the elements of its buffer: octets, or numbers of 16 bits where the pointer is to uint16_t.
  *
- * Proved is what the three functions of the library, kyte_length, kyte_encode and kyte_receive, answer and leave in the buffers
- * (docs/PROMISES.md), and that the equations beside the inline functions below give back from such an answer what it was made of. Not
- * proved, but tried (tests/host): that the inline functions, which are C, compute those equations, and what a compiler makes of the whole.
+ * Proved is what the five functions of the library, kyte_length, kyte_encode, kyte_receive, kyte_record_write and kyte_record_read, answer
+ * and leave in the buffers (docs/PROMISES.md), and that the equations beside the inline functions below give back from an answer of
+ * kyte_receive what it was made of. Not proved, but tried (tests/host): that the inline functions, which are C, compute those equations,
+ * and what a compiler makes of the whole.
  *
- * The one duty of the host: a pointer and its length name that many octets that are there to be read (and, where the pointer is not
- * const, written) for the whole call, and the two buffers of one call don't overlap. A length may be 0; the pointer is then not
- * read, but must not be null.
+ * The one duty of the host: a pointer and its length name that many elements that are there to be read (and, where the pointer is not
+ * const, written) for the whole call, and no two buffers of one call, which has up to three, overlap. A length may be 0; the pointer is
+ * then not read, but must not be null. A pointer to uint16_t is aligned as C asks: its address is even.
  *
  * The functions keep no state between calls and allocate nothing. Calls with buffers of their own may run at the same time.
  */
@@ -28,10 +30,23 @@ extern "C" {
 /* The longest sent unit, and so a size that is enough for `sent` and `repair`. */
 #define KYTE_LONGEST 255
 
+/* The longest record, in octets: 1,048,576 before the trailer, and the trailer. A size that is enough for `record`. */
+#define KYTE_LONGEST_RECORD 1048812
+#define KYTE_RECORD_TRAILER 236
+
+/*
+ * The most units that a record can have, each of ten octets and one of its own, and a size that is enough for their octets:
+ * uint16_t units[4 * KYTE_RECORD_UNITS] and uint8_t octets[KYTE_RECORD_OCTETS] have room for every record.
+ */
+#define KYTE_RECORD_UNITS 95325
+#define KYTE_RECORD_OCTETS 1048576
+
 /* Why a call is refused: the answer is minus one of these. */
-#define KYTE_REFUSED_SETTING 1 /* width is not 0, 8 or 16, or e is over 127 */
-#define KYTE_REFUSED_LENGTH 2  /* a unit or a word is too short or too long */
-#define KYTE_REFUSED_ROOM 3    /* `sent` or `repair` is too small */
+#define KYTE_REFUSED_SETTING 1   /* width is not 0, 8 or 16, or e is over 127 */
+#define KYTE_REFUSED_LENGTH 2    /* a unit or a word is too short or too long, or a record too long */
+#define KYTE_REFUSED_ROOM 3      /* a buffer that is to be written is too small */
+#define KYTE_REFUSED_CHANNELS 12 /* the units are on more than 16 channels */
+#define KYTE_REFUSED_FORM 15     /* the numbers and octets are no list of units, or the octets no record */
 
 /* What is known of a unit that is handed up. */
 #define KYTE_CLEAN 0        /* the received word is a code word, and its check agrees */
@@ -60,6 +75,29 @@ int32_t kyte_encode(const uint8_t *unit, size_t unit_len, uint32_t width, uint32
  * kyte_unit says where the unit lies. Below 0: refused (1, then 2, then 3).
  */
 int32_t kyte_receive(const uint8_t *received, size_t received_len, uint32_t width, uint32_t e, uint8_t *repair, size_t repair_len);
+
+/*
+ * The record of a call (docs/records.md): its units in order, then a trailer that says of each channel where its last unit lies, how many
+ * units it has and how many of them have badge 2 or 3. In `units` a unit is four numbers: its channel, its badge (0 to 4), how many
+ * octets were changed (1 to 127 for badge 1, 0 to 127 for badge 3, else 0) and its length (1 to 1,024). The units' octets stand one behind
+ * another in `octets`. Reading what was written gives the units back; writing what was read gives the same octets.
+ */
+
+/*
+ * Writes the record of the units to the front of `record`. Answers how many octets were written: 10 for each unit, the units' octets and
+ * the trailer's 236. Below 0: refused (15 for numbers that are not four to a unit, a unit out of range, or lengths that do not add up to
+ * octets_len; then 12 for a seventeenth channel; then 2 for more than 1,048,576 octets before the trailer; then 3), each tested on the
+ * whole list before the next.
+ */
+int32_t kyte_record_write(const uint16_t *units, size_t units_len, const uint8_t *octets, size_t octets_len, uint8_t *record,
+                          size_t record_len);
+
+/*
+ * Reads a record: its units to the front of `units`, four numbers each, and their octets to the front of `octets`. Answers how many units
+ * there are. Below 0: refused (15 unless the octets are exactly the record of some units; then 3 where `units` or `octets` is too small).
+ */
+int32_t kyte_record_read(const uint8_t *record, size_t record_len, uint16_t *units, size_t units_len, uint8_t *octets,
+                         size_t octets_len);
 
 /* The refusal's number, or 0 where an answer is no refusal: minus the answer where it is below 0. */
 static inline int kyte_refused(int32_t answer) { return answer < 0 ? -answer : 0; }

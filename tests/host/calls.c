@@ -15,8 +15,8 @@ static struct lent in, out;
 
 void calls_open(void)
 {
-    lent_open(&in);
-    lent_open(&out);
+    lent_open(&in, 1);
+    lent_open(&out, 1);
 }
 
 size_t rest_of(uint32_t width, uint32_t e) { return width / 8 + 2 * (size_t)e; }

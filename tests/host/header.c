@@ -1,13 +1,17 @@
 /*
- * The header's functions on every answer that the library has: each refusal, each badge with each count and each length of a unit, and
- * with each width, also such as are refused. Status 1, and a line, at the first that reads otherwise than its equation.
+ * The header's functions on every answer that kyte_receive has: each refusal, each badge with each count and each length of a unit, and
+ * with each width, also such as are refused; and on the refusals that records alone have. Status 1, and a line, at the first that reads
+ * otherwise than its equation.
  */
+#include "kyteblossom.h"
 #include "reading.h"
 
 #include <stddef.h>
 #include <stdio.h>
 
 static const uint32_t widths[] = { 0, 8, 16, 1, 7, 9, 15, 17, 24, 32, 256, 264, 65544, 0x80000008, 0xFFFFFFFF };
+
+static const int32_t refusals[] = { KYTE_REFUSED_SETTING, KYTE_REFUSED_LENGTH, KYTE_REFUSED_ROOM, KYTE_REFUSED_CHANNELS, KYTE_REFUSED_FORM };
 
 static unsigned long answers;
 
@@ -28,8 +32,8 @@ static int is_misread(int32_t answer)
 
 int main(void)
 {
-    for (int32_t refusal = 1; refusal <= 3; refusal++)
-        if (is_misread(-refusal))
+    for (size_t i = 0; i < sizeof refusals / sizeof *refusals; i++)
+        if (is_misread(-refusals[i]))
             return 1;
     for (int32_t badge = 0; badge <= 4; badge++)
         for (int32_t changed = 0; changed <= 127; changed++)

@@ -7,7 +7,7 @@
 #include <sys/mman.h>
 #include <unistd.h>
 
-void lent_open(struct lent *l)
+void lent_open(struct lent *l, size_t element)
 {
     size_t page = (size_t)sysconf(_SC_PAGESIZE);
     uint8_t *all = mmap(0, LENT_AREA + 2 * page, PROT_NONE, MAP_PRIVATE | MAP_ANONYMOUS, -1, 0);
@@ -16,6 +16,7 @@ void lent_open(struct lent *l)
         exit(2);
     }
     l->area = all + page;
+    l->element = element;
 }
 
 /* Where the octets and their guards begin, and how many there are. */
@@ -30,7 +31,7 @@ void lent_fill(struct lent *l, enum place place, size_t length)
     l->before = place == AT_START ? 0 : LENT_GUARD;
     l->after = place == AT_END ? 0 : LENT_GUARD;
     switch (place) {
-    case AMID: l->at = l->area + LENT_GUARD + turn % 16; break;
+    case AMID: l->at = l->area + LENT_GUARD + turn % 16 * l->element; break;
     case AT_END: l->at = l->area + LENT_AREA - length; break;
     case AT_START: l->at = l->area; break;
     }

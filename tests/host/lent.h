@@ -11,18 +11,19 @@
 enum place { AMID, AT_END, AT_START };
 
 #define LENT_GUARD 32
-#define LENT_AREA ((size_t)1 << 17)
+#define LENT_AREA ((size_t)1 << 21)
 
 struct lent {
     uint8_t *area; /* LENT_AREA octets between two pages without access */
+    size_t element; /* octets of one element: what is lent is aligned to it */
     uint8_t *at;
     size_t length;
     size_t before, after; /* octets of the guards */
     uint8_t kept[LENT_AREA];
 };
 
-/* Makes the area, once. */
-void lent_open(struct lent *l);
+/* Makes the area, once, for elements of so many octets. */
+void lent_open(struct lent *l, size_t element);
 
 /* Lends `length` octets: amid guards, or with no access past their end or before their start. They and the guards hold a pattern. */
 void lent_fill(struct lent *l, enum place place, size_t length);

@@ -13,7 +13,7 @@
 --   told-refuses       .. and one that is lent nothing
 --   allowed-refuses    an answer where no test holds refuses by them
 --   refused-refuses    .. and so does a refusal by the first that holds
---   Given, given-exactly   a call is refused with a number exactly where the test of that number holds, and none before it (Given)
+--   Given, isOnce, given-exactly   a call is refused with a number exactly where the test of that number holds, and none before it (Given)
 --   once               two things of which something says the same are equal, where the saying can be undone
 --   both-once          two answers of which a saying and what is left say the same, where the saying can be undone
 --   outcome-once       the answers that are outcomes, and what is left beside them
@@ -32,7 +32,7 @@ use Rattle.calls.specs.declared.Outcome.{Outcome}
 use Rattle.calls.specs.declared.Outcome.the-variants as outcome
 use Rattle.calls.specs.declared.Length.{Length}
 use Rattle.calls.specs.declared.Length.the-variants.{Octets, Refused}
-pub use Rattle.calls.proofs.Given.{Given, given-exactly}
+pub use Rattle.calls.proofs.Given.{Given, isOnce, given-exactly}
 
 pub told-refused : {A B : Type 0} {t : Told A} {a : A} {k : ℕ} → t ≡ told a → t ≡ refused k → B
 told-refused p q = never (cc)

@@ -4,6 +4,7 @@
 --
 -- Assumes nothing.
 use Rattle.multiplex.proofs.Laws.{calls-refuse, always-sound}
+use Rattle.record.proofs.Laws.{recording}
 use Rattle.runs.proofs.Laws.{demand-met, unit-to-unit}
 use Rattle.demands.specs.Demands.{Demands}
 use Rattle.demands.proofs.First.{demand1}
@@ -25,4 +26,5 @@ demands = record {
   units = unit-to-unit;
   third = demand3;
   host = host;
+  records = recording;
 }

@@ -34,7 +34,7 @@ use Rattle.adaptation.proofs.Laws.{receivedUnique}
 use Rattle.kyteblossom.specs.Answer.{packed, receiveAnswer, EncodeIs, ReceiveIs}
 use Rattle.kyteblossom.specs.Header.{isBelow, toldBadge, isBadge, isChecked, isTrusted}
 use Rattle.kyteblossom.specs.Claims.{Parts}
-use Rattle.kyteblossom.proofs.Laws.{lengthAnswered, encodeAnswered, receiveAnswered, checkedExactly}
+use Rattle.kyteblossom.proofs.Laws.{lengthAnswered, encodeAnswered, receiveAnswered, recordWriteAnswered, recordReadAnswered, checkedExactly}
 use Rattle.demands.specs.Repairs.{Repairs}
 use Rattle.demands.specs.Host.{foundBadge, FoundTold, HostRepairs, SentTold, Host}
 use Rattle.demands.proofs.Reached.{demand3}
@@ -197,4 +197,12 @@ asSent b e m u room sent w before after r a l near fits g =
     sent-told b e (distance w (take m sent)) u w before after r p (parts-of b e w before after r _ g p) (h .1)
 
 pub host : Host
-host = record { lengths = lengthAnswered; encoding = encodeAnswered; receiving = receiveAnswered; repairs = repairs; asSent = asSent }
+host = record {
+  lengths = lengthAnswered;
+  encoding = encodeAnswered;
+  receiving = receiveAnswered;
+  writing = recordWriteAnswered;
+  reading = recordReadAnswered;
+  repairs = repairs;
+  asSent = asSent;
+}

@@ -5,7 +5,8 @@
 --   codeword-encoded, codeword-repaired    the code word's
 --   outcome-once, length-once, lengths-once   of answers that say 'done' or 'so many octets', alone and with what is left
 --   check8-once, al1m-encoded, al1m-received, passed-once, read-once, received-once   the adaptation layers'
---   encode-once, receive-once              the C entries'
+--   writes-once, reads-once                the record's
+--   encode-once, receive-once, record-write-once, record-read-once   the C entries'
 --   replacedUnique                         the table's
 --   afterUnique, postUnique, sendUnique, takeUnique   the channels'
 --   demultiplexed-once, multiplexed-once   the multiplexer's
@@ -16,7 +17,8 @@ use mathlib.Core.Path.{_≡_, sym, _∙_}
 pub use Rattle.codeword.proofs.Laws.{encodedUnique as codeword-encoded, repairedUnique as codeword-repaired}
 pub use Rattle.calls.proofs.Laws.{length-once, lengths-once, outcome-once}
 pub use Rattle.adaptation.proofs.Laws.{check8-once, encodedUnique as al1m-encoded, receivedUnique as al1m-received, passed-once, read-once, received-once}
-pub use Rattle.kyteblossom.proofs.Laws.{encode-once, receive-once}
+pub use Rattle.record.proofs.Laws.{writes-once, reads-once}
+pub use Rattle.kyteblossom.proofs.Laws.{encode-once, receive-once, record-write-once, record-read-once}
 pub use Rattle.table.proofs.Laws.{replacedUnique}
 pub use Rattle.channels.proofs.Laws.{afterUnique, postUnique, sendUnique, takeUnique}
 pub use Rattle.multiplex.proofs.Laws.{demultiplexed-once, multiplexed-once}

@@ -11,8 +11,10 @@
 --      exactly the units wholly sent at the other, in order. `UnitToUnit` in its specs/Carried.antt: from the unit handed in to the unit handed up
 --   3  specs/Repairs.antt, `Demand3`: a repaired word is found exactly when a code word lies within e octets, never a second one
 --   1 and 3 of what the C host calls: specs/Host.antt, `Host`
+-- and of the call record (document 02, ticket 1): `Recording` in the specs/Claims.antt of `record`, with its form in specs/Form.antt there.
 --
 -- Assumes nothing.
+use Rattle.record.specs.Claims.{Recording}
 use Rattle.runs.specs.Claims.{DemandMet}
 use Rattle.runs.specs.Carried.{UnitToUnit}
 use Rattle.multiplex.specs.Calls.{AlwaysSound}
@@ -35,3 +37,4 @@ pub record Demands : Type 1 where
   pub units : UnitToUnit
   pub third : Demand3
   pub host : Host
+  pub records : Recording

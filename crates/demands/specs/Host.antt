@@ -22,7 +22,7 @@ use Rattle.adaptation.specs.Width.{kindAt}
 use Rattle.adaptation.specs.Receiving.{isBare, unitLength}
 use Rattle.kyteblossom.specs.Answer.{EncodeIs, ReceiveIs}
 use Rattle.kyteblossom.specs.Header.{isBelow, toldBadge, toldChanged, toldLength, toldUnit, isChecked, isTrusted}
-use Rattle.kyteblossom.specs.Claims.{LengthAnswered, EncodeAnswered, ReceiveAnswered}
+use Rattle.kyteblossom.specs.Claims.{LengthAnswered, EncodeAnswered, ReceiveAnswered, RecordWriteAnswered, RecordReadAnswered}
 
 abbrev pub foundBadge : Bool → ℕ → Bool → ℕ
 foundBadge x d false = 3
@@ -68,6 +68,8 @@ pub record Host : Type 0 where
   pub lengths : LengthAnswered
   pub encoding : EncodeAnswered
   pub receiving : ReceiveAnswered
+  pub writing : RecordWriteAnswered
+  pub reading : RecordReadAnswered
   -- demand 3
   pub repairs : (b e : ℕ) (w before after : List ℕ) (r : ℤ) → ReceiveIs b e w before r after → isBelow r ≡ false → HostRepairs b e w before after r
   -- what kyte_encode wrote in m octets, of which at most e changed, with room for the repair

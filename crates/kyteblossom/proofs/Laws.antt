@@ -2,6 +2,7 @@
 -- allows are equal, and so is what they leave in the lent octets. (`kyte_length` answers by an equation: `p ∙ sym q` is the proof.)
 --
 --   lengthAnswered, encodeAnswered, receiveAnswered, checkedExactly    the claims (Theorems)
+--   recordWriteAnswered, recordReadAnswered    .. on records, and `record-write-once`, `record-read-once` (Recorded)
 --   encode-once     sending
 --   receive-once    receiving
 --
@@ -14,6 +15,7 @@ use Rattle.calls.specs.Refusal.{lengthSays}
 use Rattle.adaptation.proofs.Laws.{encodedUnique, receivedUnique}
 use Rattle.calls.specs.declared.Length.{Length}
 use Rattle.kyteblossom.specs.Answer.{answer, receiveAnswer, EncodeIs, ReceiveIs}
+pub use Rattle.kyteblossom.proofs.Recorded.{recordWriteAnswered, recordReadAnswered, record-write-once, record-read-once}
 pub use Rattle.kyteblossom.proofs.Theorems.{lengthAnswered, encodeAnswered, receiveAnswered, checkedExactly}
 
 module _ (n e : ℕ) (u before after left : List ℕ) (r q : ℤ) where

@@ -1,3 +1,5 @@
 pub mod Numbers
 pub mod Theorems
 pub mod Laws
+pub mod Answering
+pub mod Recorded

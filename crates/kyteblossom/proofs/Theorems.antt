@@ -29,6 +29,7 @@ use Rattle.adaptation.specs.declared.al1m.Judgement.{Judgement}
 use Rattle.adaptation.specs.declared.al1m.Received.{Received}
 use Rattle.adaptation.specs.declared.al1m.Received.the-variants as al1m
 use Rattle.adaptation.proofs.Laws.{coding-all, sent-small, handed-small, badge-most, refused-none}
+use Rattle.kyteblossom.proofs.Answering.{answered, not-below}
 use Rattle.kyteblossom.specs.Answer.{answer, packed, receiveAnswer}
 use Rattle.kyteblossom.specs.Header.{isBelow, toldRefusal, isChecked}
 use Rattle.kyteblossom.specs.Claims.{Answered, WordLength, LengthAnswered, EncodeAnswered, Parts, ReceiveAnswered, CheckedExactly}
@@ -41,32 +42,6 @@ positive false l x k h = let one : 1 ≡ k = cc in omega arith
 positive true false x k h = let two : 2 ≡ k = cc in omega arith
 positive true true true k h = let three : 3 ≡ k = cc in omega arith
 positive true true false k h = told-refused refl h
-
-module _ {X : Type 0} (s l x : Bool) (before after : X) (r : ℤ) where
-  answered : (q : Told ℕ) → r ≡ answer q → Refuses (ended q after) (al1mTests s l x) before → Answered r (al1mTests s l x) before after
-  answered (told n) e h = record {
-    below = (λ b. absurd (true≢false (sym b ∙ ap isBelow e)), λ k. told-refused refl (h .exactly (k .0) .1 (k .1)));
-    number = λ k f. told-refused refl (h .exactly k .1 f);
-    none = λ f. ap toldRefusal e;
-    leaves = λ b. absurd (true≢false (sym b ∙ ap isBelow e));
-  }
-  answered (refused zero) e h = absurd (omega (arith, positive s l x 0 (h .exactly 0 .0 refl)))
-  answered (refused (suc k)) e h = record {
-    below = (λ b. (suc k, h .exactly (suc k) .0 refl), λ i. ap isBelow e);
-    number = λ i f.
-        let same : suc k ≡ i = cc (h .exactly (suc k) .0 refl) in
-        (e ∙ ap (λ (n : ℕ). negℤ (pos n)) same, ap toldRefusal e ∙ same);
-    none = λ f. told-refused f (h .exactly (suc k) .0 refl);
-    leaves = λ b. h .leaves (suc k) refl;
-  }
-
--- an answer that is not below 0 was given where no test holds
-not-below : {X : Type 0} (l : List Test) (before after : X) (r : ℤ) → Answered r l before after → isBelow r ≡ false → refusal l ≡ told tt
-not-below l before after r a h = go (refusal l) refl
-  where
-    go : (t : Told (Unit {0})) → refusal l ≡ t → refusal l ≡ told tt
-    go (told u) e = e
-    go (refused k) e = absurd (true≢false (sym (a .below .1 (k, e)) ∙ h))
 
 -- ---- lengths
 
@@ -81,7 +56,7 @@ module _ (t b e : ℕ) (setting : isSetting b e ≡ true) (sendable : isSendable
 pub lengthAnswered : LengthAnswered
 unfolding sentLength
 lengthAnswered t b e r is =
-    let a = answered (isSetting b e) (isSendable t b e) false tt tt r (sentLength t b e) is (told-refuses _ _) in (
+    let a = answered _ (positive (isSetting b e) (isSendable t b e) false) tt tt r (sentLength t b e) is (told-refuses _ _) in (
       a,
       λ h.
           let p = refused-none (isSetting b e) (isSendable t b e) false (not-below (lengthTests t b e) tt tt r a h) in
@@ -107,7 +82,7 @@ module _ (b e : ℕ) (u before after : List ℕ) where
 
 pub encodeAnswered : EncodeAnswered
 encodeAnswered b e u before after r a =
-    let is = answered (isSetting b e) (isSendable (length u) b e) (ltb (length before) (sentOctets (length u) b e)) before after r
+    let is = answered _ (positive (isSetting b e) (isSendable (length u) b e) (ltb (length before) (sentOctets (length u) b e))) before after r
     (lengthSays (a .outcome)) (a .number) (sends-refuses b e u before after (a .outcome) (a .encoded)) in
     (is, λ h. written-octets b e u before after (not-below _ before after r is h) r (a .outcome) (a .encoded) (a .number))
 
@@ -165,7 +140,7 @@ module _ (b e : ℕ) (w before after : List ℕ) where
 
 pub receiveAnswered : ReceiveAnswered
 receiveAnswered b e w before after r a =
-    let is = answered (isSetting b e) (isWord (length w) b e) (ltb (length before) (length w)) before after r
+    let is = answered _ (positive (isSetting b e) (isWord (length w) b e) (ltb (length before) (length w))) before after r
     (receiveSays (a .outcome)) (a .number ∙ receive-answer (a .outcome)) (receives-refuses b e w before after (a .outcome) (a .received)) in
     (is, λ h. handed-parts b e w before after (not-below _ before after r is h) r (a .outcome) (a .received) (a .number))
 

@@ -8,6 +8,8 @@
 --   EncodeAnswered               .. with kyte_encode; it is the number of octets that were written
 --   Parts r j w after            the header's functions give back from r what is told of the unit, each part by itself, and where it lies
 --   ReceiveAnswered              .. with kyte_receive; it is what was judged, in parts
+--   RecordWriteAnswered          so it is with kyte_record_write; it is the number of octets that were written
+--   RecordReadAnswered           .. and with kyte_record_read; it is the number of units
 --   CheckedExactly               kyte_trusted takes a width for one with a check exactly where the check has octets
 --
 -- Assumes nothing.
@@ -19,7 +21,7 @@ use Prim.Native.Nat.{ℕ, _^_, _≤_, _<_}
 use lib.Dec.{eqb}
 use lib.IntN.{ℤ, pos, negℤ}
 use lib.ListN.{length}
-use Rattle.calls.specs.Refusal.{refused, told, Test, refusal}
+use Rattle.calls.specs.Refusal.{refused, told, leaving, Test, refusal}
 use Rattle.calls.specs.declared.Length.the-variants.{Octets}
 use Rattle.adaptation.specs.Handed.{badgeNumber}
 use Rattle.adaptation.specs.Width.{kindAt}
@@ -28,7 +30,8 @@ use Rattle.adaptation.specs.Sending.{encodeTests, Sends}
 use Rattle.adaptation.specs.Receiving.{receiveTests, handedUnit, Receives}
 use Rattle.adaptation.specs.declared.al1m.Judgement.{Judgement}
 use Rattle.adaptation.specs.declared.al1m.Received.the-variants as al1m
-use Rattle.kyteblossom.specs.Answer.{answer, packed, EncodeIs, ReceiveIs}
+use Rattle.record.specs.Call.{Listing, writeTests, Writes, Opening, readTests, Reads}
+use Rattle.kyteblossom.specs.Answer.{answer, packed, EncodeIs, ReceiveIs, lentTo, RecordWriteIs, RecordReadIs}
 use Rattle.kyteblossom.specs.Header.{isBelow, toldRefusal, toldBadge, toldChanged, toldLength, toldUnit, isChecked}
 
 pub record Answered {X : Type 0} (r : ℤ) (l : List Test) (before after : X) : Type 0 where
@@ -66,6 +69,20 @@ ReceiveAnswered =
     (b e : ℕ) (w before after : List ℕ) (r : ℤ) → ReceiveIs b e w before r after
     → Answered r (receiveTests (length w) b e (length before)) before after
     × (isBelow r ≡ false → (j : Judgement) × Receives b e w before (al1m.Unit j) after × Parts r j w after)
+
+-- ---- records; specs/Claims.antt of `record` says what is written and read
+
+abbrev pub RecordWriteAnswered : Type 0
+RecordWriteAnswered =
+    (n o before after : List ℕ) (r : ℤ) → RecordWriteIs n o before r after
+    → (w : Listing n o) × Answered r (writeTests w (length before)) before after
+    × (isBelow r ≡ false → (m : ℕ) × (r ≡ pos m) × (m ≤ 1048812) × Writes n o before (leaving m after))
+
+abbrev pub RecordReadAnswered : Type 0
+RecordReadAnswered =
+    (s n o m p : List ℕ) (r : ℤ) → RecordReadIs s n o r m p
+    → (w : Opening s) × Answered r (readTests w (lentTo n o)) (lentTo n o) (lentTo m p)
+    × (isBelow r ≡ false → (k : ℕ) × (r ≡ pos k) × (k ≤ 95325) × Reads s (lentTo n o) (leaving k (lentTo m p)))
 
 abbrev pub CheckedExactly : Type 0
 CheckedExactly = (b : ℕ) → isChecked b ≡ not (eqb (kindAt b .octets) 0)

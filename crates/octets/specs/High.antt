@@ -4,8 +4,8 @@
 --   worthFrom n l   the number that begins with n, and goes on with the octets l
 --   worth l         .. that the octets l are
 --   high-length     k octets
---   high-below      .. each below 256
 --   high-next       a number with an octet more at its low end
+--   worth-snoc      what octets with one more at the end are worth
 --   worth-high      a number that fits is what its octets are worth
 --   high-same       .. so that two that fit in k octets and have the same are equal
 --   fields ws ns    the numbers ns one behind another, the first in as many octets as the first of ws says, and so on
@@ -18,11 +18,13 @@
 --   part-snoc       a part with one octet more
 --   first-octet     .. of one octet
 --   octets-next     .. where the part is a number in k octets
+--   part-high       a part of octets is the number that it is worth
+--   worth-same      .. so that two of one length and worth are equal
 --
 -- Assumes nothing.
 use mathlib.Core.Path.{_≡_, refl, sym, ap, ap₂, _∙_}
 use mathlib.Core.List.{List, [], _∷_, _++_, append-assoc}
-use Prim.Native.Nat.{ℕ, zero, suc, _+_, _*_, _/_, _%_, _^_, _<_}
+use Prim.Native.Nat.{ℕ, zero, suc, _+_, _*_, _/_, _%_, _^_, _≤_, _<_}
 use native.Mathlib.Nat.{pow-suc, div-lt-iff-lt-mul}
 use native.Mathlib.Omega.{arith}
 use lib.ListN.{length, getD, take, drop, length-append, length-drop}
@@ -81,6 +83,19 @@ pub octets-next : (k at n : ℕ) (s : List ℕ) → at + k < length s → getD s
     → take (suc k) (drop at s) ≡ high (suc k) (n * 256 + getD s (at + k) 0)
 octets-next k at n s h small e =
     part-snoc k at s h ∙ ap (λ (l : List ℕ). l ++ getD s (at + k) 0 ∷ []) e ∙ sym (high-next k n (getD s (at + k) 0) small)
+
+part-high : (k at : ℕ) (s : List ℕ) → at + k ≤ length s → ((i : ℕ) → getD s i 0 < 256)
+    → take k (drop at s) ≡ high k (worth (take k (drop at s)))
+unfolding high
+part-high zero at s h small = refl
+part-high (suc k) at s h small =
+    let part = take k (drop at s) in
+    octets-next k at (worth part) s (omega arith) (small (at + k)) (part-high k at s (omega arith) small)
+    ∙ ap (high (suc k)) (sym (ap worth (part-snoc k at s (omega arith)) ∙ worth-snoc 0 part (getD s (at + k) 0)))
+
+pub worth-same : (k at : ℕ) (s t : List ℕ) → at + k ≤ length s → at + k ≤ length t → ((i : ℕ) → getD s i 0 < 256) → ((i : ℕ) → getD t i 0 < 256)
+    → worth (take k (drop at s)) ≡ worth (take k (drop at t)) → take k (drop at s) ≡ take k (drop at t)
+worth-same k at s t h j f g e = part-high k at s h f ∙ ap (high k) e ∙ sym (part-high k at t j g)
 
 -- ---- numbers in a row
 

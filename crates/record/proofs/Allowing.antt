@@ -3,6 +3,8 @@
 --
 --   OneOf k l        k is the number of one of the tests l
 --   gives-one        a refusal has the number of one of them
+--   exactly          a call that refuses by tests is refused with a number exactly where its test holds and none before it
+--   held-iff         behind a test that holds there is nothing, as where what cannot be is asked for
 --   given-here       the units that are lent, with their channels
 --   given-only       .. are the only ones
 --   writing-allows   the writer's refusals, where it is known what is lent
@@ -21,25 +23,22 @@ use Rattle.octets.specs.Tests.{never}
 use Rattle.octets.specs.Exact.{chain, less, not-less, either-less}
 use Rattle.octets.specs.Written.{written}
 use Rattle.calls.specs.Refusal.{refused, Ended, Test, _when_, refusal, Refuses}
-use Rattle.calls.proofs.Laws.{given-exactly, checked-refuses}
+use Rattle.calls.proofs.Laws as calls
+use Rattle.calls.proofs.Laws.{checked-refuses}
 use Rattle.record.specs.Recorded.{Recorded, numbersOf, octetsOf, AllInRange, Lent}
 use Rattle.record.specs.Layout.{total}
 use Rattle.record.specs.Trailer.{used, mostChannels, trailerOctets, mostBefore, recordOf}
 use Rattle.record.specs.Form.{offset}
 use Rattle.record.specs.Call.{
-  Taken,
-  IsRecord,
   Listing,
   listed,
   none,
-  unitsIn,
   writeTests,
   writing,
   Writes,
   Opening,
   opened,
   closed,
-  unitsOpened,
   ReadLent,
   readTests,
   reading,
@@ -63,6 +62,13 @@ gives-one k ((j when false) ∷ []) e = never (cc)
 gives-one k ((j when true) ∷ t ∷ l) e = inl (cc)
 gives-one k ((j when false) ∷ t ∷ l) e = inr (gives-one k (t ∷ l) e)
 
+exactly : {A X C : Type 0} {d : Ended A X} {l : List Test} {x : X} → Refuses d l x → (k : ℕ) → calls.isOnce k l ≡ true → calls.Given k l ↔ C
+    → d .answer ≡ refused k ↔ C
+exactly {l = l} r k h q = chain (r .exactly k) (chain (calls.given-exactly k l h) q)
+
+held-iff : {A B : Type 0} → (B → ⊥) → ((true ≡ false) × A) ↔ B
+held-iff f = (λ h. never (cc (h .0)), λ b. absurd (f b))
+
 -- ---- writing
 
 module _ {n o : List ℕ} (us : List Recorded) (l : Lent us n o) where
@@ -83,10 +89,10 @@ writing-allows {n} {o} before (none f) =
     let x = checked-refuses {A = ℕ} before tests 0 before in
     let no : Given n o → ⊥ = λ g. f (g .list) (g .lent) (g .ranges) in
     record {
-      write15 = chain (chain (x .exactly 15) (given-exactly 15 tests refl)) (λ e. f, λ g. refl);
-      write12 = chain (chain (x .exactly 12) (given-exactly 12 tests refl)) (λ h. never (cc (h .0)), λ h. absurd (no (h .0)));
-      write2 = chain (chain (x .exactly 2) (given-exactly 2 tests refl)) (λ h. never (cc (h .0)), λ h. absurd (no (h .0)));
-      write3 = chain (chain (x .exactly 3) (given-exactly 3 tests refl)) (λ h. never (cc (h .0)), λ h. absurd (no (h .0)));
+      write15 = exactly x 15 refl (λ e. f, λ g. refl);
+      write12 = exactly x 12 refl (held-iff (λ h. no (h .0)));
+      write2 = exactly x 2 refl (held-iff (λ h. no (h .0)));
+      write3 = exactly x 3 refl (held-iff (λ h. no (h .0)));
       others = λ k e. gives-one k tests (x .exactly k .0 e);
       leaves = x .leaves;
     }
@@ -101,16 +107,16 @@ writing-allows {n} {o} before (listed us l r) =
     let short = not-less mostBefore (total us) in
     let full = less (length before) (total us + trailerOctets) in
     record {
-      write15 = chain (chain (x .exactly 15) (given-exactly 15 tests refl)) (failed-iff (λ f. f us l r));
-      write12 = chain (chain (x .exactly 12) (given-exactly 12 tests refl)) (
+      write15 = exactly x 15 refl (failed-iff (λ f. f us l r));
+      write12 = exactly x 12 refl (
         λ h. (here, many .0 (h .1)),
         λ h. (refl, many .1 (omega (arith, h .1, only (h .0) .0))),
       );
-      write2 = chain (chain (x .exactly 2) (given-exactly 2 tests refl)) (
+      write2 = exactly x 2 refl (
         λ h. (here, few .0 (h .1 .0), omega (arith, long .0 (h .1 .1), offset-total us)),
         λ h. (refl, (few .1 (omega (arith, h .1, only (h .0) .0)), long .1 (omega (arith, h .2, only (h .0) .1)))),
       );
-      write3 = chain (chain (x .exactly 3) (given-exactly 3 tests refl)) (
+      write3 = exactly x 3 refl (
         λ h. (
           here,
           few .0 (h .1 .0),
@@ -140,9 +146,9 @@ reading-allows {s} lent (closed f) =
     let tests = readTests w lent in
     let x = checked-refuses {A = ℕ} lent tests 0 lent in
     record {
-      read15 = chain (chain (x .exactly 15) (given-exactly 15 tests refl)) (λ e us t h. f us (record { taken = t; octets = h }), λ g. refl);
-      read3 = chain (chain (x .exactly 3) (given-exactly 3 tests refl))
-          (λ h. never (cc (h .0)), λ h. absurd (f (h .0) (record { taken = h .1; octets = h .2 })));
+      read15 = exactly x 15 refl (λ e us t h. f us (record { taken = t; octets = h }), λ g. refl);
+      read3 = exactly x 3 refl
+          (held-iff (λ h. f (h .0) (record { taken = h .1; octets = h .2 })));
       others = λ k e. gives-one k tests (x .exactly k .0 e);
       leaves = x .leaves;
     }
@@ -156,8 +162,8 @@ reading-allows {s} lent (opened us r) =
     = λ vs. (length (lent .numbers) < 4 * length vs) ⊎ (length (lent .octets) < length (octetsOf vs)) in
     let says = either-less (length (lent .numbers)) (4 * length us) (length (lent .octets)) (length (octetsOf us)) in
     record {
-      read15 = chain (chain (x .exactly 15) (given-exactly 15 tests refl)) (failed-iff (λ f. f us (r .taken) (r .octets)));
-      read3 = chain (chain (x .exactly 3) (given-exactly 3 tests refl)) (
+      read15 = exactly x 15 refl (failed-iff (λ f. f us (r .taken) (r .octets)));
+      read3 = exactly x 3 refl (
         λ h. (us, r .taken, r .octets, says .0 (h .1)),
         λ h. (refl, says .1 (subst short (record-once (h .0) us s (record { taken = h .1; octets = h .2 }) r) (h .3))),
       );

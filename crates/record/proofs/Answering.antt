@@ -1,35 +1,31 @@
--- Where writing and reading are answered: no test holds then, so that the list is one that the writer takes and there is room; and there they
--- are answered.
+-- Where writing and reading are answered no test holds, so that the list is one that the writer takes and there is room. What was written then
+-- stands in front, and all behind it is as it was.
 --
 --   answered          a call that is answered is refused by no test, and answers what it does where none holds
 --   neither           neither of two comparisons holds
 --   Over              what stands in a list over the front of which another was written
 --   written-over      .. is this
---   record-size       the octets of a record of units that are taken
---   writing-answers   where the writer answers
---   reading-answers   .. and the reader
 --   write-answers, read-answers   the claims of specs/Claims.antt
 --
 -- Assumes nothing.
 use mathlib.Core.Path.{_≡_, refl, sym, ap, ap₂, _∙_}
 use mathlib.Core.Bool.{Bool, true, false, _||_}
-use mathlib.Core.List.{List, [], _∷_, reverse}
+use mathlib.Core.List.{List, reverse}
 use Prim.Native.Nat.{ℕ, _+_, _*_, _≤_}
 use native.Mathlib.Nat.{zero-add}
 use native.Mathlib.Omega.{arith}
-use borrow.Author.Tests.{le-ltb, ltb-false}
+use borrow.Author.Tests.{ltb-false}
 use lib.Dec.{ltb}
 use lib.ListN.{length, take, drop}
 use Rattle.octets.specs.Tests.{never}
 use Rattle.octets.specs.Written.{written, written-front, written-behind, written-length}
-use Rattle.calls.specs.Refusal.{Ended, leaving, refusing, Test, _when_, checked, None}
+use Rattle.calls.specs.Refusal.{Ended, leaving, refusing, Test, checked, None}
 use Rattle.calls.proofs.Laws.{told-refused, leaving-same, by-tests}
-use Rattle.record.specs.Recorded.{Recorded, numbersOf, octetsOf, AllInRange, Lent}
+use Rattle.record.specs.Recorded.{numbersOf, octetsOf}
 use Rattle.record.specs.Layout.{total}
 use Rattle.record.specs.Trailer.{used, mostChannels, trailerOctets, mostBefore, recordOf}
 use Rattle.record.specs.Call.{
   Taken,
-  IsRecord,
   Listing,
   listed,
   none,
@@ -44,9 +40,8 @@ use Rattle.record.specs.Call.{
 }
 use Rattle.record.specs.Claims.{WriteAnswered, WriteAnswers, ReadAnswered, ReadAnswers}
 use Rattle.record.proofs.Listing.{numbers-length}
-use Rattle.record.proofs.Forming.{record-length}
+use Rattle.record.proofs.Ending.{record-size}
 use Rattle.record.proofs.Channelled.{offset-total}
-use Rattle.record.proofs.Once.{writing-once, reading-once}
 
 -- ---- any call
 
@@ -80,15 +75,6 @@ written-over d s k a e w h =
 
 -- ---- writing
 
-record-size : (us : List Recorded) → Taken us → length (recordOf us) ≡ total us + trailerOctets
-record-size us t = record-length (record { taken = t; octets = refl })
-
-pub writing-answers : (us : List Recorded) {n o : List ℕ} (before : List ℕ) (w : Listing n o) → Lent us n o → Taken us → length (recordOf us) ≤ length before
-    → writing w before ≡ leaving (length (recordOf us)) (written before 0 (recordOf us))
-writing-answers us before w l t h =
-    writing-once before w (listed us l (t .ranges))
-    ∙ rw (le-ltb _ _ (t .channels), le-ltb _ _ (t .before), le-ltb (length before) (total us + trailerOctets) (omega (arith, h, record-size us t)))
-
 pub write-answers : WriteAnswers
 write-answers n o before after m w = by (w .what) (w .ends)
   where
@@ -102,26 +88,18 @@ write-answers n o before after m w = by (w .what) (w .ends)
           before = ltb-false mostBefore (total us) (h .0 .1 .1 .0);
         } in
         let room = ltb-false (length before) (total us + trailerOctets) (h .0 .1 .1 .1 .0) in
-        let over = written-over before (recordOf us) m after (h .1 .0) (h .1 .1) (omega (arith, room, record-size us t)) in
+        let over = written-over before (recordOf us) m after (h .1 .0) (h .1 .1) (omega (arith, room, record-size us (t .channels))) in
         record {
           list = us;
           lent = l;
           taken = t;
-          count = omega (arith, h .1 .0, record-size us t, offset-total us);
+          count = omega (arith, h .1 .0, record-size us (t .channels), offset-total us);
           front = over .front;
           behind = over .behind;
           long = over .long;
         }
 
 -- ---- reading
-
-pub reading-answers : (us : List Recorded) {s : List ℕ} (lent : ReadLent) (w : Opening s) → IsRecord us s → 4 * length us ≤ length (lent .numbers)
-    → length (octetsOf us) ≤ length (lent .octets)
-    → reading w lent ≡ leaving (length us) (record {
-      numbers = written (lent .numbers) 0 (numbersOf us);
-      octets = written (lent .octets) 0 (octetsOf us);
-    })
-reading-answers us lent w r h i = reading-once lent w (opened us r) ∙ rw (le-ltb _ _ h, le-ltb _ _ i)
 
 pub read-answers : ReadAnswers
 read-answers s lent left k q = by (q .what) (q .ends)

@@ -1,4 +1,5 @@
--- The claims on a record's form (specs/Form.antt). Those on its units and its trailer are proved in FormedUnits.antt and FormedTrailer.antt.
+-- The claims on a record's form (specs/Form.antt). Those on its units, its trailer and its octets, and that nothing
+-- else has its form, are proved in FormedUnits.antt, FormedTrailer.antt, FormedOctets.antt and FormedOnly.antt.
 --
 --   ChangedIs b k   k is a changed count that goes with badge b, in the ticket's words
 --   badge-cases     a badge that is not 1 or 3 is 0, 2 or 4
@@ -29,6 +30,8 @@ use Rattle.record.specs.Form.{RangesAre, ListsAre, TakenExactly, EmptyRe
 use Rattle.record.proofs.Channelled.{offset-total, used-channels, channels-only}
 use Rattle.record.proofs.FormedUnits.{units-stand}
 use Rattle.record.proofs.FormedTrailer.{trailers-stand}
+use Rattle.record.proofs.FormedOctets.{record-octets}
+use Rattle.record.proofs.FormedOnly.{form-only}
 
 -- ---- ranges
 
@@ -103,6 +106,8 @@ first-twelve = refl
 
 pub formed : Formed
 formed = record {
+  octets = λ us t. record-octets us (t .ranges);
+  only = form-only;
   units-stand = units-stand;
   trailers-stand = trailers-stand;
   ranges-are = ranges-are;

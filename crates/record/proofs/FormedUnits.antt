@@ -30,7 +30,7 @@ use Rattle.record.proofs.Channelled.{offset-total}
 use Rattle.record.proofs.Fielding.{field-stands}
 use Rattle.record.proofs.Telling.{last-none, last-offset}
 
-total-append : (us vs : List Recorded) → total (us ++ vs) ≡ total us + total vs
+pub total-append : (us vs : List Recorded) → total (us ++ vs) ≡ total us + total vs
 unfolding total
 total-append [] vs = omega arith
 total-append (u ∷ us) vs = omega (arith, total-append us vs)
@@ -87,7 +87,13 @@ unit-stands front rest u back t e =
     (ranges-here front rest u (t .ranges)) (last-small (u .channel) (reverse front) few))
 
 pub units-stand : UnitsStand
-units-stand = record {
-  first = λ front rest u t f. unit-stands front rest u 4294967295 t (last-none (u .channel) front f);
-  later = λ a b rest v u t e f. unit-stands (a ++ v ∷ b) rest u (offset a) t (last-offset (u .channel) a b v e f);
+units-stand us t = record {
+  first = λ front rest u e f. here front rest u 4294967295 e (last-none (u .channel) front f);
+  later = λ a b rest v u e on f. here (a ++ v ∷ b) rest u (offset a) e (last-offset (u .channel) a b v on f);
 }
+  where
+    here : (front rest : List Recorded) (u : Recorded) (back : ℕ) → us ≡ front ++ u ∷ rest → last (u .channel) (reverse front) ≡ back
+        → UnitStands (recordOf us) (offset front) back u
+    here front rest u back e b =
+        subst (λ (l : List Recorded). UnitStands (recordOf l) (offset front) back u) (sym e)
+        (unit-stands front rest u back (subst Taken e t) b)

@@ -1,6 +1,7 @@
 -- What the crates above take from the record's proofs, and nothing else: the claims, how refusals are given, and how large an answer is.
 --
 --   recording         the claims of specs/Claims.antt and specs/Form.antt
+--   writes-once, reads-once   .. among them that any two answers are equal
 --   writes-refuses    the writer's refusals are those of its tests
 --   reads-refuses     .. and the reader's
 --   units-few         units in range take eleven octets each at least
@@ -23,7 +24,7 @@ use Rattle.record.proofs.Allowing.{of-writer, of-reader}
 use Rattle.record.proofs.Answering.{write-answers, read-answers}
 use Rattle.record.proofs.Channelled.{offset-total}
 use Rattle.record.proofs.Formed.{formed}
-use Rattle.record.proofs.Once.{writes-once, reads-once}
+pub use Rattle.record.proofs.Once.{writes-once, reads-once}
 use Rattle.record.proofs.Theorems.{readBack, writtenBack, acceptsExactly}
 
 pub recording : Recording

@@ -21,6 +21,8 @@ pub mod Fielding
 pub mod Telling
 pub mod FormedUnits
 pub mod FormedTrailer
+pub mod FormedOctets
+pub mod FormedOnly
 pub mod Formed
 pub mod Once
 pub mod Answering

@@ -27,13 +27,13 @@ record-once us vs s r q =
     let at : k + trailerOctets ≡ length s = omega (arith, record-length r) in
     sym (backed-units [] us) ∙ ap unitsOf (record-list q k at (backed [] us) (record-fits r k at)) ∙ backed-units [] vs
 
-pub writing-once : {n o : List ℕ} (before : List ℕ) (w v : Listing n o) → writing w before ≡ writing v before
+writing-once : {n o : List ℕ} (before : List ℕ) (w v : Listing n o) → writing w before ≡ writing v before
 writing-once {n} {o} before (listed us l r) (listed vs m q) = rw (lent-same us vs n o l m)
 writing-once before (listed us l r) (none f) = absurd (f us l r)
 writing-once before (none f) (listed us l r) = absurd (f us l r)
 writing-once before (none f) (none g) = refl
 
-pub reading-once : {s : List ℕ} (lent : ReadLent) (w v : Opening s) → reading w lent ≡ reading v lent
+reading-once : {s : List ℕ} (lent : ReadLent) (w v : Opening s) → reading w lent ≡ reading v lent
 reading-once {s} lent (opened us r) (opened vs q) = rw (record-once us vs s r q)
 reading-once lent (opened us r) (closed f) = absurd (f us r)
 reading-once lent (closed f) (opened us r) = absurd (f us r)

@@ -1,22 +1,25 @@
 -- A stored unit where it stands: what its header is read as, where its octets are, and what comes behind it.
 --
 --   HeadIs h q       the header h has the numbers of the stored unit q
---   Small h          a header's numbers are in the ranges of their types
+--   headNumbers h    a header's numbers
 --   head-is          what is read where q stands is q's header
 --   octets-here      q's octets stand behind it
 --   behind-here      .. and the next unit behind them
+--   end-here         .. and all of that is as long as the rest of the octets
+--   storedAt b at h  the stored unit with header h at `at`
+--   stored-octets    .. it has as many octets as its header says
 --   stands           a header that is there, with its octets behind it, is a stored unit
 --
 -- Assumes nothing.
-use mathlib.Core.Path.{_≡_, refl, sym, ap, ap₂, _∙_}
+use mathlib.Core.Path.{_≡_, refl, sym, ap, _∙_}
 use mathlib.Core.List.{List, [], _∷_, _++_, append-assoc}
 use Prim.Native.Nat.{ℕ, _+_, _≤_, _<_}
 use native.Mathlib.Omega.{arith}
-use lib.ListN.{length, getD, take, drop, length-drop, length-append, take-append-drop}
+use lib.ListN.{length, getD, take, drop, length-drop, length-append}
 use lib.Seq.{take-add, drop-drop, take-at, drop-at, length-take-le}
 use Rattle.octets.specs.High.{fields, Fit, fields-length, fields-same}
-use Rattle.record.specs.Recorded.{Recorded, InRange}
-use Rattle.record.specs.Layout.{headerWidths, headerOctets, header, size, Stored, storedOctets, laid}
+use Rattle.record.specs.Recorded.{InRange}
+use Rattle.record.specs.Layout.{headerWidths, headerOctets, size, Stored, storedOctets}
 use Rattle.record.proofs.Laying.{fiveNumbers, stored-fit, stored-length}
 use Rattle.record.specs.declared.unit.Header.{Header}
 
@@ -50,7 +53,8 @@ module _ (b : List ℕ) (at : ℕ) (q : Stored) (x : List ℕ) (here : drop at b
       ∙ take-at (q .unit .octets) x (length (q .unit .octets)) refl
 
   pub behind-here : drop (at + size (q .unit)) b ≡ x
-  behind-here = sym (drop-drop (size (q .unit)) at b) ∙ ap (drop (size (q .unit))) here ∙ drop-at (storedOctets q) x (size (q .unit)) (stored-length q)
+  behind-here =
+      sym (drop-drop (size (q .unit)) at b) ∙ ap (drop (size (q .unit))) here ∙ drop-at (storedOctets q) x (size (q .unit)) (stored-length q)
 
   pub end-here : at ≤ length b → at + size (q .unit) + length x ≡ length b
   end-here h = omega (arith, length-drop at b, ap length here, length-append (storedOctets q) x, stored-length q)
@@ -69,7 +73,8 @@ module _ (b : List ℕ) (at : ℕ) (h : Header) (fits : at + headerOctets + h .l
       → take (at + headerOctets + h .length) b ≡ take at b ++ storedOctets (storedAt b at h)
   stands e =
       take-add (at + headerOctets) (h .length) b
-      ∙ ap (λ (l : List ℕ). l ++ take (h .length) (drop (at + headerOctets) b)) (take-add at headerOctets b ∙ ap (λ (l : List ℕ). take at b ++ l) (e ∙ named))
+      ∙ ap (λ (l : List ℕ). l ++ take (h .length) (drop (at + headerOctets) b))
+      (take-add at headerOctets b ∙ ap (λ (l : List ℕ). take at b ++ l) (e ∙ named))
       ∙ append-assoc (take at b) (fields headerWidths (fiveNumbers (storedAt b at h))) (take (h .length) (drop (at + headerOctets) b))
     where
       named : fields headerWidths (headNumbers h) ≡ fields headerWidths (fiveNumbers (storedAt b at h))

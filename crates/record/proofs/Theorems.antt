@@ -7,22 +7,24 @@
 --   readBack, writtenBack, acceptsExactly   the claims
 --
 -- Assumes nothing.
-use mathlib.Core.Path.{_≡_, refl, sym, ap, ap₂, subst, _∙_}
+use mathlib.Core.Path.{_≡_, refl, sym, ap, ap₂, _∙_}
 use mathlib.Core.List.{List, [], _∷_, _++_}
 use Prim.Native.Nat.{ℕ, zero, suc, _+_, _-_, _*_}
 use native.Mathlib.Omega.{arith}
-use lib.ListN.{length, getD, take}
+use lib.ListN.{length, take}
 use Rattle.octets.specs.Written.{written, written-front}
 use Rattle.calls.specs.Refusal.{refused, Ended, leaving}
 use Rattle.record.specs.Recorded.{Recorded, AllInRange, Octets, flat, numbersOf, octetsOf, Lent}
 use Rattle.record.specs.Layout.{total}
-use Rattle.record.specs.Trailer.{recordOf}
-use Rattle.record.specs.Call.{IsRecord, listed, Opening, opened, closed, ReadLent, reading}
+use Rattle.record.specs.Trailer.{trailerOctets, recordOf}
+use Rattle.record.specs.Call.{IsRecord, Opening, opened, closed, ReadLent, reading}
 use Rattle.record.specs.Claims.{Numbers, ReadBack, WrittenBack, WrittenBy, AcceptsExactly}
 use Rattle.record.proofs.Listing.{numbers-length, octets-length}
 use Rattle.record.proofs.Laying.{changed-small}
 use Rattle.record.proofs.Forming.{record-length}
-use Rattle.record.proofs.Answering.{writing-answers, write-answers, reading-answers, read-answers}
+use Rattle.record.proofs.Ending.{record-size, writes-told, reads-told}
+use Rattle.record.proofs.Once.{writes-once, reads-once}
+use Rattle.record.proofs.Answering.{write-answers, read-answers}
 use Rattle.record.proofs.Allowing.{of-reader}
 
 -- ---- what is lent for units in range
@@ -49,18 +51,20 @@ octets-small (u ∷ us) r = octets-append (u .octets) (octetsOf us) (r .0 .octet
 -- over the record itself, which has the room
 record-written : (us : List Recorded) (s : List ℕ) → IsRecord us s → WrittenBy s
 record-written us s r =
+    let t = r .taken in
+    let size = record-size us (t .channels) in
     let lent : Lent us (numbersOf us) (octetsOf us) = record { numbers = refl; octets = refl } in
-    let list = listed us lent (r .taken .ranges) in
+    let body = recordOf us in
     record {
       numbers = numbersOf us;
       octets = octetsOf us;
-      before = recordOf us;
-      after = written (recordOf us) 0 (recordOf us);
-      count = length (recordOf us);
-      numbers-are = numbers-small us (r .taken .ranges);
-      octets-are = octets-small us (r .taken .ranges);
-      writes = record { what = list; ends = sym (writing-answers us (recordOf us) list lent (r .taken) (omega arith)) };
-      record-is = written-front (recordOf us) (recordOf us) (omega arith) ∙ sym (r .octets);
+      before = body;
+      after = written body 0 body;
+      count = total us + trailerOctets;
+      numbers-are = numbers-small us (t .ranges);
+      octets-are = octets-small us (t .ranges);
+      writes = writes-told (numbersOf us) (octetsOf us) body us lent (t .ranges) (t .channels) (t .before) (omega (arith, size));
+      record-is = ap (λ (k : ℕ). take k (written body 0 body)) (sym size) ∙ written-front body body (omega arith) ∙ sym (r .octets);
     }
 
 -- ---- the claims
@@ -69,26 +73,31 @@ pub readBack : ReadBack
 readBack n o before after m lent d w h i q =
     let a = write-answers n o before after m w in
     let us = a .list in
-    let count : length n ≡ 4 * length us = ap length (a .lent .numbers) ∙ numbers-length us in (
+    let count : length n ≡ 4 * length us = ap length (a .lent .numbers) ∙ numbers-length us in
+    let is : IsRecord us (take m after) = record { taken = a .taken; octets = a .front } in
+    let left : List ℕ → List ℕ → Ended ℕ ReadLent
+    = λ x y. leaving (length us) (record { numbers = written (lent .numbers) 0 x; octets = written (lent .octets) 0 y }) in (
       length us,
       count,
-      q .ends
-          ∙ reading-answers us lent (q .what) (record { taken = a .taken; octets = a .front }) (omega (arith, h, count))
-          (omega (arith, i, ap length (a .lent .octets)))
-          ∙ ap₂ (λ (x y : List ℕ). leaving (length us) (record { numbers = written (lent .numbers) 0 x; octets = written (lent .octets) 0 y }))
-          (sym (a .lent .numbers)) (sym (a .lent .octets)),
+      reads-once (take m after) lent d (left (numbersOf us) (octetsOf us)) q
+          (reads-told (take m after) lent us is (omega (arith, h, count)) (omega (arith, i, ap length (a .lent .octets))))
+          ∙ ap₂ left (sym (a .lent .numbers)) (sym (a .lent .octets)),
     )
 
 pub writtenBack : WrittenBack
 writtenBack s before lent left k d q h w =
     let a = read-answers s lent left k q in
     let us = a .list in
-    let own : length s - 236 - 10 * k ≡ length (octetsOf us) = omega (arith, record-length (a .is), octets-length us, a .count) in
-    w .ends
-    ∙ writing-answers us before (w .what)
-    (record { numbers = a .numbers-front; octets = ap (λ (j : ℕ). take j (left .octets)) own ∙ a .octets-front }) (a .is .taken)
-    (omega (arith, h, ap length (a .is .octets)))
-    ∙ ap (λ (l : List ℕ). leaving (length l) (written before 0 l)) (sym (a .is .octets))
+    let t = a .is .taken in
+    let long = record-length (a .is) in
+    let own : length s - 236 - 10 * k ≡ length (octetsOf us) = omega (arith, long, octets-length us, a .count) in
+    let n = take (4 * k) (left .numbers) in
+    let o = take (length s - 236 - 10 * k) (left .octets) in
+    let back : Lent us n o = record { numbers = a .numbers-front; octets = ap (λ (j : ℕ). take j (left .octets)) own ∙ a .octets-front } in
+    let end : ℕ → List ℕ → Ended ℕ (List ℕ) = λ m l. leaving m (written before 0 l) in
+    writes-once n o before d (end (total us + trailerOctets) (recordOf us)) w
+    (writes-told n o before us back (t .ranges) (t .channels) (t .before) (omega (arith, h, long)))
+    ∙ ap₂ end (sym long) (sym (a .is .octets))
 
 pub acceptsExactly : AcceptsExactly
 acceptsExactly s lent d q = (by (q .what) (q .ends), back)

@@ -10,7 +10,8 @@
 --   Rising cs            the numbers cs ascend
 --   Channels us cs       cs are the channels of the units us, each once, ascending
 --   UnitStands           a unit stands at an offset of s, with a back offset
---   UnitsStand           each unit of a record does, with the offset of its channel's previous unit or FFFFFFFF
+--   EachStands s us      each of the units us does in s, with the offset of its channel's previous unit or FFFFFFFF
+--   UnitsStand           .. in their record
 --   PlaceStands          a channel's place of the trailer stands at an offset of s
 --   unusedPlace          the octets of a place that is not used
 --   TrailerStands        the trailer stands behind the units
@@ -20,6 +21,7 @@
 --   TakenExactly         which lists the writer takes
 --   EmptyRecord          the record of no units
 --   FirstTwelve          the first twelve octets of the ticket's example
+--   FormOnly             octets in which units and trailer stand so are the record
 --   Formed               all of it
 --
 -- Assumes nothing.
@@ -31,7 +33,7 @@ use Prim.Native.Nat.{ℕ, _+_, _*_, _≤_, _<_}
 use lib.Dec.{eqb}
 use lib.ListN.{length, getD, take, drop, replicate}
 use Rattle.octets.specs.High.{worth}
-use Rattle.record.specs.Recorded.{Recorded, Ranges, AllInRange, flat, numbersOf, octetsOf}
+use Rattle.record.specs.Recorded.{Recorded, Octets, Ranges, AllInRange, flat, numbersOf, octetsOf}
 use Rattle.record.specs.Trailer.{recordOf}
 use Rattle.record.specs.Call.{Taken}
 
@@ -78,12 +80,15 @@ pub record UnitStands (s : List ℕ) (at back : ℕ) (u : Recorded) : Type 0 whe
   pub back-stands : numberAt 4 s (at + 6) ≡ back
   pub octets-stand : take (length (u .octets)) (drop (at + 10) s) ≡ u .octets
 
-pub record UnitsStand : Type 0 where
-  pub first : (front rest : List Recorded) (u : Recorded) → Taken (front ++ u ∷ rest) → NoneOn (u .channel) front
-      → UnitStands (recordOf (front ++ u ∷ rest)) (offset front) 4294967295 u
-  pub later : (a b rest : List Recorded) (v u : Recorded) → let front = a ++ v ∷ b in
-      Taken (front ++ u ∷ rest) → v .channel ≡ u .channel → NoneOn (u .channel) b
-      → UnitStands (recordOf (front ++ u ∷ rest)) (offset front) (offset a) u
+-- every unit of us stands in s, with the offset of its channel's previous unit
+pub record EachStands (s : List ℕ) (us : List Recorded) : Type 0 where
+  pub first : (front rest : List Recorded) (u : Recorded) → us ≡ front ++ u ∷ rest → NoneOn (u .channel) front
+      → UnitStands s (offset front) 4294967295 u
+  pub later : (a b rest : List Recorded) (v u : Recorded) → us ≡ (a ++ v ∷ b) ++ u ∷ rest → v .channel ≡ u .channel → NoneOn (u .channel) b
+      → UnitStands s (offset (a ++ v ∷ b)) (offset a) u
+
+abbrev pub UnitsStand : Type 0
+UnitsStand = (us : List Recorded) → Taken us → EachStands (recordOf us) us
 
 -- ---- "The trailer is 236 octets: 16 places of channel (2), offset of its last unit (4), units (4), units with badge 2 or 3 (4), used places
 -- first and ascending, unused ones 0000 FFFFFFFF and zeros; then total units (4), octets before the trailer (4), and 48 32 32 33."
@@ -142,7 +147,15 @@ FirstTwelve =
     take 12 (recordOf (record { channel = 5; badge = 0; changed = 0; octets = 16 ∷ 128 ∷ [] } ∷ []))
     ≡ 0 ∷ 5 ∷ 0 ∷ 0 ∷ 0 ∷ 2 ∷ 255 ∷ 255 ∷ 255 ∷ 255 ∷ 16 ∷ 128 ∷ []
 
+-- ---- and nothing else has this form
+
+abbrev pub FormOnly : Type 0
+FormOnly =
+    (us : List Recorded) (s : List ℕ) → Taken us → Octets s → EachStands s us → TrailerStands s (offset us) us → s ≡ recordOf us
+
 pub record Formed : Type 0 where
+  pub octets : (us : List Recorded) → Taken us → Octets (recordOf us)
+  pub only : FormOnly
   pub units-stand : UnitsStand
   pub trailers-stand : TrailersStand
   pub ranges-are : RangesAre
