@@ -31,7 +31,7 @@ fn digit(c: u8) -> u8
 }
 
 // The octet of two digits, or 256.
-fn octet(high: u8, low: u8) -> u16
+pub fn octet(high: u8, low: u8) -> u16
     ensures { λ r. ⌜ r ≡ cond (isPair high low) (hexDigit high * 16 + hexDigit low) 256 ⌝ }
 {
     let a = digit(high);

@@ -19,7 +19,7 @@ pub enum Number {
 }
 
 // The value of a digit, or 10.
-fn digit(c: u8) -> u8
+pub fn digit(c: u8) -> u8
     ensures { λ r. ⌜ r ≡ cond (isDigit c) (c - 48) 10 ⌝ }
 {
     match c {
@@ -29,7 +29,7 @@ fn digit(c: u8) -> u8
 }
 
 // A number with one more digit; one past 4,294,967,295 is given as 4,294,967,296.
-fn append(value: u64, last: u8) -> u64
+pub fn append(value: u64, last: u8) -> u64
     ensures { λ r. ⌜ r ≡ capped (value * 10 + last) ⌝ }
 {
     if 429496729 < value {

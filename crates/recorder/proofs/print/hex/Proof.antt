@@ -1,0 +1,19 @@
+-- `recorder::print::hex` is safe and ends: the octets that are left shrink. Assumes nothing.
+use borrow.Author.Needs.{needs}
+use Prim.Native.Nat.{_≤_, _-_}
+use lib.ListN.{length}
+use Rattle.recorder.proofs.print.hex.Statement.{statement}
+use Rattle.recorder.proofs.print.hex.Tie as tie
+
+abbrev Inv-loop : tie.InvT-loop
+Inv-loop out₀ from octets n₀ i₀ out n i = i ≤ length octets
+
+abbrev μ-loop : tie.MeasureT-loop
+μ-loop out₀ from octets n₀ i₀ out n i = length octets - i
+
+pub hex-spec : {M : Type 1} → statement M
+hex-spec =
+    tie.close
+    (tie.spec Inv-loop μ-loop (λ c. search needs) (λ c. search needs) (λ c κs. search needs) (λ c κs. search needs)
+    (λ c κs. search needs) (λ c κs. search needs) (λ c. search needs) (λ c. search needs) (λ c. search needs)
+    (λ c. search needs))

@@ -1,0 +1,69 @@
+// What is printed, put together in a buffer. A full buffer is written out and filled anew, so that an answer may have any length.
+use libc::STDOUT_FILENO;
+
+// The octets of the buffer; no answer's length depends on it.
+pub const BUFFER: usize = 65536;
+
+// Writes the first n octets of the buffer; says so where they cannot be written.
+pub fn end(out: &[u8; BUFFER], n: usize) {
+    if !io::write_all(STDOUT_FILENO, octets::front(out, n)) {
+        os::fail(b"standard output");
+    }
+}
+
+// Puts one octet at place n, or at the front where the buffer is full, once what stood there is written; gives the place behind it.
+fn store(out: &mut [u8; BUFFER], n: usize, octet: u8) -> usize {
+    if n < BUFFER {
+        out[n] = octet;
+        return n + 1;
+    }
+    end(out, n);
+    out[0] = octet;
+    1
+}
+
+// Puts text from place `from` on.
+pub fn put(out: &mut [u8; BUFFER], from: usize, text: &[u8]) -> usize {
+    let mut n = from;
+    let mut i = 0;
+    while i < text.len() {
+        n = store(out, n, text[i]);
+        i += 1;
+    }
+    n
+}
+
+// Puts a number in decimal, at the right of a column if it is narrower.
+pub fn cell(out: &mut [u8; BUFFER], from: usize, n: u64, width: usize) -> usize {
+    let mut digits = [0u8; 20];
+    let k = io::decimal(n, &mut digits);
+    let mut at = from;
+    if k < width {
+        at = put(out, at, octets::front(b"                    ", width - k));
+    }
+    put(out, at, &digits[..k])
+}
+
+// The hex digit of a number below 16.
+fn digit(n: u8) -> u8 {
+    if n < 10 {
+        return b'0' + n;
+    }
+    if n < 16 {
+        return 55 + n;
+    }
+    b'?'
+}
+
+// Puts octets in hex.
+pub fn hex(out: &mut [u8; BUFFER], from: usize, octets: &[u8]) -> usize {
+    let mut n = from;
+    let mut i = 0;
+    while i < octets.len() {
+        let x = octets[i];
+        n = store(out, n, digit(x / 16));
+        n = store(out, n, digit(x % 16));
+        i += 1;
+    }
+    n
+}
