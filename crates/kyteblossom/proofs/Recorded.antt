@@ -1,6 +1,7 @@
 -- The claims on records (specs/Claims.antt), by what is claimed of writing and reading them.
 --
---   write-positive, read-positive      no refusal has the number 0
+--   one-of-four, one-of-two            none of their numbers is 0
+--   write-positive, read-positive      .. so that no refusal has the number 0
 --   recordWriteAnswered, recordReadAnswered   the claims
 --   record-write-once, record-read-once       any two answers that a promise allows are equal, and so is what they leave
 --

@@ -30,7 +30,7 @@ use Rattle.adaptation.specs.Sending.{encodeTests, Sends}
 use Rattle.adaptation.specs.Receiving.{receiveTests, handedUnit, Receives}
 use Rattle.adaptation.specs.declared.al1m.Judgement.{Judgement}
 use Rattle.adaptation.specs.declared.al1m.Received.the-variants as al1m
-use Rattle.record.specs.Call.{Listing, writeTests, Writes, Opening, readTests, Reads}
+use Rattle.record.specs.Call.{Listing, writeTests, Writes, Contents, readTests, Reads}
 use Rattle.kyteblossom.specs.Answer.{answer, packed, EncodeIs, ReceiveIs, lentTo, RecordWriteIs, RecordReadIs}
 use Rattle.kyteblossom.specs.Header.{isBelow, toldRefusal, toldBadge, toldChanged, toldLength, toldUnit, isChecked}
 
@@ -81,7 +81,7 @@ RecordWriteAnswered =
 abbrev pub RecordReadAnswered : Type 0
 RecordReadAnswered =
     (s n o m p : List ℕ) (r : ℤ) → RecordReadIs s n o r m p
-    → (w : Opening s) × Answered r (readTests w (lentTo n o)) (lentTo n o) (lentTo m p)
+    → (w : Contents s) × Answered r (readTests w (lentTo n o)) (lentTo n o) (lentTo m p)
     × (isBelow r ≡ false → (k : ℕ) × (r ≡ pos k) × (k ≤ 95325) × Reads s (lentTo n o) (leaving k (lentTo m p)))
 
 abbrev pub CheckedExactly : Type 0

@@ -36,9 +36,9 @@ use Rattle.record.specs.Call.{
   writeTests,
   writing,
   Writes,
-  Opening,
-  opened,
-  closed,
+  Contents,
+  kept,
+  broken,
   ReadLent,
   readTests,
   reading,
@@ -140,9 +140,9 @@ of-writer n o before d w = subst (OfWriter n o before) (sym (w .ends)) (writing-
 
 -- ---- reading
 
-reading-allows : {s : List ℕ} (lent : ReadLent) (w : Opening s) → OfReader s lent (reading w lent)
-reading-allows {s} lent (closed f) =
-    let w : Opening s = closed f in
+reading-allows : {s : List ℕ} (lent : ReadLent) (w : Contents s) → OfReader s lent (reading w lent)
+reading-allows {s} lent (broken f) =
+    let w : Contents s = broken f in
     let tests = readTests w lent in
     let x = checked-refuses {A = ℕ} lent tests 0 lent in
     record {
@@ -152,8 +152,8 @@ reading-allows {s} lent (closed f) =
       others = λ k e. gives-one k tests (x .exactly k .0 e);
       leaves = x .leaves;
     }
-reading-allows {s} lent (opened us r) =
-    let tests = readTests (opened us r) lent in
+reading-allows {s} lent (kept us r) =
+    let tests = readTests (kept us r) lent in
     let x = checked-refuses lent tests (length us) (record {
       numbers = written (lent .numbers) 0 (numbersOf us);
       octets = written (lent .octets) 0 (octetsOf us);

@@ -31,9 +31,9 @@ use Rattle.record.specs.Call.{
   none,
   writeTests,
   writing,
-  Opening,
-  opened,
-  closed,
+  Contents,
+  kept,
+  broken,
   ReadLent,
   readTests,
   reading,
@@ -104,11 +104,11 @@ write-answers n o before after m w = by (w .what) (w .ends)
 pub read-answers : ReadAnswers
 read-answers s lent left k q = by (q .what) (q .ends)
   where
-    by : (v : Opening s) → leaving k left ≡ reading v lent → ReadAnswered s lent left k
-    by (closed f) e = told-refused {A = ℕ} refl (ap (λ (d : Ended ℕ ReadLent). d .answer) e)
-    by (opened us r) e =
+    by : (v : Contents s) → leaving k left ≡ reading v lent → ReadAnswered s lent left k
+    by (broken f) e = told-refused {A = ℕ} refl (ap (λ (d : Ended ℕ ReadLent). d .answer) e)
+    by (kept us r) e =
         let made : ReadLent = record { numbers = written (lent .numbers) 0 (numbersOf us); octets = written (lent .octets) 0 (octetsOf us) } in
-        let h = answered lent (readTests (opened us r) lent) k (length us) left made e in
+        let h = answered lent (readTests (kept us r) lent) k (length us) left made e in
         let room = neither (length (lent .numbers)) (4 * length us) (length (lent .octets)) (length (octetsOf us)) (h .0 .1 .0) in
         let numbers = written-over (lent .numbers) (numbersOf us) (4 * k) (left .numbers) (omega (arith, h .1 .0, numbers-length us))
         (ap (λ (x : ReadLent). x .numbers) (h .1 .1)) (omega (arith, room .0, numbers-length us)) in

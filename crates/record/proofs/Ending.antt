@@ -23,7 +23,7 @@ use Rattle.calls.specs.Refusal.{leaving, refusing}
 use Rattle.record.specs.Recorded.{Recorded, AllInRange, numbersOf, octetsOf, Lent}
 use Rattle.record.specs.Layout.{headerOctets, total, Stored, backed, bodyOf}
 use Rattle.record.specs.Trailer.{used, mostChannels, trailerOf, trailerOctets, mostBefore, recordOf}
-use Rattle.record.specs.Call.{IsRecord, listed, none, Writes, opened, closed, ReadLent, Reads}
+use Rattle.record.specs.Call.{IsRecord, listed, none, Writes, kept, broken, ReadLent, Reads}
 use Rattle.record.specs.Walk.{unitsOf, Deliverable, Delivered}
 use Rattle.record.proofs.Backing.{backed-units, body-length}
 use Rattle.record.proofs.Forming.{record-length, record-fits, record-list}
@@ -75,7 +75,7 @@ module _ (n o before : List ℕ) (us : List Recorded) (l : Lent us n o) (r : All
 -- ---- reading
 
 pub reads-none : (s : List ℕ) (lent : ReadLent) → ((us : List Recorded) → IsRecord us s → ⊥) → Reads s lent (refusing lent 15)
-reads-none s lent f = record { what = closed f; ends = refl }
+reads-none s lent f = record { what = broken f; ends = refl }
 
 pub record-octets : (us : List Recorded) (s : List ℕ) → IsRecord us s
     → length s ≡ headerOctets * length us + length (octetsOf us) + trailerOctets
@@ -83,7 +83,7 @@ record-octets us s r = record-length r ∙ ap (λ (k : ℕ). k + trailerOctets) 
 
 module _ (s : List ℕ) (lent : ReadLent) (us : List Recorded) (r : IsRecord us s) where
   pub reads-room : (length (lent .numbers) < 4 * length us) ⊎ (length (lent .octets) < length (octetsOf us)) → Reads s lent (refusing lent 3)
-  reads-room room = record { what = opened us r; ends = rw (short room) refl }
+  reads-room room = record { what = kept us r; ends = rw (short room) refl }
     where
       short : (length (lent .numbers) < 4 * length us) ⊎ (length (lent .octets) < length (octetsOf us))
           → (ltb (length (lent .numbers)) (4 * length us) || ltb (length (lent .octets)) (length (octetsOf us))) ≡ true
@@ -96,7 +96,7 @@ module _ (s : List ℕ) (lent : ReadLent) (us : List Recorded) (r : IsRecord us 
         octets = written (lent .octets) 0 (octetsOf us);
       }))
   reads-told a b = record {
-    what = opened us r;
+    what = kept us r;
     ends = rw (le-ltb (length (lent .numbers)) (4 * length us) a, le-ltb (length (lent .octets)) (length (octetsOf us)) b) refl;
   }
 

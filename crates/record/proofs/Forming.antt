@@ -1,14 +1,16 @@
 -- Octets that are a record: its trailer has 236 octets, so that what stands before it is known, and that can be read in one way only.
 --
 --   total-turned        units take as many octets whichever comes first
+--   end-length          a trailer has 236 octets
 --   record-length       a record has the octets of its units and 236 more
 --   record-body         what stands before those is its units' octets
 --   record-end          .. and those are the trailer
 --   record-fits         so that its units, with their back offsets, are stored units that stand there
 --   record-list         .. the only ones
---   record-made         stored units with right back offsets and the trailer of their units are a record
+--   record-right        .. and those that do have the back offsets that they ought to have
 --   units-ranges        the units of stored units in range are in range
 --   Whole               what is known of octets before any trailer is compared
+--   us, taken           its units, and the octets that they take
 --   whole-end           the trailer that would be written
 --   whole-record        where it is there, there is a record
 --   whole-none          where it is not, there is none

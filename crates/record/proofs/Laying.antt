@@ -4,14 +4,16 @@
 --   flat-length        .. as many octets as the first's and the second's
 --   stored-length      a stored unit has as many octets as its unit takes
 --   laid-length        .. and stored units as many as theirs
+--   fiveNumbers p      the numbers in a stored unit's header
+--   changed-small      a changed count is at most 127
 --   stored-fit         the numbers of a stored unit in range fit in its header
+--   stored-parts       stored units with the same numbers and octets are equal
 --   stored-same        two stored units that begin alike are equal, and so is what is behind them
 --   stored-none        octets that begin with a stored unit are some
 --   laid-front         what begins with stored units has them first
 --   laid-same          two lists of stored units with the same octets are equal
 --   ranges-append      stored units in range behind others
---   units-append       the units of one list behind another
---   units-reverse      .. and of a list turned round
+--   laid-none          no octets are no stored units
 --
 -- Assumes nothing.
 use mathlib.Core.Path.{_≡_, refl, sym, ap, ap₂, subst, _∙_}

@@ -14,7 +14,7 @@ use lib.ListN.{length}
 use Rattle.record.specs.Recorded.{Recorded}
 use Rattle.record.specs.Layout.{backed}
 use Rattle.record.specs.Trailer.{trailerOctets}
-use Rattle.record.specs.Call.{IsRecord, Listing, listed, none, writing, Opening, opened, closed, ReadLent, reading}
+use Rattle.record.specs.Call.{IsRecord, Listing, listed, none, writing, Contents, kept, broken, ReadLent, reading}
 use Rattle.record.specs.Walk.{unitsOf}
 use Rattle.record.specs.Claims.{WritesOnce, ReadsOnce}
 use Rattle.record.proofs.Listing.{lent-same}
@@ -33,11 +33,11 @@ writing-once before (listed us l r) (none f) = absurd (f us l r)
 writing-once before (none f) (listed us l r) = absurd (f us l r)
 writing-once before (none f) (none g) = refl
 
-reading-once : {s : List ℕ} (lent : ReadLent) (w v : Opening s) → reading w lent ≡ reading v lent
-reading-once {s} lent (opened us r) (opened vs q) = rw (record-once us vs s r q)
-reading-once lent (opened us r) (closed f) = absurd (f us r)
-reading-once lent (closed f) (opened us r) = absurd (f us r)
-reading-once lent (closed f) (closed g) = refl
+reading-once : {s : List ℕ} (lent : ReadLent) (w v : Contents s) → reading w lent ≡ reading v lent
+reading-once {s} lent (kept us r) (kept vs q) = rw (record-once us vs s r q)
+reading-once lent (kept us r) (broken f) = absurd (f us r)
+reading-once lent (broken f) (kept us r) = absurd (f us r)
+reading-once lent (broken f) (broken g) = refl
 
 pub writes-once : WritesOnce
 writes-once n o before d e p q = p .ends ∙ writing-once before (p .what) (q .what) ∙ sym (q .ends)

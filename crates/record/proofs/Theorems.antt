@@ -17,7 +17,7 @@ use Rattle.calls.specs.Refusal.{refused, Ended, leaving}
 use Rattle.record.specs.Recorded.{Recorded, AllInRange, Octets, flat, numbersOf, octetsOf, Lent}
 use Rattle.record.specs.Layout.{total}
 use Rattle.record.specs.Trailer.{trailerOctets, recordOf}
-use Rattle.record.specs.Call.{IsRecord, Opening, opened, closed, ReadLent, reading}
+use Rattle.record.specs.Call.{IsRecord, Contents, kept, broken, ReadLent, reading}
 use Rattle.record.specs.Claims.{Numbers, ReadBack, WrittenBack, WrittenBy, AcceptsExactly}
 use Rattle.record.proofs.Listing.{numbers-length, octets-length}
 use Rattle.record.proofs.Laying.{changed-small}
@@ -102,9 +102,9 @@ writtenBack s before lent left k d q h w =
 pub acceptsExactly : AcceptsExactly
 acceptsExactly s lent d q = (by (q .what) (q .ends), back)
   where
-    by : (w : Opening s) → d ≡ reading w lent → (d .answer ≡ refused 15 → ⊥) → WrittenBy s
-    by (closed f) e g = absurd (g (ap (λ (x : Ended ℕ ReadLent). x .answer) e))
-    by (opened us r) e g = record-written us s r
+    by : (w : Contents s) → d ≡ reading w lent → (d .answer ≡ refused 15 → ⊥) → WrittenBy s
+    by (broken f) e g = absurd (g (ap (λ (x : Ended ℕ ReadLent). x .answer) e))
+    by (kept us r) e g = record-written us s r
 
     back : WrittenBy s → d .answer ≡ refused 15 → ⊥
     back w e =

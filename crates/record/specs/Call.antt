@@ -2,10 +2,10 @@
 --
 --   Taken us               the writer takes the units us: each is in range, on at most 16 channels, in at most 1,048,576 octets
 --   IsRecord us s          s is the record of units that the writer takes
---   Listing n o            what the lent numbers n and octets o are: the units of a list, each in range, or of none
---   Opening s              what the octets s are: the record of a list, or of none
---   unitsIn, unitsOpened   the list, and no units where there is none
---   isNone, isSealed       there is none
+--   Listing n o            what the lent numbers n and octets o are: the units of a list, each in range (listed), or of none (none)
+--   Contents s             what the octets s are: the record of a list (kept), or of none (broken)
+--   unitsIn, unitsKept   the list, and no units where there is none
+--   isNone, isBroken       there is none
 --   writeTests w room      the writer's refusals in their order, with room for that many octets
 --   writing w before       how writing ends, and what it leaves of the lent output
 --   Writes n o before d    it ends as d
@@ -70,38 +70,38 @@ pub record Writes (n o before : List ℕ) (d : Ended ℕ (List ℕ)) : Type 0 wh
 
 -- ---- reading
 
-pub data Opening (s : List ℕ) : Type 0 where
-  opened : (us : List Recorded) → IsRecord us s → Opening s
-  closed : ((us : List Recorded) → IsRecord us s → ⊥) → Opening s
+pub data Contents (s : List ℕ) : Type 0 where
+  kept : (us : List Recorded) → IsRecord us s → Contents s
+  broken : ((us : List Recorded) → IsRecord us s → ⊥) → Contents s
 
 pub record ReadLent : Type 0 where
   pub numbers : List ℕ
   pub octets : List ℕ
 
 module _ {s : List ℕ} where
-  abbrev pub unitsOpened : Opening s → List Recorded
-  unitsOpened (opened us r) = us
-  unitsOpened (closed f) = []
+  abbrev pub unitsKept : Contents s → List Recorded
+  unitsKept (kept us r) = us
+  unitsKept (broken f) = []
 
-  abbrev pub isSealed : Opening s → Bool
-  isSealed (opened us r) = false
-  isSealed (closed f) = true
+  abbrev pub isBroken : Contents s → Bool
+  isBroken (kept us r) = false
+  isBroken (broken f) = true
 
-  abbrev pub readTests : Opening s → ReadLent → List Test
+  abbrev pub readTests : Contents s → ReadLent → List Test
   readTests w lent =
-      15 when isSealed w
-      ∷ 3 when (ltb (length (lent .numbers)) (4 * length (unitsOpened w)) || ltb (length (lent .octets)) (length (octetsOf (unitsOpened w)))) ∷ []
+      15 when isBroken w
+      ∷ 3 when (ltb (length (lent .numbers)) (4 * length (unitsKept w)) || ltb (length (lent .octets)) (length (octetsOf (unitsKept w)))) ∷ []
 
-  abbrev pub reading : Opening s → ReadLent → Ended ℕ ReadLent
+  abbrev pub reading : Contents s → ReadLent → Ended ℕ ReadLent
   reading w lent =
       checked (refusing lent) (readTests w lent)
-      (leaving (length (unitsOpened w)) (record {
-        numbers = written (lent .numbers) 0 (numbersOf (unitsOpened w));
-        octets = written (lent .octets) 0 (octetsOf (unitsOpened w));
+      (leaving (length (unitsKept w)) (record {
+        numbers = written (lent .numbers) 0 (numbersOf (unitsKept w));
+        octets = written (lent .octets) 0 (octetsOf (unitsKept w));
       }))
 
 pub record Reads (s : List ℕ) (lent : ReadLent) (d : Ended ℕ ReadLent) : Type 0 where
-  pub what : Opening s
+  pub what : Contents s
   pub ends : d ≡ reading what lent
 
 abbrev pub readSays : Reading → Told ℕ
