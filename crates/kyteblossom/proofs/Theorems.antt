@@ -5,15 +5,15 @@
 --
 -- Assumes nothing.
 use mathlib.Core.Path.{_≡_, refl, sym, ap, ap₂, _∙_}
-use mathlib.Core.Bool.{Bool, true, false, cond, not, true≢false}
+use mathlib.Core.Bool.{Bool, true, false, cond, not}
 use mathlib.Core.List.{List}
-use Prim.Native.Nat.{ℕ, zero, suc, _/_, _%_, _≤_, _<_}
+use Prim.Native.Nat.{ℕ, _/_, _%_, _≤_, _<_}
 use native.Mathlib.Omega.{arith}
 use borrow.Author.Tests.{eqb-true}
 use lib.Dec.{eqb, ltb}
-use lib.IntN.{ℤ, pos, negℤ}
+use lib.IntN.{ℤ, pos}
 use lib.ListN.{length, take, length-append}
-use Rattle.calls.specs.Refusal.{Told, refused, told, ended, Test, refusal, Refuses, lengthSays}
+use Rattle.calls.specs.Refusal.{Told, refused, told, ended, refusal, Refuses, lengthSays}
 use Rattle.calls.specs.declared.Length.{Length}
 use Rattle.calls.specs.declared.Length.the-variants as sends
 use Rattle.calls.proofs.Laws.{told-refused, allowed-refuses, refused-refuses, told-refuses}
@@ -31,8 +31,8 @@ use Rattle.adaptation.specs.declared.al1m.Received.the-variants as al1m
 use Rattle.adaptation.proofs.Laws.{coding-all, sent-small, handed-small, badge-most, refused-none}
 use Rattle.kyteblossom.proofs.Answering.{answered, not-below}
 use Rattle.kyteblossom.specs.Answer.{answer, packed, receiveAnswer}
-use Rattle.kyteblossom.specs.Header.{isBelow, toldRefusal, isChecked}
-use Rattle.kyteblossom.specs.Claims.{Answered, WordLength, LengthAnswered, EncodeAnswered, Parts, ReceiveAnswered, CheckedExactly}
+use Rattle.kyteblossom.specs.Header.{isChecked}
+use Rattle.kyteblossom.specs.Claims.{WordLength, LengthAnswered, EncodeAnswered, Parts, ReceiveAnswered, CheckedExactly}
 
 -- ---- refusals
 

@@ -9,11 +9,11 @@
 --   wrote-told       the units and their trailer are the record
 --
 -- Assumes nothing.
-use mathlib.Core.Path.{_≡_, refl, sym, ap, ap₂, subst, _∙_}
-use mathlib.Core.Logic.{_↔_, ⊎-elim}
+use mathlib.Core.Path.{_≡_, sym, ap, ap₂, subst, _∙_}
+use mathlib.Core.Logic.{_↔_}
 use mathlib.Core.Bool.{Bool, true, false, not}
-use mathlib.Core.List.{List, _++_, reverse}
-use Prim.Native.Nat.{ℕ, _+_, _*_, _/_, _%_, _≤_, _<_}
+use mathlib.Core.List.{List, reverse}
+use Prim.Native.Nat.{ℕ, _+_, _/_, _%_, _≤_, _<_}
 use native.Mathlib.Decide.{decLt}
 use native.Mathlib.Omega.{arith}
 use borrow.Author.Tests.{ltb-true, ltb-false, not-false}
@@ -23,7 +23,7 @@ use Rattle.octets.specs.Exact.{denied}
 use Rattle.octets.specs.Written.{written, written-next}
 use Rattle.calls.specs.Refusal.{leaving}
 use Rattle.record.specs.Recorded.{Recorded, AllInRange, Lent}
-use Rattle.record.specs.Layout.{headerOctets, total, bodyOf}
+use Rattle.record.specs.Layout.{total, bodyOf}
 use Rattle.record.specs.Trailer.{used, mostChannels, trailerOf, trailerOctets, mostBefore, recordOf}
 use Rattle.record.specs.Call.{Writes}
 use Rattle.record.specs.Walk.{UsedIs, UsedBy, trailerFrom, Listed, beforeOf, Ready, Wrote}

@@ -13,16 +13,16 @@
 --   back-next        the first of them joins the units so far
 --
 -- Assumes nothing.
-use mathlib.Core.Path.{_≡_, refl, sym, ap, ap₂, _∙_}
+use mathlib.Core.Path.{_≡_, refl, sym, ap, _∙_}
 use mathlib.Core.Bool.{Bool, true, false, cond}
-use mathlib.Core.List.{List, [], _∷_, _++_, append-assoc, append-nil, map, reverse, reverseAux, reverseAux-eq, reverseAux-append, reverse-reverse}
+use mathlib.Core.List.{List, [], _∷_, _++_, append-assoc, reverse, reverseAux, reverseAux-eq, reverseAux-append, reverse-reverse}
 use Prim.Native.Nat.{ℕ, _+_, _≤_, _<_}
 use native.Mathlib.Omega.{arith}
 use lib.Dec.{eqb}
 use lib.ListN.{length}
 use Rattle.octets.specs.High.{append-same}
 use Rattle.record.specs.Recorded.{Recorded, AllInRange}
-use Rattle.record.specs.Layout.{size, total, last, Stored, backed, bodyOf}
+use Rattle.record.specs.Layout.{total, last, Stored, backed, bodyOf}
 use Rattle.record.specs.Trailer.{mostBefore}
 use Rattle.record.specs.Walk.{unitsOf, AllStored}
 use Rattle.record.proofs.Laying.{laid-length}

@@ -30,7 +30,7 @@ use Rattle.record.specs.declared.places.Used.{Used}
 use Rattle.record.specs.declared.trailer.Tally.{Tally}
 use Rattle.record.specs.declared.unit.Header.{Header}
 use Rattle.record.proofs.Laying.{laid-length}
-use Rattle.record.proofs.Backing.{units-behind, back-right, back-next}
+use Rattle.record.proofs.Backing.{back-right, back-next}
 use Rattle.record.proofs.Counting.{Counted, counted-none, counted-next, counted-place, counted-last, counted-fits}
 use Rattle.record.proofs.Delivering.{Facing, facing, facing-end, all-faced}
 use Rattle.record.proofs.Standing.{HeadIs, behind-here}

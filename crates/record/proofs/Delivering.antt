@@ -18,14 +18,14 @@
 --   delivering-all      at the end
 --
 -- Assumes nothing.
-use mathlib.Core.Path.{_≡_, refl, sym, ap, ap₂, subst, _∙_}
+use mathlib.Core.Path.{_≡_, refl, sym, ap, ap₂, _∙_}
 use mathlib.Core.List.{List, [], _∷_, _++_}
 use Prim.Native.Nat.{ℕ, _+_, _*_, _≤_, _<_}
 use native.Mathlib.Omega.{arith}
 use lib.ListN.{length, take, drop, length-drop, length-append}
 use Rattle.octets.specs.High.{fields, Fit}
 use Rattle.octets.specs.Written.{written, written-nothing, written-append, written-length}
-use Rattle.record.specs.Recorded.{Recorded, InRange, flat, fourNumbers, numbersOf, octetsOf}
+use Rattle.record.specs.Recorded.{InRange, flat, fourNumbers, numbersOf, octetsOf}
 use Rattle.record.specs.Layout.{headerWidths, headerOctets, size, Stored, storedOctets, laid}
 use Rattle.record.specs.Walk.{unitsOf, AllStored, Fits, Deliverable, Delivered}
 use Rattle.record.specs.declared.unit.Header.{Header}

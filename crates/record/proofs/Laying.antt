@@ -16,9 +16,9 @@
 --   laid-none          no octets are no stored units
 --
 -- Assumes nothing.
-use mathlib.Core.Path.{_≡_, refl, sym, ap, ap₂, subst, _∙_}
+use mathlib.Core.Path.{_≡_, refl, sym, ap, ap₂, _∙_}
 use mathlib.Core.Bool.{Bool, true, false}
-use mathlib.Core.List.{List, [], _∷_, _++_, append-assoc, append-nil, map, reverse, reverse-cons}
+use mathlib.Core.List.{List, [], _∷_, _++_, append-assoc, append-nil}
 use Prim.Native.Nat.{ℕ, _+_, _≤_, _<_}
 use native.Mathlib.Omega.{arith}
 use borrow.Author.Tests.{eqb-true, eqb-false}
@@ -26,8 +26,8 @@ use lib.Dec.{eqb}
 use lib.ListN.{length, getD, length-append}
 use Rattle.octets.specs.High.{fields, Fit, fields-length, fields-same, append-same}
 use Rattle.octets.specs.Tests.{never}
-use Rattle.record.specs.Recorded.{Recorded, InRange, Changed, flat}
-use Rattle.record.specs.Layout.{headerWidths, headerOctets, header, size, total, Stored, storedOctets, laid}
+use Rattle.record.specs.Recorded.{InRange, Changed, flat}
+use Rattle.record.specs.Layout.{headerWidths, size, total, Stored, storedOctets, laid}
 use Rattle.record.specs.Walk.{unitsOf, AllStored}
 
 pub flat-append : {A : Type 0} (f : A → List ℕ) (l m : List A) → flat f (l ++ m) ≡ flat f l ++ flat f m

@@ -21,12 +21,12 @@
 -- Assumes nothing.
 use mathlib.Core.Path.{_≡_, refl, sym, ap, ap₂, subst, _∙_}
 use mathlib.Core.Bool.{true, false}
-use mathlib.Core.List.{List, [], _∷_, _++_, append-assoc, append-nil, map, reverse, reverseAux, reverse-cons, reverse-reverse, reverse-append, reverseAux-eq}
+use mathlib.Core.List.{List, [], _∷_, _++_, append-nil, reverse, reverseAux, reverse-cons}
 use Prim.Native.Nat.{ℕ, _+_, _≤_, _<_}
 use native.Mathlib.Decide.{decLt}
 use native.Mathlib.Omega.{arith}
 use lib.ListN.{length, getD, take, drop, length-reverse, take-append-drop, length-drop, List·getD-eq-default, length-take}
-use lib.Seq.{getD-take, getD-drop, take-all, drop-nil}
+use lib.Seq.{getD-take, getD-drop, take-all}
 use Rattle.octets.specs.Tests.{never}
 use Rattle.octets.specs.High.{fields, Fit}
 use Rattle.record.specs.Recorded.{Recorded, Octets, Ranges, InRange, flat}

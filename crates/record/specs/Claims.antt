@@ -21,7 +21,7 @@ use mathlib.Core.List.{List}
 use Prim.Native.Nat.{ℕ, _+_, _-_, _*_, _≤_, _<_}
 use lib.ListN.{length, getD, take, drop}
 use Rattle.octets.specs.Written.{written}
-use Rattle.calls.specs.Refusal.{refused, told, Ended, leaving}
+use Rattle.calls.specs.Refusal.{refused, Ended, leaving}
 use Rattle.record.specs.Recorded.{Recorded, AllInRange, Octets, numbersOf, octetsOf, Lent}
 use Rattle.record.specs.Trailer.{recordOf}
 use Rattle.record.specs.Call.{Taken, IsRecord, Writes, ReadLent, Reads}

@@ -1,14 +1,12 @@
 -- By whether the octets are a record, and then by the room. Assumes nothing.
 use borrow.Author.Needs.{needs}
-use mathlib.Core.Path.{_≡_, refl, sym, ap, ap₂, subst, _∙_}
+use mathlib.Core.Path.{sym}
 use mathlib.Core.Logic.{inl, inr}
-use mathlib.Core.List.{List, []}
-use Prim.Native.Nat.{ℕ, _-_, _*_}
+use Prim.Native.Nat.{_-_}
 use native.Mathlib.Omega.{arith}
 use denote.Ref.{now}
 use lib.ListN.{length}
 use lib.Seq.{length-take-le}
-use Rattle.calls.specs.Refusal.{ended}
 use Rattle.record.specs.Trailer.{trailerOctets}
 use Rattle.record.proofs.Ending.{reads-none, reads-room, reads-deliverable, reads-delivered, record-octets}
 use Rattle.record.proofs.read.Statement.{statement}

@@ -1,12 +1,9 @@
 -- By what the list is, its channels, its octets and the room. Assumes nothing.
 use borrow.Author.Needs.{needs}
-use mathlib.Core.Path.{_≡_, refl, sym, ap, subst, _∙_}
 use native.Mathlib.Omega.{arith}
 use denote.Ref.{now}
-use lib.ListN.{length}
-use Rattle.octets.specs.Exact.{denied}
 use Rattle.record.proofs.Ending.{writes-none, writes-many, writes-long, writes-room}
-use Rattle.record.proofs.Listing.{numbers-length, before-total}
+use Rattle.record.proofs.Listing.{before-total}
 use Rattle.record.proofs.Admitting.{listed-so, listed-none, numbers-whole, many-so, few-so, long-so, short-so, ready-so, wrote-told}
 use Rattle.record.proofs.write.Statement.{statement}
 use Rattle.record.proofs.write.Tie as tie

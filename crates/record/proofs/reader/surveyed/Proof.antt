@@ -1,17 +1,15 @@
 -- The loop keeps that stored units stand before `at`; where it stops, whatever stored units there were would have a next one. Assumes nothing.
 use borrow.Author.Needs.{needs}
 use borrow.Author.Tests.{not-false}
-use mathlib.Core.Path.{_≡_}
 use mathlib.Core.List.{List}
-use Prim.Native.Nat.{ℕ, _-_}
+use Prim.Native.Nat.{_-_}
 use native.Mathlib.Omega.{arith}
 use denote.Ref.{now}
 use lib.ListN.{length}
 use Rattle.octets.specs.Exact.{denied}
 use Rattle.octets.specs.High.{Fit}
-use Rattle.record.specs.Recorded.{Ranges}
 use Rattle.record.specs.Layout.{headerWidths, Stored}
-use Rattle.record.specs.Walk.{UsedIs, Fits}
+use Rattle.record.specs.Walk.{Fits}
 use Rattle.record.proofs.Standing.{headNumbers}
 use Rattle.record.proofs.Surveying.{Seen, seen-none, seen-next, seen-all, survey-none, Next}
 use Rattle.record.proofs.Surveying.{next-stored, next-header, next-ranges, next-whole, next-few}

@@ -8,7 +8,7 @@ use denote.Ref.{now}
 use lib.ListN.{length}
 use Rattle.record.specs.declared.trailer.Tally.{Tally}
 use Rattle.record.proofs.Counting.{counted-room}
-use Rattle.record.proofs.Putting.{Next, numbers-end, Putting, Placed, putting-none, putting-next-lent, putting-next, putting-all}
+use Rattle.record.proofs.Putting.{numbers-end, Putting, Placed, putting-none, putting-next-lent, putting-next, putting-all}
 use Rattle.record.proofs.Putting.{putting-fits, putting-before, putting-end, putting-room}
 use Rattle.record.proofs.writer.write_units.Statement.{statement}
 use Rattle.record.proofs.writer.write_units.Tie as tie
