@@ -78,8 +78,8 @@ int32_t kyte_receive(const uint8_t *received, size_t received_len, uint32_t widt
 
 /*
  * The record of a call (docs/records.md): its units in order, then a trailer that says of each channel where its last unit lies, how many
- * units it has and how many of them have badge 2 or 3. In `units` a unit is four numbers: its channel, its badge (0 to 4), how many
- * octets were changed (1 to 127 for badge 1, 0 to 127 for badge 3, else 0) and its length (1 to 1,024). The units' octets stand one behind
+ * units it has and how many of them have badge 2 or 3. In `units` a unit is four numbers: its channel, its badge (0 to 4), its
+ * changed count, as kyte_changed tells it (1 to 127 for badge 1, 0 to 127 for badge 3, else 0) and its length (1 to 1,024). The units' octets stand one behind
  * another in `octets`. Reading what was written gives the units back; writing what was read gives the same octets.
  */
 

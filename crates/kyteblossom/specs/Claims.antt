@@ -1,4 +1,4 @@
--- What is claimed of the numbers that the C entries answer, over every input; proofs/Theorems.antt proves each claim. What a code word has
+-- What is claimed of the numbers that the C entries answer, over every input; proofs/Theorems.antt proves each claim, and proofs/Recorded.antt those on records. What a code word has
 -- to do with them stands in the demands (crates/demands/specs/Host.antt).
 --
 --   Answered r l before after    r is below 0 exactly where one of the tests l holds: it is then minus the first one's number, which is what

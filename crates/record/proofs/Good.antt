@@ -11,6 +11,8 @@
 --   good-now         good numbers have a unit in range at their front, for which there are octets
 --   good-next        .. and are good exactly where the others are, for the others' octets
 --   good-end         no numbers are good exactly where nothing is left
+--   adds-good        good numbers in the ticket's words
+--   whole-exactly    .. so that the claim of specs/Form.antt holds
 --
 -- Assumes nothing.
 use mathlib.Core.Path.{_≡_, refl, sym, ap, ap₂, subst, _∙_}
@@ -25,7 +27,9 @@ use lib.Dec.{eqb}
 use lib.ListN.{length, getD, take, drop, length-append, length-drop, take-append-drop, drop-of-length-le}
 use lib.Seq.{drop-cons, getD-drop, length-take-le}
 use Rattle.record.specs.Recorded.{Recorded, Octets, Ranges, AllInRange, flat, numbersOf, octetsOf}
+use Rattle.record.specs.Form.{AddsUp, WholeExactly}
 use Rattle.record.specs.Walk.{Listed}
+use Rattle.record.proofs.Acceptable.{ranges-so}
 
 abbrev pub Good : List ℕ → ℕ → Type 0
 Good [] left = left ≡ 0
@@ -102,3 +106,22 @@ module _ {A : Type 0} (n : List ℕ) (at left : ℕ) (iff : A ↔ Good (drop at 
     λ h. iff .1 (rw (drop-of-length-le n e) (eqb-true left 0 h)),
     λ a. eq-eqb left 0 (rw (drop-of-length-le n e) at (iff .0 a)),
   )
+
+-- ---- in the ticket's words
+
+adds-good : (n : List ℕ) (m : ℕ) → AddsUp n m ↔ Good n m
+adds-good [] m = (λ e. e, λ e. e)
+adds-good (c ∷ []) m = (λ e. e, λ e. e)
+adds-good (c ∷ b ∷ []) m = (λ e. e, λ e. e)
+adds-good (c ∷ b ∷ k ∷ []) m = (λ e. e, λ e. e)
+adds-good (c ∷ b ∷ k ∷ l ∷ n) m =
+    let rest = adds-good n (m - l) in
+    (λ h. (ranges-so b k l .1 (h .0), h .1, rest .0 (h .2)), λ h. (ranges-so b k l .0 (h .0), h .1, rest .1 (h .2)))
+
+pub whole-exactly : WholeExactly
+whole-exactly n o small octets =
+    let same = good-iff n o small octets in
+    let adds = adds-good n (length o) in (
+      λ h. adds .1 (same .0 (record { list = h .0; lent = h .1; ranges = h .2 })),
+      λ a. let l = same .1 (adds .0 a) in (l .list, l .lent, l .ranges),
+    )

@@ -9,7 +9,7 @@
 --   read-small        .. and has at most as many units as the longest has octets for
 --
 -- Assumes nothing.
-use mathlib.Core.Path.{sym, subst}
+use mathlib.Core.Path.{refl, sym, subst}
 use mathlib.Core.List.{List, [], _∷_}
 use Prim.Native.Nat.{ℕ, _*_, _≤_}
 use native.Mathlib.Omega.{arith}
@@ -25,7 +25,7 @@ use Rattle.record.proofs.Answering.{write-answers, read-answers}
 use Rattle.record.proofs.Channelled.{offset-total}
 use Rattle.record.proofs.Formed.{formed}
 pub use Rattle.record.proofs.Once.{writes-once, reads-once}
-use Rattle.record.proofs.Theorems.{readBack, writtenBack, acceptsExactly}
+use Rattle.record.proofs.Theorems.{readBack, writtenBack, acceptsExactly, exampleTaken}
 
 pub recording : Recording
 recording = record {
@@ -39,6 +39,8 @@ recording = record {
   read-answers = read-answers;
   writes-once = writes-once;
   reads-once = reads-once;
+  says-so = λ n k. (refl, refl);
+  example-taken = exampleTaken;
 }
 
 pub writes-refuses : {n o before : List ℕ} {d : Ended ℕ (List ℕ)} (w : Writes n o before d) → Refuses d (writeTests (w .what) (length before)) before

@@ -1,3 +1,4 @@
+pub mod Acceptable
 pub mod Answers
 pub mod Good
 pub mod Listing

@@ -4,10 +4,12 @@
 --   octets-append     octets behind octets
 --   octets-small      the octets of units in range are octets
 --   record-written    the writer writes a record, for the list that it is the record of
---   readBack, writtenBack, acceptsExactly   the claims
+--   two-octets        10 80 are octets
+--   readBack, writtenBack, acceptsExactly, exampleTaken   the claims
 --
 -- Assumes nothing.
 use mathlib.Core.Path.{_≡_, refl, sym, ap, ap₂, _∙_}
+use mathlib.Core.Logic.{inl, inr}
 use mathlib.Core.List.{List, [], _∷_, _++_}
 use Prim.Native.Nat.{ℕ, zero, suc, _+_, _-_, _*_}
 use native.Mathlib.Omega.{arith}
@@ -16,9 +18,10 @@ use Rattle.octets.specs.Written.{written, written-front}
 use Rattle.calls.specs.Refusal.{refused, Ended, leaving}
 use Rattle.record.specs.Recorded.{Recorded, AllInRange, Octets, flat, numbersOf, octetsOf, Lent}
 use Rattle.record.specs.Layout.{total}
-use Rattle.record.specs.Trailer.{trailerOctets, recordOf}
+use Rattle.record.specs.Trailer.{insert, used, trailerOctets, recordOf}
 use Rattle.record.specs.Call.{IsRecord, Contents, kept, broken, ReadLent, reading}
-use Rattle.record.specs.Claims.{Numbers, ReadBack, WrittenBack, WrittenBy, AcceptsExactly}
+use Rattle.record.specs.Claims.{Numbers, ReadBack, WrittenBack, WrittenBy, AcceptsExactly, ExampleTaken}
+use Rattle.record.proofs.Acceptable.{ranges-are}
 use Rattle.record.proofs.Listing.{numbers-length, octets-length}
 use Rattle.record.proofs.Laying.{changed-small}
 use Rattle.record.proofs.Forming.{record-length}
@@ -110,3 +113,19 @@ acceptsExactly s lent d q = (by (q .what) (q .ends), back)
     back w e =
         let a = write-answers (w .numbers) (w .octets) (w .before) (w .after) (w .count) (w .writes) in
         of-reader s lent d q .read15 .0 e (a .list) (a .taken) (sym (w .record-is) ∙ a .front)
+
+-- ---- the ticket's example
+
+two-octets : Octets (16 ∷ 128 ∷ [])
+two-octets zero = omega arith
+two-octets (suc zero) = omega arith
+two-octets (suc (suc i)) = omega arith
+
+pub exampleTaken : ExampleTaken
+unfolding flat total used insert
+exampleTaken before d room w =
+    let u : Recorded = record { channel = 5; badge = 0; changed = 0; octets = 16 ∷ 128 ∷ [] } in
+    let range = ranges-are .one u .1 (omega arith, two-octets, (omega arith, omega arith, inr (inr (inl refl, refl)))) in
+    let told = writes-told (5 ∷ 0 ∷ 0 ∷ 2 ∷ []) (16 ∷ 128 ∷ []) before (u ∷ []) (record { numbers = refl; octets = refl }) (range, tt)
+        (omega arith) (omega arith) room in
+    ap (λ (e : Ended ℕ (List ℕ)). e .answer) (writes-once (5 ∷ 0 ∷ 0 ∷ 2 ∷ []) (16 ∷ 128 ∷ []) before d _ w told)

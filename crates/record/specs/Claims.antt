@@ -1,30 +1,33 @@
--- What is claimed of writing and reading a record, over every input (document 02, ticket 1); proofs/Theorems.antt proves each claim. The form
--- of a record is claimed in specs/Form.antt.
+-- What is claimed of writing and reading a record, over every input (document 02, ticket 1). The form of a record is claimed in
+-- specs/Form.antt.
 --
 --   Numbers n       n are numbers of 16 bits, as they are lent
 --   ReadBack        reading what was written gives the units back
 --   WrittenBack     writing what was read gives the same octets
 --   WrittenBy s     the writer writes s for some list
---   AcceptsExactly  the reader accepts exactly what the writer writes for some list
+--   AcceptsExactly  the reader accepts exactly what the writer writes for some list: what it does not refuse with 15, whatever the room
 --   Given n o       the units that are lent, each in range, and their channels
 --   OfWriter        when the writer gives each refusal, and that it leaves everything then
 --   OfReader        .. and the reader
 --   WriteAnswered, WriteAnswers   what an answer of the writer is, and what it leaves
 --   ReadAnswered, ReadAnswers     .. and one of the reader
 --   WritesOnce, ReadsOnce   any two answers are equal, and so is what they leave
---   Recording       all of it, and the form
+--   SaysSo          what the reader's answer says: the number of units, or the refusal's number
+--   ExampleTaken    the ticket's example is written
+--   Recording       all of it, and the form; `recording` in proofs/Laws.antt has the proof of each claim
 --
 -- Assumes nothing.
 use mathlib.Core.Path.{_≡_}
 use mathlib.Core.Logic.{_↔_, _⊎_}
-use mathlib.Core.List.{List}
+use mathlib.Core.List.{List, [], _∷_}
 use Prim.Native.Nat.{ℕ, _+_, _-_, _*_, _≤_, _<_}
 use lib.ListN.{length, getD, take, drop}
 use Rattle.octets.specs.Written.{written}
-use Rattle.calls.specs.Refusal.{refused, Ended, leaving}
+use Rattle.calls.specs.Refusal.{refused, told, Ended, leaving}
 use Rattle.record.specs.Recorded.{Recorded, AllInRange, Octets, numbersOf, octetsOf, Lent}
 use Rattle.record.specs.Trailer.{recordOf}
-use Rattle.record.specs.Call.{Taken, IsRecord, Writes, ReadLent, Reads}
+use Rattle.record.specs.Call.{Taken, IsRecord, Writes, ReadLent, Reads, readSays}
+use Rattle.record.specs.declared.Reading.the-variants.{Units, Refused}
 use Rattle.record.specs.Form.{offset, Channels, Formed}
 
 abbrev pub Numbers : List ℕ → Type 0
@@ -122,6 +125,14 @@ WritesOnce = (n o before : List ℕ) (d e : Ended ℕ (List ℕ)) → Writes n o
 abbrev pub ReadsOnce : Type 0
 ReadsOnce = (s : List ℕ) (lent : ReadLent) (d e : Ended ℕ ReadLent) → Reads s lent d → Reads s lent e → d ≡ e
 
+abbrev pub SaysSo : Type 0
+SaysSo = (n k : ℕ) → (readSays (Units n) ≡ told n) × (readSays (Refused k) ≡ refused k)
+
+-- the ticket's unit, 10 80 on channel 5, is taken
+abbrev pub ExampleTaken : Type 0
+ExampleTaken =
+    (before : List ℕ) (d : Ended ℕ (List ℕ)) → 248 ≤ length before → Writes (5 ∷ 0 ∷ 0 ∷ 2 ∷ []) (16 ∷ 128 ∷ []) before d → d .answer ≡ told 248
+
 pub record Recording : Type 0 where
   pub formed : Formed
   pub read-back : ReadBack
@@ -133,3 +144,5 @@ pub record Recording : Type 0 where
   pub read-answers : ReadAnswers
   pub writes-once : WritesOnce
   pub reads-once : ReadsOnce
+  pub says-so : SaysSo
+  pub example-taken : ExampleTaken

@@ -1,5 +1,5 @@
 -- A record's form in the ticket's words (document 02, ticket 1), number by number and offset by offset. What defines the record
--- (specs/Layout.antt, specs/Trailer.antt) is held to it; proofs/Formed.antt proves each claim.
+-- (specs/Recorded.antt, specs/Layout.antt, specs/Trailer.antt) is held to it; `formed` in proofs/Formed.antt has the proof of each claim.
 --
 --   numberAt k s at      the number in the k octets of s from offset `at` on, the high octet first
 --   offset us            the offset behind the units us: ten octets and its own of each
@@ -9,6 +9,7 @@
 --   Among c cs           c is one of cs
 --   Rising cs            the numbers cs ascend
 --   Channels us cs       cs are the channels of the units us, each once, ascending
+--   NumbersAre           which number octets are
 --   UnitStands           a unit stands at an offset of s, with a back offset
 --   EachStands s us      each of the units us does in s, with the offset of its channel's previous unit or FFFFFFFF
 --   UnitsStand           .. in their record
@@ -16,8 +17,11 @@
 --   unusedPlace          the octets of a place that is not used
 --   TrailerStands        the trailer stands behind the units
 --   TrailersStand        .. in each record
---   RangesAre            the ranges of a unit's badge, changed count and length
+--   InWords b k n        the ranges of a unit's badge, changed count and length
+--   RangesAre            what is in range, and of a list
 --   ListsAre             the numbers and the octets of a list, unit by unit
+--   AddsUp n m           numbers n that are those of units in range, whose lengths add up to m
+--   WholeExactly         which numbers and octets are those of a list
 --   TakenExactly         which lists the writer takes
 --   EmptyRecord          the record of no units
 --   FirstTwelve          the first twelve octets of the ticket's example
@@ -29,11 +33,11 @@ use mathlib.Core.Path.{_≡_}
 use mathlib.Core.Logic.{_↔_, _⊎_}
 use mathlib.Core.Bool.{cond}
 use mathlib.Core.List.{List, [], _∷_, _++_}
-use Prim.Native.Nat.{ℕ, _+_, _*_, _≤_, _<_}
+use Prim.Native.Nat.{ℕ, _+_, _-_, _*_, _≤_, _<_}
 use lib.Dec.{eqb}
 use lib.ListN.{length, getD, take, drop, replicate}
 use Rattle.octets.specs.High.{worth}
-use Rattle.record.specs.Recorded.{Recorded, Octets, Ranges, AllInRange, flat, numbersOf, octetsOf}
+use Rattle.record.specs.Recorded.{Recorded, Octets, InRange, AllInRange, flat, numbersOf, octetsOf, Lent}
 use Rattle.record.specs.Trailer.{recordOf}
 use Rattle.record.specs.Call.{Taken}
 
@@ -69,6 +73,12 @@ pub record Channels (us : List Recorded) (cs : List ℕ) : Type 0 where
   pub rising : Rising cs
   pub exactly : (c : ℕ) → Among c cs ↔ HasOn c us
 
+-- the number that is read, with its high octet first
+abbrev pub NumbersAre : Type 0
+NumbersAre =
+    (a b c d : ℕ)
+    → (worth (a ∷ []) ≡ a) × (worth (a ∷ b ∷ []) ≡ a * 256 + b) × (worth (a ∷ b ∷ c ∷ d ∷ []) ≡ ((a * 256 + b) * 256 + c) * 256 + d)
+
 -- ---- "Unit: channel (2 octets), badge (1), changed count (1), length 1 to 1,024 (2), offset of the same channel's previous unit or
 -- FFFFFFFF (4), then the octets; numbers high octet first."
 
@@ -91,7 +101,7 @@ abbrev pub UnitsStand : Type 0
 UnitsStand = (us : List Recorded) → Taken us → EachStands (recordOf us) us
 
 -- ---- "The trailer is 236 octets: 16 places of channel (2), offset of its last unit (4), units (4), units with badge 2 or 3 (4), used places
--- first and ascending, unused ones 0000 FFFFFFFF and zeros; then total units (4), octets before the trailer (4), and 48 32 32 33."
+-- first and ascending, unused ones 0000 FFFFFFFF and zeros; then total units (4), octets before the trailer (4, ..), and 48 32 32 33."
 
 pub record PlaceStands (s : List ℕ) (at c : ℕ) (us : List Recorded) : Type 0 where
   pub channel-stands : numberAt 2 s at ≡ c
@@ -118,17 +128,39 @@ TrailersStand = (us : List Recorded) → Taken us → TrailerStands (recordOf us
 
 -- ---- "length 1 to 1,024 .. Badges are 0 to 4; changed is 1 to 127 for badge 1, 0 to 127 for badge 3, else 0."
 
-abbrev pub RangesAre : Type 0
-RangesAre =
-    (b k n : ℕ) → Ranges b k n
-    ↔ ((1 ≤ n) × (n ≤ 1024)
-    × (((b ≡ 1) × (1 ≤ k) × (k ≤ 127)) ⊎ (((b ≡ 3) × (k ≤ 127)) ⊎ (((b ≡ 0) ⊎ ((b ≡ 2) ⊎ (b ≡ 4))) × (k ≡ 0)))))
+-- of badge b, changed count k and length n
+abbrev pub InWords : ℕ → ℕ → ℕ → Type 0
+InWords b k n =
+    (1 ≤ n) × (n ≤ 1024)
+    × (((b ≡ 1) × (1 ≤ k) × (k ≤ 127)) ⊎ (((b ≡ 3) × (k ≤ 127)) ⊎ (((b ≡ 0) ⊎ ((b ≡ 2) ⊎ (b ≡ 4))) × (k ≡ 0))))
+
+pub record RangesAre : Type 0 where
+  pub no-units : AllInRange []
+  pub more-units : (u : Recorded) (us : List Recorded) → AllInRange (u ∷ us) ↔ (InRange u × AllInRange us)
+  pub one : (u : Recorded) → InRange u ↔ ((u .channel < 65536) × Octets (u .octets) × InWords (u .badge) (u .changed) (length (u .octets)))
+
+-- ---- a list as it is lent
 
 pub record ListsAre : Type 0 where
   pub no-numbers : numbersOf [] ≡ []
   pub no-octets : octetsOf [] ≡ []
   pub numbers : (u : Recorded) (us : List Recorded) → numbersOf (u ∷ us) ≡ u .channel ∷ u .badge ∷ u .changed ∷ length (u .octets) ∷ numbersOf us
   pub octets : (u : Recorded) (us : List Recorded) → octetsOf (u ∷ us) ≡ u .octets ++ octetsOf us
+  pub lent : (us : List Recorded) (n o : List ℕ) → Lent us n o ↔ ((n ≡ numbersOf us) × (o ≡ octetsOf us))
+
+-- the numbers n are four to a unit, each unit is in range, and their lengths add up to m
+abbrev pub AddsUp : List ℕ → ℕ → Type 0
+AddsUp [] m = m ≡ 0
+AddsUp (c ∷ []) m = ⊥
+AddsUp (c ∷ b ∷ []) m = ⊥
+AddsUp (c ∷ b ∷ k ∷ []) m = ⊥
+AddsUp (c ∷ b ∷ k ∷ l ∷ n) m = InWords b k l × (l ≤ m) × AddsUp n (m - l)
+
+-- of numbers of 16 bits, and octets
+abbrev pub WholeExactly : Type 0
+WholeExactly =
+    (n o : List ℕ) → ((i : ℕ) → getD n i 0 < 65536) → Octets o
+    → ((us : List Recorded) × Lent us n o × AllInRange us) ↔ AddsUp n (length o)
 
 -- "octets before the trailer (.. at most 1,048,576)", "12 for a seventeenth channel"
 abbrev pub TakenExactly : Type 0
@@ -158,8 +190,10 @@ pub record Formed : Type 0 where
   pub only : FormOnly
   pub units-stand : UnitsStand
   pub trailers-stand : TrailersStand
+  pub numbers-are : NumbersAre
   pub ranges-are : RangesAre
   pub lists-are : ListsAre
+  pub whole-exactly : WholeExactly
   pub taken-exactly : TakenExactly
   pub empty : EmptyRecord
   pub first-twelve : FirstTwelve

@@ -5,7 +5,7 @@
 --   size u              the octets that a unit takes
 --   total us            .. and that the units us take
 --   noOffset            FFFFFFFF: there is no unit
---   last c past         the offset of the latest unit on channel c, of the units `past`, which have the latest first
+--   last c past         the offset of the latest unit on channel c, of the units `past`, which have the latest first; FFFFFFFF where there is none
 --   Stored              a unit with its back offset
 --   storedOctets p      its octets
 --   laid l              the octets of a list of them

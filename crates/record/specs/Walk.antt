@@ -14,13 +14,13 @@
 --   numbersIn h        .. and those in the header h
 --   Listed n o         n and o are the numbers and octets of units that are in range
 --   beforeOf n o       the octets that units of the numbers n and the octets o take
---   Ready n o u room   .. they are, u has their channels, and there is room for them
+--   Ready n o u room   .. they are, u has their channels, at most 16, they take no more octets than a record may have, and there is room for them
 --   Wrote n o b a t    the units are written over b, which gives a, and t is their tally
 --   unitsOf ps         the units of stored units
 --   AllStored ps       each is in range, and its back offset has four octets
 --   Fits ps b          b is the octets of the stored units ps, which are in range and on at most 16 channels
 --   SurveyIs b s       what `Survey` says of b
---   Surveyed b u       b is such octets, and u has their channels
+--   Surveyed b u       b is such octets, no more than a record may have, and u has their channels
 --   CheckedIs b c      what `Checked` says of b: its back offsets are right, and then what their tally is
 --   FoundIs s f        what `Found` says of s
 --   Deliverable b n o  b is the octets of stored units, and there is room for them

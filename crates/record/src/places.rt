@@ -23,7 +23,7 @@ pub fn none() -> Used
     }
 }
 
-// How many of the first `count` channels are below c: the place of c, where it has one.
+// How many of the first `count` channels stand before the first that is not below c: the place of c, where they ascend and it has one.
 pub fn place_of(channels: &[u16], count: usize, c: u16) -> usize
     requires { ⌜ count ≤ length (now channels) ⌝ }
     ensures { λ r. ⌜ r ≡ rank c (take count (now (channels .entry))) ⌝ }

@@ -36,7 +36,7 @@ pub enum Found {
     Nothing,
 }
 
-// No units.
+// Octets that are not units.
 fn unfit() -> Survey
     ensures { λ r. ⌜ r .ok ≡ false ⌝ }
 {

@@ -5,7 +5,7 @@ ghost use mathlib.Core.Path.{_≡_};
 ghost use Prim.Native.Nat.{_<_};
 ghost use lib.ListN.{getD};
 ghost use mathlib.Core.List.{_++_, _∷_, []};
-ghost use Rattle.octets.specs.High.{high, fields};
+ghost use Rattle.octets.specs.High.{fields};
 ghost use Rattle.record.specs.Layout.{noOffset};
 ghost use Rattle.record.specs.Walk as walk;
 ghost use Rattle.record.specs.Walk.{noTally, trailerFrom};

@@ -5,7 +5,6 @@
 mod files; // files.rt: opening, reading and writing files
 mod line; // line.rt: a line of a list, octet by octet
 mod list; // list.rt: the units of a list, and what the library answers for them
-mod print; // print.rt: what `read` prints
 mod room; // room.rt: the buffers that are lent to the library
 mod table; // table.rt: the table below the units
 mod units; // units.rt: the lines of a file of any length

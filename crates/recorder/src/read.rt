@@ -2,17 +2,16 @@
 use crate::files;
 use crate::files::Filled;
 use crate::list;
-use crate::print;
-use crate::print::BUFFER;
 use crate::room;
 use crate::table;
 use crate::write;
 use libc::STDOUT_FILENO;
+use print::BUFFER;
 use record::Reading;
 
 // Puts a number and a space.
 fn word(out: &mut [u8; BUFFER], from: usize, number: u16) -> usize {
-    let n = print::cell(out, from, number as u64, 0);
+    let n = print::number(out, from, number as u64, 0);
     print::put(out, n, b" ")
 }
 

@@ -1,6 +1,5 @@
 // The table below the units, as lines that begin with #: what the record's own trailer says. The reader has found it right.
-use crate::print;
-use crate::print::BUFFER;
+use print::BUFFER;
 
 // The trailer of a record, its places, and one of them.
 const TRAILER: usize = 236;
@@ -20,10 +19,10 @@ fn row(out: &mut [u8; BUFFER], from: usize, trailer: &[u8], j: usize) -> usize {
         return from;
     }
     let mut n = print::put(out, from, b"#");
-    n = print::cell(out, n, octets::two(trailer, at) as u64, 8);
-    n = print::cell(out, n, units as u64, 8);
-    n = print::cell(out, n, octets::four(trailer, at + 10) as u64, 9);
-    n = print::cell(out, n, octets::four(trailer, at + 2) as u64, 13);
+    n = print::number(out, n, octets::two(trailer, at) as u64, 8);
+    n = print::number(out, n, units as u64, 8);
+    n = print::number(out, n, octets::four(trailer, at + 10) as u64, 9);
+    n = print::number(out, n, octets::four(trailer, at + 2) as u64, 13);
     print::put(out, n, b"\n")
 }
 
@@ -47,8 +46,8 @@ pub fn put(out: &mut [u8; BUFFER], from: usize, record: &[u8]) -> usize {
     let mut n = print::put(out, from, b"# channel   units  damaged  last offset\n");
     n = rows(out, n, &record[before..]);
     n = print::put(out, n, b"#   total");
-    n = print::cell(out, n, octets::four(record, before + 224) as u64, 8);
+    n = print::number(out, n, octets::four(record, before + 224) as u64, 8);
     n = print::put(out, n, b"  in ");
-    n = print::cell(out, n, octets::four(record, before + 228) as u64, 0);
+    n = print::number(out, n, octets::four(record, before + 228) as u64, 0);
     print::put(out, n, b" octets before the trailer\n")
 }

@@ -22,13 +22,24 @@ fn written(fd: i32, to: &[u8], units: usize, record: &[u8]) {
     }
     say(fd, b"units ", units as u64);
     say(fd, b" octets ", record.len() as u64);
-    io::write_all(fd, b"\n");
+    end(fd);
 }
 
-// Says why there is no record.
+// Ends an answer; says so where it cannot be written.
+fn end(fd: i32) {
+    if !io::write_all(fd, b"\n") {
+        os::fail(b"the answer");
+    }
+}
+
+// Says why there is no record, on standard error too: a program cannot choose its status, and `./kyte` tells it by that.
 pub fn refused(fd: i32, word: &[u8], n: u64) {
     say(fd, word, n);
-    io::write_all(fd, b"\n");
+    end(fd);
+    if fd != STDERR_FILENO {
+        say(STDERR_FILENO, word, n);
+        end(STDERR_FILENO);
+    }
 }
 
 // Makes the record of a list, and answers.

@@ -1,18 +1,24 @@
-// What is printed, put together in a buffer. A full buffer is written out and filled anew, so that an answer may have any length.
+// What a program prints, put together in a buffer. A full buffer is written out and filled anew, so that what is printed may have any
+// length.
 use libc::STDOUT_FILENO;
 
-// The octets of the buffer; no answer's length depends on it.
-pub const BUFFER: usize = 65536;
+// The octets of the buffer; no length of what is printed depends on it.
+pub const BUFFER: usize = 4096;
 
-// Writes the first n octets of the buffer; says so where they cannot be written.
-pub fn end(out: &[u8; BUFFER], n: usize) {
-    if !io::write_all(STDOUT_FILENO, octets::front(out, n)) {
+// Writes text as it is; says so where it cannot be written.
+pub fn text(t: &[u8]) {
+    if !io::write_all(STDOUT_FILENO, t) {
         os::fail(b"standard output");
     }
 }
 
+// Writes the first n octets of the buffer.
+pub fn end(out: &[u8; BUFFER], n: usize) {
+    text(octets::front(out, n));
+}
+
 // Puts one octet at place n, or at the front where the buffer is full, once what stood there is written; gives the place behind it.
-fn store(out: &mut [u8; BUFFER], n: usize, octet: u8) -> usize {
+pub fn store(out: &mut [u8; BUFFER], n: usize, octet: u8) -> usize {
     if n < BUFFER {
         out[n] = octet;
         return n + 1;
@@ -34,7 +40,7 @@ pub fn put(out: &mut [u8; BUFFER], from: usize, text: &[u8]) -> usize {
 }
 
 // Puts a number in decimal, at the right of a column if it is narrower.
-pub fn cell(out: &mut [u8; BUFFER], from: usize, n: u64, width: usize) -> usize {
+pub fn number(out: &mut [u8; BUFFER], from: usize, n: u64, width: usize) -> usize {
     let mut digits = [0u8; 20];
     let k = io::decimal(n, &mut digits);
     let mut at = from;

@@ -1,9 +1,9 @@
--- `recorder::print::hex` is safe and ends: the octets that are left shrink. Assumes nothing.
+-- `print::hex` is safe and ends: the octets that are left shrink. Assumes nothing.
 use borrow.Author.Needs.{needs}
 use Prim.Native.Nat.{_≤_, _-_}
 use lib.ListN.{length}
-use Rattle.recorder.proofs.print.hex.Statement.{statement}
-use Rattle.recorder.proofs.print.hex.Tie as tie
+use Rattle.print.proofs.hex.Statement.{statement}
+use Rattle.print.proofs.hex.Tie as tie
 
 abbrev Inv-loop : tie.InvT-loop
 Inv-loop out₀ from octets n₀ i₀ out n i = i ≤ length octets

@@ -1,9 +1,9 @@
--- `recorder::print::put` is safe and ends: the text that is left shrinks. Assumes nothing.
+-- `print::put` is safe and ends: the text that is left shrinks. Assumes nothing.
 use borrow.Author.Needs.{needs}
 use Prim.Native.Nat.{_≤_, _-_}
 use lib.ListN.{length}
-use Rattle.recorder.proofs.print.put.Statement.{statement}
-use Rattle.recorder.proofs.print.put.Tie as tie
+use Rattle.print.proofs.put.Statement.{statement}
+use Rattle.print.proofs.put.Tie as tie
 
 abbrev Inv-loop : tie.InvT-loop
 Inv-loop out₀ from text n₀ i₀ out n i = i ≤ length text
