@@ -116,7 +116,8 @@ read-answers s lent left k q = by (q .what) (q .ends)
         (ap (λ (x : ReadLent). x .octets) (h .1 .1)) (room .1) in
         record {
           list = us;
-          is = r;
+          taken = r .taken;
+          record-is = r .octets;
           count = h .1 .0;
           numbers-front = numbers .front;
           numbers-behind = numbers .behind;

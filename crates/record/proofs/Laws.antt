@@ -39,7 +39,7 @@ recording = record {
   read-answers = read-answers;
   writes-once = writes-once;
   reads-once = reads-once;
-  says-so = λ n k. (refl, refl);
+  says-so = λ n k. (refl, refl, refl, refl);
   example-taken = exampleTaken;
 }
 
@@ -64,4 +64,4 @@ write-small {n = n} {o = o} {before = before} {after = after} {m = m} w =
 pub read-small : {s : List ℕ} {lent left : ReadLent} {k : ℕ} → Reads s lent (leaving k left) → k ≤ 95325
 read-small {s = s} {lent = lent} {left = left} {k = k} w =
     let a = read-answers s lent left k w in
-    omega (arith, a .count, units-few (a .list) (a .is .taken .ranges), a .is .taken .before)
+    omega (arith, a .count, units-few (a .list) (a .taken .ranges), a .taken .before)

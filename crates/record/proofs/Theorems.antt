@@ -91,8 +91,9 @@ pub writtenBack : WrittenBack
 writtenBack s before lent left k d q h w =
     let a = read-answers s lent left k q in
     let us = a .list in
-    let t = a .is .taken in
-    let long = record-length (a .is) in
+    let t = a .taken in
+    let is : IsRecord (a .list) s = record { taken = t; octets = a .record-is } in
+    let long = record-length is in
     let own : length s - 236 - 10 * k ≡ length (octetsOf us) = omega (arith, long, octets-length us, a .count) in
     let n = take (4 * k) (left .numbers) in
     let o = take (length s - 236 - 10 * k) (left .octets) in
@@ -100,7 +101,7 @@ writtenBack s before lent left k d q h w =
     let end : ℕ → List ℕ → Ended ℕ (List ℕ) = λ m l. leaving m (written before 0 l) in
     writes-once n o before d (end (total us + trailerOctets) (recordOf us)) w
     (writes-told n o before us back (t .ranges) (t .channels) (t .before) (omega (arith, h, long)))
-    ∙ ap₂ end (sym long) (sym (a .is .octets))
+    ∙ ap₂ end (sym long) (sym (a .record-is))
 
 pub acceptsExactly : AcceptsExactly
 acceptsExactly s lent d q = (by (q .what) (q .ends), back)
@@ -127,5 +128,5 @@ exampleTaken before d room w =
     let u : Recorded = record { channel = 5; badge = 0; changed = 0; octets = 16 ∷ 128 ∷ [] } in
     let range = ranges-are .one u .1 (omega arith, two-octets, (omega arith, omega arith, inr (inr (inl refl, refl)))) in
     let told = writes-told (5 ∷ 0 ∷ 0 ∷ 2 ∷ []) (16 ∷ 128 ∷ []) before (u ∷ []) (record { numbers = refl; octets = refl }) (range, tt)
-        (omega arith) (omega arith) room in
+    (omega arith) (omega arith) room in
     ap (λ (e : Ended ℕ (List ℕ)). e .answer) (writes-once (5 ∷ 0 ∷ 0 ∷ 2 ∷ []) (16 ∷ 128 ∷ []) before d _ w told)

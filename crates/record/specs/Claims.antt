@@ -12,7 +12,7 @@
 --   WriteAnswered, WriteAnswers   what an answer of the writer is, and what it leaves
 --   ReadAnswered, ReadAnswers     .. and one of the reader
 --   WritesOnce, ReadsOnce   any two answers are equal, and so is what they leave
---   SaysSo          what the reader's answer says: the number of units, or the refusal's number
+--   SaysSo          what the reader's answer says, and the writer's: the number of units or of octets, or the refusal's number
 --   ExampleTaken    the ticket's example is written
 --   Recording       all of it, and the form; `recording` in proofs/Laws.antt has the proof of each claim
 --
@@ -23,10 +23,11 @@ use mathlib.Core.List.{List, [], _∷_}
 use Prim.Native.Nat.{ℕ, _+_, _-_, _*_, _≤_, _<_}
 use lib.ListN.{length, getD, take, drop}
 use Rattle.octets.specs.Written.{written}
-use Rattle.calls.specs.Refusal.{refused, told, Ended, leaving}
+use Rattle.calls.specs.Refusal.{refused, told, Ended, leaving, lengthSays}
+use Rattle.calls.specs.declared.Length.the-variants as answered
 use Rattle.record.specs.Recorded.{Recorded, AllInRange, Octets, numbersOf, octetsOf, Lent}
 use Rattle.record.specs.Trailer.{recordOf}
-use Rattle.record.specs.Call.{Taken, IsRecord, Writes, ReadLent, Reads, readSays}
+use Rattle.record.specs.Call.{Taken, Writes, ReadLent, Reads, readSays}
 use Rattle.record.specs.declared.Reading.the-variants.{Units, Refused}
 use Rattle.record.specs.Form.{offset, Channels, Formed}
 
@@ -107,7 +108,8 @@ WriteAnswers = (n o before after : List ℕ) (m : ℕ) → Writes n o before (le
 
 pub record ReadAnswered (s : List ℕ) (lent left : ReadLent) (k : ℕ) : Type 0 where
   pub list : List Recorded
-  pub is : IsRecord list s
+  pub taken : Taken list
+  pub record-is : s ≡ recordOf list
   pub count : k ≡ length list
   pub numbers-front : take (4 * k) (left .numbers) ≡ numbersOf list
   pub numbers-behind : drop (4 * k) (left .numbers) ≡ drop (4 * k) (lent .numbers)
@@ -126,7 +128,10 @@ abbrev pub ReadsOnce : Type 0
 ReadsOnce = (s : List ℕ) (lent : ReadLent) (d e : Ended ℕ ReadLent) → Reads s lent d → Reads s lent e → d ≡ e
 
 abbrev pub SaysSo : Type 0
-SaysSo = (n k : ℕ) → (readSays (Units n) ≡ told n) × (readSays (Refused k) ≡ refused k)
+SaysSo =
+    (n k : ℕ)
+    → (readSays (Units n) ≡ told n) × (readSays (Refused k) ≡ refused k) × (lengthSays (answered.Octets n) ≡ told n)
+    × (lengthSays (answered.Refused k) ≡ refused k)
 
 -- the ticket's unit, 10 80 on channel 5, is taken
 abbrev pub ExampleTaken : Type 0

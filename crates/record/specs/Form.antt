@@ -37,7 +37,7 @@ use Prim.Native.Nat.{ℕ, _+_, _-_, _*_, _≤_, _<_}
 use lib.Dec.{eqb}
 use lib.ListN.{length, getD, take, drop, replicate}
 use Rattle.octets.specs.High.{worth}
-use Rattle.record.specs.Recorded.{Recorded, Octets, InRange, AllInRange, flat, numbersOf, octetsOf, Lent}
+use Rattle.record.specs.Recorded.{Recorded, InRange, AllInRange, flat, numbersOf, octetsOf, Lent}
 use Rattle.record.specs.Trailer.{recordOf}
 use Rattle.record.specs.Call.{Taken}
 
@@ -137,7 +137,7 @@ InWords b k n =
 pub record RangesAre : Type 0 where
   pub no-units : AllInRange []
   pub more-units : (u : Recorded) (us : List Recorded) → AllInRange (u ∷ us) ↔ (InRange u × AllInRange us)
-  pub one : (u : Recorded) → InRange u ↔ ((u .channel < 65536) × Octets (u .octets) × InWords (u .badge) (u .changed) (length (u .octets)))
+  pub one : (u : Recorded) → InRange u ↔ ((u .channel < 65536) × ((i : ℕ) → getD (u .octets) i 0 < 256) × InWords (u .badge) (u .changed) (length (u .octets)))
 
 -- ---- a list as it is lent
 
@@ -159,7 +159,7 @@ AddsUp (c ∷ b ∷ k ∷ l ∷ n) m = InWords b k l × (l ≤ m) × AddsUp n (m
 -- of numbers of 16 bits, and octets
 abbrev pub WholeExactly : Type 0
 WholeExactly =
-    (n o : List ℕ) → ((i : ℕ) → getD n i 0 < 65536) → Octets o
+    (n o : List ℕ) → ((i : ℕ) → getD n i 0 < 65536) → ((i : ℕ) → getD o i 0 < 256)
     → ((us : List Recorded) × Lent us n o × AllInRange us) ↔ AddsUp n (length o)
 
 -- "octets before the trailer (.. at most 1,048,576)", "12 for a seventeenth channel"
@@ -183,10 +183,10 @@ FirstTwelve =
 
 abbrev pub FormOnly : Type 0
 FormOnly =
-    (us : List Recorded) (s : List ℕ) → Taken us → Octets s → EachStands s us → TrailerStands s (offset us) us → s ≡ recordOf us
+    (us : List Recorded) (s : List ℕ) → Taken us → ((i : ℕ) → getD s i 0 < 256) → EachStands s us → TrailerStands s (offset us) us → s ≡ recordOf us
 
 pub record Formed : Type 0 where
-  pub octets : (us : List Recorded) → Taken us → Octets (recordOf us)
+  pub octets : (us : List Recorded) → Taken us → (i : ℕ) → getD (recordOf us) i 0 < 256
   pub only : FormOnly
   pub units-stand : UnitsStand
   pub trailers-stand : TrailersStand
