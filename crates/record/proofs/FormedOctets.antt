@@ -1,8 +1,5 @@
 -- A record is octets, so that the numbers that stand in it tell its octets: each part of it is numbers in octets, or a unit's own.
 --
---   octets-append   octets behind octets
---   octets-none     none
---   octets-cons     one, and more behind it
 --   mark-octets     the mark
 --   high-octets     a number in octets
 --   fields-octets   numbers in a row
@@ -13,12 +10,13 @@
 --
 -- Assumes nothing.
 use mathlib.Core.List.{List, [], _∷_, _++_, reverse}
-use Prim.Native.Nat.{ℕ, zero, suc, _-_, _/_, _%_, _<_}
+use Prim.Native.Nat.{ℕ, zero, suc, _-_, _/_, _%_}
 use native.Mathlib.Omega.{arith}
 use lib.ListN.{length, replicate}
 use Rattle.octets.specs.High.{high, fields}
 use Rattle.record.specs.Recorded.{Recorded, Octets, AllInRange, flat}
 use Rattle.record.specs.Layout.{headerWidths, header, total, last, laid, backed, bodyOf}
+use Rattle.record.proofs.OctetParts.{octets-none, octets-cons, octets-append}
 use Rattle.record.specs.Trailer.{
   used,
   unitsOn,
@@ -32,18 +30,6 @@ use Rattle.record.specs.Trailer.{
   trailerOf,
   recordOf,
 }
-
-octets-append : (a b : List ℕ) → Octets a → Octets b → Octets (a ++ b)
-octets-append [] b f g i = g i
-octets-append (x ∷ a) b f g zero = f 0
-octets-append (x ∷ a) b f g (suc i) = octets-append a b (λ j. f (suc j)) g i
-
-octets-none : Octets []
-octets-none i = omega arith
-
-octets-cons : (x : ℕ) (l : List ℕ) → x < 256 → Octets l → Octets (x ∷ l)
-octets-cons x l h f zero = h
-octets-cons x l h f (suc i) = f i
 
 high-octets : (k n : ℕ) → Octets (high k n)
 unfolding high

@@ -4,7 +4,6 @@
 --   Good n left      the numbers n are of units in range that have `left` octets
 --   four-next        four numbers of a list, and what is behind them
 --   none-left        a list of no octets
---   octets-take      octets at the front of octets
 --   good-listed      numbers that are good for the octets are of a list of units
 --   listed-good      .. and the other way
 --   good-iff         both
@@ -19,7 +18,7 @@ use mathlib.Core.Path.{_≡_, refl, sym, ap, ap₂, subst, _∙_}
 use mathlib.Core.Bool.{true}
 use mathlib.Core.Logic.{_↔_}
 use mathlib.Core.List.{List, [], _∷_, _++_}
-use Prim.Native.Nat.{ℕ, zero, suc, _+_, _-_, _≤_, _<_}
+use Prim.Native.Nat.{ℕ, suc, _+_, _-_, _≤_, _<_}
 use native.Mathlib.Omega.{arith}
 use native.Mathlib.Numerals.{add-one}
 use borrow.Author.Tests.{eqb-true, eq-eqb}
@@ -30,6 +29,7 @@ use Rattle.record.specs.Recorded.{Recorded, Octets, Ranges, AllInRange, 
 use Rattle.record.specs.Form.{AddsUp, WholeExactly}
 use Rattle.record.specs.Walk.{Listed}
 use Rattle.record.proofs.Acceptable.{ranges-so}
+use Rattle.record.proofs.OctetParts.{part-octets}
 
 abbrev pub Good : List ℕ → ℕ → Type 0
 Good [] left = left ≡ 0
@@ -55,12 +55,6 @@ none-left : (o : List ℕ) → length o ≡ 0 → o ≡ []
 none-left [] e = refl
 none-left (x ∷ o) e = absurd (omega arith)
 
-octets-take : (m : ℕ) (o : List ℕ) → Octets o → Octets (take m o)
-octets-take zero o f i = omega arith
-octets-take (suc m) [] f i = omega arith
-octets-take (suc m) (x ∷ o) f zero = f zero
-octets-take (suc m) (x ∷ o) f (suc i) = octets-take m o (λ j. f (suc j)) i
-
 pub good-listed : (n o : List ℕ) → ((i : ℕ) → getD n i 0 < 65536) → Octets o → Good n (length o) → Listed n o
 unfolding flat
 good-listed [] o f h g = record { list = []; lent = record { numbers = refl; octets = none-left o g }; ranges = tt }
@@ -77,7 +71,7 @@ good-listed (c ∷ b ∷ k ∷ m ∷ n) o f h g =
         numbers = ap₂ (λ (x : ℕ) (l : List ℕ). c ∷ b ∷ k ∷ x ∷ l) (sym long) (rest .lent .numbers);
         octets = sym (take-append-drop m o) ∙ ap (λ (l : List ℕ). take m o ++ l) (rest .lent .octets);
       };
-      ranges = (record { channel-is = f 0; ranges = rw long (g .0); octets-are = octets-take m o h }, rest .ranges);
+      ranges = (record { channel-is = f 0; ranges = rw long (g .0); octets-are = part-octets o 0 m h }, rest .ranges);
     }
 
 pub listed-good : (us : List Recorded) → AllInRange us → Good (numbersOf us) (length (octetsOf us))

@@ -1,4 +1,5 @@
 pub mod Acceptable
+pub mod OctetParts
 pub mod Answers
 pub mod Good
 pub mod Listing

@@ -1,6 +1,5 @@
 -- The walk that looks for stored units: what it has seen, one unit on, and why there are none where it stops.
 --
---   part-octets     a part of octets is octets
 --   Seen            what the walk keeps: the stored units before `at`, the latest first, their number and their channels
 --   seen-none       .. at first
 --   here-range      a header in range, with its octets behind it, is a stored unit in range
@@ -25,8 +24,8 @@ use mathlib.Core.List.{List, [], _∷_, _++_, append-nil, reverse, reverseAux, r
 use Prim.Native.Nat.{ℕ, _+_, _≤_, _<_}
 use native.Mathlib.Decide.{decLt}
 use native.Mathlib.Omega.{arith}
-use lib.ListN.{length, getD, take, drop, length-reverse, take-append-drop, length-drop, List·getD-eq-default, length-take}
-use lib.Seq.{getD-take, getD-drop, take-all}
+use lib.ListN.{length, take, drop, length-reverse, take-append-drop, length-drop}
+use lib.Seq.{take-all}
 use Rattle.octets.specs.Tests.{never}
 use Rattle.octets.specs.High.{fields, Fit}
 use Rattle.record.specs.Recorded.{Recorded, Octets, Ranges, InRange, flat}
@@ -36,17 +35,11 @@ use Rattle.record.specs.Walk.{UsedIs, unitsOf, AllStored, Fits, SurveyIs
 use Rattle.record.specs.declared.places.Used.{Used}
 use Rattle.record.specs.declared.reader.Survey.{Survey}
 use Rattle.record.specs.declared.unit.Header.{Header}
+use Rattle.record.proofs.OctetParts.{part-octets}
 use Rattle.record.proofs.Laying.{flat-append, laid-front, ranges-append}
 use Rattle.record.proofs.Backing.{units-append, units-turned}
 use Rattle.record.proofs.Ranking.{used-longer}
 use Rattle.record.proofs.Standing.{HeadIs, headNumbers, head-is, end-here, storedAt, stored-octets, stands}
-
-pub part-octets : (b : List ℕ) (k n : ℕ) → Octets b → Octets (take n (drop k b))
-part-octets b k n h i = by (decLt i n)
-  where
-    by : Dec (i < n) → getD (take n (drop k b)) i 0 < 256
-    by (yes l) = rw (getD-take n (drop k b) i 0 l, getD-drop k b i 0) (h (k + i))
-    by (no l) = rw (List·getD-eq-default (take n (drop k b)) 0 {n = i} (omega (arith, length-take n (drop k b)))) (omega arith)
 
 pub record Seen (b : List ℕ) (at n : ℕ) (u : Used) : Type 0 where
   pub past : List Stored

@@ -1,16 +1,14 @@
 -- The claims of specs/Claims.antt: there and back. What is written is the record of the list that was lent, and a record is that of one list.
 --
 --   numbers-small     the numbers of units in range have 16 bits
---   octets-append     octets behind octets
 --   octets-small      the octets of units in range are octets
 --   record-written    the writer writes a record, for the list that it is the record of
---   two-octets        10 80 are octets
 --   readBack, writtenBack, acceptsExactly, exampleTaken   the claims
 --
 -- Assumes nothing.
 use mathlib.Core.Path.{_≡_, refl, sym, ap, ap₂, _∙_}
 use mathlib.Core.Logic.{inl, inr}
-use mathlib.Core.List.{List, [], _∷_, _++_}
+use mathlib.Core.List.{List, [], _∷_}
 use Prim.Native.Nat.{ℕ, zero, suc, _+_, _-_, _*_}
 use native.Mathlib.Omega.{arith}
 use lib.ListN.{length, take}
@@ -22,6 +20,7 @@ use Rattle.record.specs.Trailer.{insert, used, trailerOctets, recordOf}
 use Rattle.record.specs.Call.{IsRecord, Contents, kept, broken, ReadLent, reading}
 use Rattle.record.specs.Claims.{Numbers, ReadBack, WrittenBack, WrittenBy, AcceptsExactly, ExampleTaken}
 use Rattle.record.proofs.Acceptable.{ranges-are}
+use Rattle.record.proofs.OctetParts.{octets-none, octets-cons, octets-append}
 use Rattle.record.proofs.Listing.{numbers-length, octets-length}
 use Rattle.record.proofs.Laying.{changed-small}
 use Rattle.record.proofs.Forming.{record-length}
@@ -41,14 +40,9 @@ numbers-small (u ∷ us) r (suc (suc zero)) = omega (arith, changed-small (u .ba
 numbers-small (u ∷ us) r (suc (suc (suc zero))) = omega (arith, r .0 .ranges .few)
 numbers-small (u ∷ us) r (suc (suc (suc (suc i)))) = numbers-small us (r .1) i
 
-octets-append : (a b : List ℕ) → Octets a → Octets b → Octets (a ++ b)
-octets-append [] b f g i = g i
-octets-append (x ∷ a) b f g zero = f zero
-octets-append (x ∷ a) b f g (suc i) = octets-append a b (λ j. f (suc j)) g i
-
 octets-small : (us : List Recorded) → AllInRange us → Octets (octetsOf us)
 unfolding flat
-octets-small [] r = λ i. omega arith
+octets-small [] r = octets-none
 octets-small (u ∷ us) r = octets-append (u .octets) (octetsOf us) (r .0 .octets-are) (octets-small us (r .1))
 
 -- over the record itself, which has the room
@@ -117,16 +111,11 @@ acceptsExactly s lent d q = (by (q .what) (q .ends), back)
 
 -- ---- the ticket's example
 
-two-octets : Octets (16 ∷ 128 ∷ [])
-two-octets zero = omega arith
-two-octets (suc zero) = omega arith
-two-octets (suc (suc i)) = omega arith
-
 pub exampleTaken : ExampleTaken
 unfolding flat total used insert
 exampleTaken before d room w =
     let u : Recorded = record { channel = 5; badge = 0; changed = 0; octets = 16 ∷ 128 ∷ [] } in
-    let range = ranges-are .one u .1 (omega arith, two-octets, (omega arith, omega arith, inr (inr (inl refl, refl)))) in
+    let range = ranges-are .one u .1 (omega arith, octets-cons 16 (128 ∷ []) (omega arith) (octets-cons 128 [] (omega arith) octets-none), (omega arith, omega arith, inr (inr (inl refl, refl)))) in
     let told = writes-told (5 ∷ 0 ∷ 0 ∷ 2 ∷ []) (16 ∷ 128 ∷ []) before (u ∷ []) (record { numbers = refl; octets = refl }) (range, tt)
     (omega arith) (omega arith) room in
     ap (λ (e : Ended ℕ (List ℕ)). e .answer) (writes-once (5 ∷ 0 ∷ 0 ∷ 2 ∷ []) (16 ∷ 128 ∷ []) before d _ w told)
