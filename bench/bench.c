@@ -27,12 +27,18 @@ static const char *const reasons[CASES] = {
                "init_rs_char. The fewer message octets there are, the more of the time that is.",
 };
 
-/* A code, libfec's tables for it, and words to be timed by turns; `out` is where both write. */
+/* A code, libfec's tables for it, and words to be timed by turns; `out` is where both write, and each has a list of places. */
 struct state {
     unsigned e;
     void *tables;
-    uint8_t word[WORDS][N], out[N];
+    uint8_t word[WORDS][N], out[N], places[KYTE_MOST_REPAIRS];
+    int their_places[2 * KYTE_MOST_REPAIRS]; /* libfec asks for 2e */
 };
+
+static int32_t receive(struct state *s, unsigned i)
+{
+    return kyte_receive(s->word[i], N, 0, s->e, s->out, N, s->places, sizeof s->places);
+}
 
 /* ---- the calls that are timed; libfec repairs in place, so that the word is first copied */
 
@@ -51,15 +57,14 @@ static void their_encode(void *at, unsigned i)
 
 static void our_receive(void *at, unsigned i)
 {
-    struct state *s = at;
-    kyte_receive(s->word[i % WORDS], N, 0, s->e, s->out, N);
+    receive(at, i % WORDS);
 }
 
 static void their_receive(void *at, unsigned i)
 {
     struct state *s = at;
     memcpy(s->out, s->word[i % WORDS], N);
-    decode_rs_char(s->tables, s->out, 0, 0);
+    decode_rs_char(s->tables, s->out, s->their_places, 0);
 }
 
 /* ---- the words */
@@ -69,9 +74,9 @@ static int is_case(struct state *s, unsigned i, int which)
 {
     static const int badge[CASES] = { KYTE_CLEAN, KYTE_CLEAN, KYTE_CORRECTED, KYTE_OUT_OF_REACH };
     uint8_t copy[N];
-    int32_t answer = kyte_receive(s->word[i], N, 0, s->e, s->out, N);
+    int32_t answer = receive(s, i);
     memcpy(copy, s->word[i], N);
-    int theirs = decode_rs_char(s->tables, copy, 0, 0);
+    int theirs = decode_rs_char(s->tables, copy, s->their_places, 0);
     return kyte_badge(answer) == badge[which] && (which == UNREACHED ? theirs < 0 : theirs == (which == WRONG ? (int)s->e : 0));
 }
 

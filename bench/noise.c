@@ -19,9 +19,9 @@ static const uint32_t widths[] = { 0, 8, 16 };
 /* The word, received with each width: adds 1 to the count of those with which it is called clean or corrected. */
 static void receive_noise(const uint8_t *word, size_t n, uint32_t e, unsigned *green)
 {
-    uint8_t repair[KYTE_LONGEST];
+    uint8_t repair[KYTE_LONGEST], places[KYTE_MOST_REPAIRS];
     for (size_t i = 0; i < WIDTHS; i++) {
-        int32_t answer = kyte_receive(word, n, widths[i], e, repair, sizeof repair);
+        int32_t answer = kyte_receive(word, n, widths[i], e, repair, sizeof repair, places, sizeof places);
         if (answer < 0) {
             printf("refused %d\n", kyte_refused(answer));
             exit(1);

@@ -1,7 +1,7 @@
 /*
- * A host in C: it sends units, a bad link damages them by a fixed pattern, and it receives them again and shows each badge. Then it
- * receives noise, which nobody sent, and shows why a unit without a check may not be trusted, whatever its badge says. Last it writes
- * what it received to the record of the call, and reads that back.
+ * A host in C: it sends units, a bad link damages them by a fixed pattern, and it receives them again and shows each badge and which
+ * octets were repaired. Then it receives noise, which nobody sent, and shows why a unit without a check may not be trusted, whatever its
+ * badge says. Last it writes what it received to the record of the call, and reads that back.
  * './kyte host' builds and runs it; examples/host.expected is what it prints.
  */
 #include "kyteblossom.h"
@@ -40,6 +40,9 @@ static const char *const refusals[] = {
     [KYTE_REFUSED_FORM] = "these are no units, or it is no record",
 };
 
+/* So many places of a unit are shown, and of the others how many there are. */
+#define SHOWN 8
+
 #define TRIPS (sizeof trips / sizeof *trips)
 #define MOST_UNITS (TRIPS + 3)
 
@@ -74,6 +77,21 @@ static void show_badge(int32_t answer, uint32_t width)
     printf("%-13s %7zu  %-7s  ", badges[kyte_badge(answer)], kyte_changed(answer), kyte_trusted(answer, width) ? "yes" : "no");
 }
 
+/*
+ * Prints what is handed up, and the changed places. With the badge 'check failed' they are those in which the code word that was found
+ * differs: it is not believed, and the unit is handed up as it was received.
+ */
+static void show_unit(const char *unit, int32_t answer, const uint8_t *places)
+{
+    size_t changed = kyte_changed(answer);
+    printf("%-17s ", unit);
+    for (size_t i = 0; i < changed && i < SHOWN; i++)
+        printf(" %u", (unsigned)places[i]);
+    if (changed > SHOWN)
+        printf(" and %zu more", changed - SHOWN);
+    printf("%s\n", changed ? "" : " -");
+}
+
 /* Keeps a unit that was handed up. */
 static void keep(struct kept *kept, uint16_t channel, int32_t answer, const uint8_t *unit)
 {
@@ -92,7 +110,7 @@ static void keep(struct kept *kept, uint16_t channel, int32_t answer, const uint
 static int is_deceived_by(const struct trip *t, struct kept *kept)
 {
     size_t length = strlen(t->unit);
-    uint8_t sent[KYTE_LONGEST], repair[KYTE_LONGEST];
+    uint8_t sent[KYTE_LONGEST], repair[KYTE_LONGEST], places[KYTE_MOST_REPAIRS];
 
     printf("%-21s %5u %4u %6zu  ", t->unit, (unsigned)t->width, (unsigned)t->e, t->wrong);
 
@@ -103,7 +121,7 @@ static int is_deceived_by(const struct trip *t, struct kept *kept)
     }
     damage(sent, (size_t)n, t->wrong);
 
-    int32_t answer = kyte_receive(sent, (size_t)n, t->width, t->e, repair, sizeof repair);
+    int32_t answer = kyte_receive(sent, (size_t)n, t->width, t->e, repair, sizeof repair, places, sizeof places);
     if (answer < 0) {
         show_refusal(answer);
         return 0;
@@ -112,7 +130,7 @@ static int is_deceived_by(const struct trip *t, struct kept *kept)
     keep(kept, CRANE, answer, unit);
     int is_same = kyte_unit_length(answer) == length && memcmp(unit, t->unit, length) == 0;
     show_badge(answer, t->width);
-    printf("%s\n", is_same ? "as it was sent" : "damaged");
+    show_unit(is_same ? "as it was sent" : "damaged", answer, places);
     return kyte_trusted(answer, t->width) && !is_same;
 }
 
@@ -122,17 +140,17 @@ static int is_deceived_by(const struct trip *t, struct kept *kept)
  */
 static int is_deceived_by_noise(uint32_t width, struct kept *kept)
 {
-    uint8_t noise[KYTE_LONGEST], repair[KYTE_LONGEST];
+    uint8_t noise[KYTE_LONGEST], repair[KYTE_LONGEST], places[KYTE_MOST_REPAIRS];
     uint32_t state = 1;
     for (size_t i = 0; i < sizeof noise; i++) {
         state = 1103515245 * state + 12345;
         noise[i] = (uint8_t)(state >> 16);
     }
-    int32_t answer = kyte_receive(noise, sizeof noise, width, 1, repair, sizeof repair);
+    int32_t answer = kyte_receive(noise, sizeof noise, width, 1, repair, sizeof repair, places, sizeof places);
     keep(kept, NOISE, answer, kyte_unit(answer, noise, repair));
     printf("%-21s %5u %4u %6s  ", "(noise)", (unsigned)width, 1u, "all");
     show_badge(answer, width);
-    printf("noise\n");
+    show_unit("noise", answer, places);
     return kyte_trusted(answer, width);
 }
 
@@ -163,7 +181,8 @@ int main(void)
     static struct kept kept;
     int deceived = 0;
 
-    printf("%-21s %5s %4s %6s  %-13s %7s  %-7s  %s\n", "unit", "check", "e", "wrong", "badge", "changed", "trusted", "what is handed up");
+    printf("%-21s %5s %4s %6s  %-13s %7s  %-7s  %-17s  %s\n", "unit", "check", "e", "wrong", "badge", "changed", "trusted",
+           "what is handed up", "changed places");
     for (size_t i = 0; i < TRIPS; i++)
         deceived += is_deceived_by(&trips[i], &kept);
     for (uint32_t width = 0; width <= 16; width += 8)

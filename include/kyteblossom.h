@@ -30,6 +30,9 @@ extern "C" {
 /* The longest sent unit, and so a size that is enough for `sent` and `repair`. */
 #define KYTE_LONGEST 255
 
+/* The most octets that can be repaired, and so a size that is enough for `places`. */
+#define KYTE_MOST_REPAIRS 127
+
 /* The longest record, in octets: 1,048,576 before the trailer, and the trailer. A size that is enough for `record`. */
 #define KYTE_LONGEST_RECORD 1048812
 #define KYTE_RECORD_TRAILER 236
@@ -69,12 +72,15 @@ int32_t kyte_length(size_t unit, uint32_t width, uint32_t e);
 int32_t kyte_encode(const uint8_t *unit, size_t unit_len, uint32_t width, uint32_t e, uint8_t *sent, size_t sent_len);
 
 /*
- * Decodes a sent unit of `received_len` octets. `repair` must have room for as many. If a code word differs from the received word in
- * at most `e` octets, it is written to the front of `repair`, and it is the only one; if none does, `repair` is unchanged.
+ * Decodes a sent unit of `received_len` octets. `repair` must have room for as many, and `places` for `e` entries. If a code word differs
+ * from the received word in at most `e` octets, it is the only one, and it is written to the front of `repair`; the places of the octets in
+ * which it differs, counted from 0 at the first octet of the word, are written to the front of `places`, ascending, as many as kyte_changed
+ * tells. If none does (badge 2), `repair` and `places` are unchanged. A place at or past kyte_unit_length is one of the check or the parity.
  * Answers the badge + 256 changed octets + 65,536 octets of the unit: kyte_badge, kyte_changed and kyte_unit_length take it apart,
- * kyte_unit says where the unit lies. Below 0: refused (1, then 2, then 3).
+ * kyte_unit says where the unit lies. Below 0: refused (1, then 2, then 3 where `repair` or `places` is too small).
  */
-int32_t kyte_receive(const uint8_t *received, size_t received_len, uint32_t width, uint32_t e, uint8_t *repair, size_t repair_len);
+int32_t kyte_receive(const uint8_t *received, size_t received_len, uint32_t width, uint32_t e, uint8_t *repair, size_t repair_len,
+                     uint8_t *places, size_t places_len);
 
 /*
  * The record of a call (docs/records.md): its units in order, then a trailer that says of each channel where its last unit lies, how many

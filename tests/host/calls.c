@@ -11,20 +11,22 @@
 #include <stdlib.h>
 #include <string.h>
 
-static struct lent in, out;
+static struct lent in, out, list;
 
 void calls_open(void)
 {
     lent_open(&in, 1);
     lent_open(&out, 1);
+    lent_open(&list, 1);
 }
 
 size_t rest_of(uint32_t width, uint32_t e) { return width / 8 + 2 * (size_t)e; }
 
 void fail(const struct call *c, const char *what, int32_t answer, int32_t expected)
 {
-    printf("DIFFERS at input %llu: %s of %zu octets, width %u, e %u, room %zu: %s; the answer is %d, expected %d\n",
-           (unsigned long long)tally[INPUT], c->name, c->n, (unsigned)c->width, (unsigned)c->e, c->room, what, (int)answer, (int)expected);
+    printf("DIFFERS at input %llu: %s of %zu octets, width %u, e %u, room %zu, list of %zu: %s; the answer is %d, expected %d\n",
+           (unsigned long long)tally[INPUT], c->name, c->n, (unsigned)c->width, (unsigned)c->e, c->room, c->entries, what, (int)answer,
+           (int)expected);
     for (size_t i = 0; c->octets && i < c->n && i < 255; i++)
         printf("%02X%s", c->octets[i], i % 32 == 31 ? "\n" : " ");
     printf("\n");
@@ -52,15 +54,23 @@ static void count_call(const struct call *c, int32_t answer, enum kind refused)
     tally_e[c->e]++;
 }
 
-static void count_room(const struct call *c, size_t needed)
+/* A buffer that was not too small; `exact` is the kind of those that have just what is needed. */
+static void count_room(size_t room, size_t needed, enum kind exact)
 {
-    tally[c->room == needed ? ROOM_EXACT : c->room < 65536 ? ROOM_MORE : ROOM_FAR]++;
+    tally[(int)exact + (room > needed) + (room >= 65536)]++;
 }
 
 static void count_received(const struct call *c, int32_t answer)
 {
     tally[BADGE + kyte_badge(answer)]++;
-    count_room(c, c->n);
+    if (kyte_badge(answer) == KYTE_CHECK_FAILED && kyte_changed(answer) > 0)
+        tally[FAILED_LISTED]++;
+    count_room(c->room, c->n, ROOM_EXACT);
+    count_room(c->entries, c->e, LIST_EXACT);
+    if (c->entries == 0)
+        tally[LIST_NONE]++;
+    if (c->entries == KYTE_MOST_REPAIRS)
+        tally[LIST_MOST]++;
     if (kyte_unit_length(answer) <= 3)
         tally[UNIT_SHORT]++;
     if (c->n >= 250)
@@ -69,7 +79,7 @@ static void count_received(const struct call *c, int32_t answer)
 
 /* ---- what is compared */
 
-/* The answer and all lent octets. */
+/* The answer and all octets that both kinds of call are lent. */
 static void check_call(const struct call *c, int32_t answer, int32_t expected)
 {
     if (answer != expected)
@@ -83,14 +93,25 @@ static void check_call(const struct call *c, int32_t answer, int32_t expected)
         fail(c, "the output or what lies around it is not as it should be", answer, expected);
 }
 
-/* What was sent is known, and at most e octets of it are wrong: it must be handed up. */
+static void check_received(const struct call *c, int32_t answer, int32_t expected)
+{
+    check_call(c, answer, expected);
+    if (!lent_is_kept(&list))
+        fail(c, "the list or what lies around it is not as it should be", answer, expected);
+}
+
+/* What was sent is known, and at most e octets of it are wrong: it must be handed up, and the list must have those octets. */
 static void check_sent(const struct call *c, int32_t answer)
 {
     int badge = c->wrong ? KYTE_CORRECTED : c->width == 0 && c->e == 0 ? KYTE_UNCHECKED : KYTE_CLEAN;
     size_t unit = c->n - rest_of(c->width, c->e);
+    int32_t expected = (int32_t)(65536 * unit + 256 * c->wrong) + badge;
+    uint8_t damaged[255];
     if (kyte_badge(answer) != badge || kyte_changed(answer) != c->wrong || kyte_unit_length(answer) != unit ||
         memcmp(kyte_unit(answer, in.at, out.at), c->sent, unit) || memcmp(out.at, c->sent, c->n))
-        fail(c, "it is not what was sent", answer, (int32_t)(65536 * unit + 256 * c->wrong) + badge);
+        fail(c, "it is not what was sent", answer, expected);
+    if (ref_differing(c->octets, c->sent, c->n, damaged) != c->wrong || memcmp(list.at, damaged, c->wrong))
+        fail(c, "the places are not those of the damaged octets", answer, expected);
 }
 
 /* The code words within one octet, tried one by one. */
@@ -128,7 +149,7 @@ const uint8_t *try_encode(struct call c)
     check_call(&c, answer, expected);
     if (answer < 0)
         return out.at;
-    count_room(&c, (size_t)answer);
+    count_room(c.room, (size_t)answer, ROOM_EXACT);
     if (memcmp(out.at, c.octets, c.n) || !ref_is_code_word(out.at, (size_t)answer, c.e))
         fail(&c, "what was written is no code word that begins with the unit", answer, expected);
     return out.at;
@@ -139,16 +160,17 @@ void try_receive(struct call c)
     c.name = "kyte_receive";
     lent_copy(&in, draw_place(), c.octets, c.n);
     lent_fill(&out, draw_place(), c.room);
-    int32_t expected = ref_receive(c.octets, c.n, c.width, c.e, lent_expected(&out), c.room);
-    int32_t answer = kyte_receive(in.at, c.n, c.width, c.e, out.at, c.room);
+    lent_fill(&list, draw_place(), c.entries);
+    int32_t expected = ref_receive(c.octets, c.n, c.width, c.e, lent_expected(&out), c.room, lent_expected(&list), c.entries);
+    int32_t answer = kyte_receive(in.at, c.n, c.width, c.e, out.at, c.room, list.at, c.entries);
     tally[RECEIVE_CALL]++;
     count_call(&c, expected, RECEIVE_REFUSED);
-    check_call(&c, answer, expected);
+    check_received(&c, answer, expected);
+    if (c.sent)
+        check_sent(&c, answer);
     if (answer < 0)
         return;
     count_received(&c, answer);
-    if (c.sent)
-        check_sent(&c, answer);
     if (c.e >= 1 && c.e <= 3 && c.n <= 10 && draw(0, 3) == 0)
         check_counted(&c, answer);
 }
@@ -157,8 +179,9 @@ void try_far(struct call c)
 {
     lent_fill(&in, AMID, 0);
     lent_fill(&out, draw_place(), c.room);
+    lent_fill(&list, draw_place(), c.entries);
     tally[INPUT] += 2;
     tally[LENGTH_FAR] += 2;
     check_call(&c, kyte_encode(c.octets, c.n, c.width, c.e, out.at, c.room), -KYTE_REFUSED_LENGTH);
-    check_call(&c, kyte_receive(c.octets, c.n, c.width, c.e, out.at, c.room), -KYTE_REFUSED_LENGTH);
+    check_received(&c, kyte_receive(c.octets, c.n, c.width, c.e, out.at, c.room, list.at, c.entries), -KYTE_REFUSED_LENGTH);
 }

@@ -14,7 +14,8 @@ struct call {
     const uint8_t *octets; /* the unit, or the received word */
     size_t n;
     uint32_t width, e;
-    size_t room; /* of the output */
+    size_t room;    /* of the output */
+    size_t entries; /* of the list of places, which kyte_receive alone is lent */
     const uint8_t *sent;
     size_t wrong;
 };

@@ -47,13 +47,19 @@ static size_t draw_length(uint32_t width, uint32_t e)
     }
 }
 
+/* Less room than is needed, often by one. */
+static size_t draw_too_little(size_t needed) { return draw(0, 1) ? needed - 1 : draw(0, needed - 1); }
+
 /* As much room as is needed, or more; sometimes so much that it would be too little if its high bits were lost. */
 static size_t draw_room(size_t needed)
 {
     if (draw(0, 199) == 0)
-        return 65536 + draw(0, 254);
+        return 65536 + (needed ? draw_too_little(needed) : 0);
     return draw(0, 1) ? needed : needed + draw(1, 40);
 }
+
+/* The entries of a list for e places: likewise, or as many as are enough for every e. */
+static size_t draw_entries(uint32_t e) { return draw(0, 3) ? draw_room(e) : KYTE_MOST_REPAIRS; }
 
 static uint32_t draw_bad_width(void)
 {
@@ -83,6 +89,12 @@ static size_t draw_bad_length(size_t good, size_t least, size_t most)
 
 /* ---- words */
 
+/* The word, to be received with enough room and entries. */
+static struct call receiving(const uint8_t *word, size_t n, uint32_t width, uint32_t e)
+{
+    return (struct call){ .octets = word, .n = n, .width = width, .e = e, .room = draw_room(n), .entries = draw_entries(e) };
+}
+
 /* Sends a drawn unit; its word, damaged in `wrong` octets, is received. */
 static void receive_sent(uint32_t width, uint32_t e, size_t n, size_t wrong)
 {
@@ -93,8 +105,10 @@ static void receive_sent(uint32_t width, uint32_t e, size_t n, size_t wrong)
     memcpy(word, sent, n);
     draw_damage(word, n, wrong);
     tally[wrong == 0 ? WORD_CLEAN : wrong < e ? WORD_WITHIN : wrong == e ? WORD_E : WORD_PAST]++;
-    try_receive((struct call){ .octets = word, .n = n, .width = width, .e = e, .room = draw_room(n),
-                               .sent = wrong <= e ? sent : 0, .wrong = wrong });
+    struct call c = receiving(word, n, width, e);
+    c.sent = wrong <= e ? sent : 0;
+    c.wrong = wrong;
+    try_receive(c);
 }
 
 static void receive_drawn(uint32_t width, uint32_t e, size_t n)
@@ -102,7 +116,7 @@ static void receive_drawn(uint32_t width, uint32_t e, size_t n)
     uint8_t word[255];
     draw_octets(word, n);
     tally[WORD_DRAWN]++;
-    try_receive((struct call){ .octets = word, .n = n, .width = width, .e = e, .room = draw_room(n) });
+    try_receive(receiving(word, n, width, e));
 }
 
 /* A code word in which the octets at the check's place are drawn, damaged in at most e octets. */
@@ -115,7 +129,7 @@ static void receive_bad_check(uint32_t e)
     ref_encode(unit, n - 2 * e, 0, e, word, n);
     draw_damage(word, n, draw(0, e));
     tally[WORD_BAD_CHECK]++;
-    try_receive((struct call){ .octets = word, .n = n, .width = width, .e = e, .room = draw_room(n) });
+    try_receive(receiving(word, n, width, e));
 }
 
 /*
@@ -131,7 +145,7 @@ static void receive_beyond(uint32_t width, uint32_t e)
     ref_encode(unit, extra + n - 2 * e, 0, e, longer, extra + n);
     draw_damage(longer + extra, n, draw(0, e - wrong));
     tally[WORD_BEYOND]++;
-    try_receive((struct call){ .octets = longer + extra, .n = n, .width = width, .e = e, .room = draw_room(n) });
+    try_receive(receiving(longer + extra, n, width, e));
 }
 
 static void receive_one(void)
@@ -171,24 +185,26 @@ struct example {
     size_t n;
     uint32_t width, e;
     int32_t badge, changed, unit;
+    uint8_t places[2]; /* as many as changed tells: where A4 differs from A3, and A6 from A5 */
 };
 
 static const struct example examples[] = {
-    { "A3", { 0x10, 0x80, 0xF5, 0x4E, 0xCD, 0x57, 0xA5 }, 7, 8, 2, KYTE_CLEAN, 0, 2 },
-    { "A4", { 0x00, 0x00, 0xF5, 0x4E, 0xCD, 0x57, 0xA5 }, 7, 8, 2, KYTE_CORRECTED, 2, 2 },
-    { "A5", { 0x01, 0x06, 0x08 }, 3, 0, 1, KYTE_CLEAN, 0, 1 },
-    { "A6", { 0x01, 0x06, 0x00 }, 3, 0, 1, KYTE_CORRECTED, 1, 1 },
-    { "A7", { 0x01, 0x0C, 0x18 }, 3, 0, 1, KYTE_OUT_OF_REACH, 0, 1 },
-    { "A8", { 0x10, 0x80, 0xAF }, 3, 8, 0, KYTE_CHECK_FAILED, 0, 2 },
+    { "A3", { 0x10, 0x80, 0xF5, 0x4E, 0xCD, 0x57, 0xA5 }, 7, 8, 2, KYTE_CLEAN, 0, 2, { 0 } },
+    { "A4", { 0x00, 0x00, 0xF5, 0x4E, 0xCD, 0x57, 0xA5 }, 7, 8, 2, KYTE_CORRECTED, 2, 2, { 0, 1 } },
+    { "A5", { 0x01, 0x06, 0x08 }, 3, 0, 1, KYTE_CLEAN, 0, 1, { 0 } },
+    { "A6", { 0x01, 0x06, 0x00 }, 3, 0, 1, KYTE_CORRECTED, 1, 1, { 2 } },
+    { "A7", { 0x01, 0x0C, 0x18 }, 3, 0, 1, KYTE_OUT_OF_REACH, 0, 1, { 0 } },
+    { "A8", { 0x10, 0x80, 0xAF }, 3, 8, 0, KYTE_CHECK_FAILED, 0, 2, { 0 } },
 };
 
 /* The second implementation is held to the document, and the library to both. */
 static void try_example(const struct example *x)
 {
-    uint8_t repair[7];
-    struct call c = { .name = x->name, .octets = x->word, .n = x->n, .width = x->width, .e = x->e, .room = x->n };
-    int32_t expected = x->badge + 256 * x->changed + 65536 * x->unit, answer = ref_receive(c.octets, c.n, c.width, c.e, repair, c.room);
-    if (answer != expected)
+    uint8_t repair[7], places[2];
+    struct call c = { .name = x->name, .octets = x->word, .n = x->n, .width = x->width, .e = x->e, .room = x->n, .entries = x->e };
+    int32_t expected = x->badge + 256 * x->changed + 65536 * x->unit;
+    int32_t answer = ref_receive(c.octets, c.n, c.width, c.e, repair, c.room, places, c.entries);
+    if (answer != expected || memcmp(places, x->places, (size_t)x->changed))
         fail(&c, "the second implementation answers otherwise than the document", answer, expected);
     tally[EXAMPLE]++;
     try_receive(c);
@@ -196,6 +212,7 @@ static void try_example(const struct example *x)
         return;
     struct call sending = c;
     sending.n = (size_t)x->unit;
+    sending.entries = 0;
     if (memcmp(try_encode(sending), x->word, x->n))
         fail(&c, "the unit is sent otherwise than in the document", answer, expected);
 }
@@ -223,20 +240,36 @@ static void spoil_setting(struct call *c)
     tally[kinds[which]]++;
 }
 
+/* Why a call is refused; LIST is of kyte_receive alone, and of an e that is not 0. */
+enum { SETTING = 1, LENGTH = 2, ROOM = 4, LIST = 8 };
+
+/* Too little room, too few entries, or both. */
+static void spoil_room(struct call *c, size_t needed, size_t reasons)
+{
+    if (reasons & ROOM && needed > 0) {
+        c->room = draw_too_little(needed);
+        tally[ROOM_UNDER]++;
+    }
+    if (reasons & LIST) {
+        c->entries = draw_too_little(c->e);
+        tally[LIST_UNDER]++;
+    }
+    if (reasons & LIST && c->room < needed)
+        tally[BOTH_UNDER]++;
+}
+
 /* A call that is refused for one reason or for several. */
 static void refuse_one(int is_encoding)
 {
     static uint8_t octets[70000];
-    enum { SETTING = 1, LENGTH = 2, ROOM = 4 };
-    uint32_t e = draw_e(), width = draw_width(e);
-    size_t reasons = draw(1, 7), rest = rest_of(width, e), added = is_encoding ? rest : 0, n = draw_length(width, e) - added;
+    size_t reasons = draw(SETTING, is_encoding ? LIST - 1 : 2 * LIST - 1);
+    uint32_t drawn = draw_e(), e = drawn == 0 && reasons & LIST ? 1 : drawn, width = draw_width(e);
+    size_t rest = rest_of(width, e), added = is_encoding ? rest : 0, n = draw_length(width, e) - added;
     if (reasons & LENGTH)
         n = draw_bad_length(n, is_encoding ? 1 : 1 + rest, 255 - added);
-    struct call c = { .octets = octets, .n = n, .width = width, .e = e, .room = draw_room(n + added) };
-    if (reasons & ROOM && n + added > 0) {
-        c.room = draw(0, n + added - 1);
-        tally[ROOM_UNDER]++;
-    }
+    struct call c = { .octets = octets, .n = n, .width = width, .e = e, .room = draw_room(n + added),
+                      .entries = is_encoding ? 0 : draw_entries(e) };
+    spoil_room(&c, n + added, reasons);
     if (reasons & SETTING)
         spoil_setting(&c);
     if (reasons & (reasons - 1))
@@ -272,7 +305,8 @@ static void refuse_far(void)
     }
     for (int i = 0; i < 500; i++) {
         uint32_t e = draw_e(), width = draw_width(e);
-        try_far((struct call){ .name = "a far length", .octets = octets, .n = far + draw_length(width, e), .width = width, .e = e, .room = 255 });
+        try_far((struct call){ .name = "a far length", .octets = octets, .n = far + draw_length(width, e), .width = width, .e = e,
+                               .room = KYTE_LONGEST, .entries = e });
     }
     munmap(octets, far + 255);
 }

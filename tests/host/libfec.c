@@ -1,7 +1,8 @@
 /*
  * The C entries against libfec (Debian's libfec-dev), an implementation by other authors: libfec [SEED].
  *
- * Units are sent by both, and words received by both, without a check. They must agree on every word within e octets of a code word.
+ * Units are sent by both, and words received by both, without a check. They must agree on every word within e octets of a code word, and
+ * on the places of the octets that they repair.
  * Where the library says out of reach, what libfec calls corrected is only counted, after a test that it is no code word within e.
  */
 #include "draw.h"
@@ -53,20 +54,33 @@ static void send(const struct code *c, uint8_t *word)
     units++;
 }
 
+static int by_place(const void *a, const void *b) { return *(const int *)a - *(const int *)b; }
+
+/* Whether the places that libfec tells, in any order, are those of the list. */
+static int is_listed(int *theirs, size_t count, const uint8_t *ours)
+{
+    size_t i = 0;
+    qsort(theirs, count, sizeof *theirs, by_place);
+    while (i < count && theirs[i] == ours[i])
+        i++;
+    return i == count;
+}
+
 /* Receives a word by both. */
 static void receive(const struct code *c, const uint8_t *word)
 {
-    uint8_t ours[255], theirs[255];
-    size_t differ = 0;
+    uint8_t ours[255], theirs[255], places[KYTE_MOST_REPAIRS], differing[255];
+    int their_places[2 * KYTE_MOST_REPAIRS]; /* libfec asks for 2e */
     memcpy(theirs, word, c->n);
-    int32_t answer = kyte_receive(word, c->n, 0, c->e, ours, c->n);
-    int corrected = decode_rs_char(c->tables, theirs, 0, 0);
-    for (size_t i = 0; i < c->n; i++)
-        differ += theirs[i] != word[i];
+    int32_t answer = kyte_receive(word, c->n, 0, c->e, ours, c->n, places, sizeof places);
+    int corrected = decode_rs_char(c->tables, theirs, their_places, 0);
+    size_t differ = ref_differing(theirs, word, c->n, differing);
     if (kyte_badge(answer) == KYTE_CLEAN || kyte_badge(answer) == KYTE_CORRECTED) {
         within++;
         if (corrected < 0 || (size_t)corrected != kyte_changed(answer) || memcmp(ours, theirs, c->n))
             fail(c, "another repair");
+        if (!is_listed(their_places, (size_t)corrected, places))
+            fail(c, "other places");
         return;
     }
     past++;

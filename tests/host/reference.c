@@ -186,8 +186,17 @@ static void amend(uint8_t *w, size_t n, const size_t *place, int v)
     }
 }
 
-/* The code word within e octets, if there is one: how many octets differ, or -1. */
-static int repair(const uint8_t *w, size_t n, unsigned e, uint8_t *out)
+size_t ref_differing(const uint8_t *a, const uint8_t *b, size_t n, uint8_t *places)
+{
+    size_t count = 0;
+    for (size_t p = 0; p < n; p++)
+        if (a[p] != b[p])
+            places[count++] = (uint8_t)p;
+    return count;
+}
+
+/* The code word within e octets, if there is one, and the places in which it differs: how many these are, or -1. */
+static int repair(const uint8_t *w, size_t n, unsigned e, uint8_t *out, uint8_t *places)
 {
     if (ref_is_code_word(w, n, e)) {
         memcpy(out, w, n);
@@ -204,18 +213,17 @@ static int repair(const uint8_t *w, size_t n, unsigned e, uint8_t *out)
                 return -1;
             place[v++] = p;
         }
-    uint8_t c[255] = { 0 };
+    uint8_t c[255] = { 0 }, differing[255];
     memcpy(c, w, n);
     amend(c, n, place, v);
     if (!ref_is_code_word(c, n, e))
         return -1;
-    int differ = 0;
-    for (size_t p = 0; p < n; p++)
-        differ += c[p] != w[p];
-    if (differ > (int)e)
+    size_t count = ref_differing(c, w, n, differing);
+    if (count > e)
         return -1;
     memcpy(out, c, n);
-    return differ;
+    memcpy(places, differing, count);
+    return (int)count;
 }
 
 /* ---- the checks (000, 7.3.3.2.3 and 7.4.3.2.3), bit by bit: bit 1 of the first octet is the highest coefficient */
@@ -290,18 +298,19 @@ int32_t ref_encode(const uint8_t *unit, size_t t, uint32_t width, uint32_t e, ui
     return n;
 }
 
-int32_t ref_receive(const uint8_t *received, size_t n, uint32_t width, uint32_t e, uint8_t *out, size_t out_len)
+int32_t ref_receive(const uint8_t *received, size_t n, uint32_t width, uint32_t e, uint8_t *out, size_t out_len, uint8_t *places,
+                    size_t places_len)
 {
     if (!is_setting(width, e))
         return -1;
     size_t l = width / 8, rest = l + 2 * (size_t)e;
     if (n > 255 || n < 1 + rest)
         return -2;
-    if (out_len < n)
+    if (out_len < n || places_len < e)
         return -3;
     size_t t = n - rest;
     int32_t length = (int32_t)(65536 * t);
-    int changed = repair(received, n, e, out);
+    int changed = repair(received, n, e, out, places);
     if (changed < 0)
         return length + 2;
     uint8_t check[2] = { 0, 0 };

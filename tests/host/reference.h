@@ -14,7 +14,11 @@ void ref_init(void);
 /* The answers of kyte_length, kyte_encode and kyte_receive. */
 int32_t ref_length(size_t unit, uint32_t width, uint32_t e);
 int32_t ref_encode(const uint8_t *unit, size_t unit_len, uint32_t width, uint32_t e, uint8_t *sent, size_t sent_len);
-int32_t ref_receive(const uint8_t *received, size_t n, uint32_t width, uint32_t e, uint8_t *repair, size_t repair_len);
+int32_t ref_receive(const uint8_t *received, size_t n, uint32_t width, uint32_t e, uint8_t *repair, size_t repair_len, uint8_t *places,
+                    size_t places_len);
+
+/* The places in which two words of n octets differ, from 0 at the first octet and ascending, go to `places`: how many there are. */
+size_t ref_differing(const uint8_t *a, const uint8_t *b, size_t n, uint8_t *places);
 
 /* Whether g divides the word. */
 int ref_is_code_word(const uint8_t *word, size_t n, unsigned e);

@@ -6,7 +6,7 @@
 
 #include <stdint.h>
 
-/* Each kind with its name. Those that stand for a row of numbers (a refusal, a width, a badge, a place) are in that order. */
+/* Each kind with its name. Those that stand for a row of numbers (a refusal, a width, a badge, a place, a size) are in that order. */
 #define KINDS                                                                          \
     KIND(INPUT, "inputs in all")                                                       \
     KIND(LENGTH_CALL, "calls of kyte_length")                                          \
@@ -36,6 +36,7 @@
     KIND(BADGE_2, "badge 2, out of reach")                                             \
     KIND(BADGE_3, "badge 3, check failed")                                             \
     KIND(BADGE_4, "badge 4, unchecked")                                                \
+    KIND(FAILED_LISTED, "badge 3, check failed, with places")                          \
     KIND(LENGTH_REFUSED, "kyte_length refuses 1")                                      \
     KIND(LENGTH_REFUSED_2, "kyte_length refuses 2")                                    \
     KIND(ENCODE_REFUSED, "kyte_encode refuses 1")                                      \
@@ -52,10 +53,17 @@
     KIND(LENGTH_OVER, "length too long")                                               \
     KIND(LENGTH_FAR, "length in range but for its high bits")                          \
     KIND(ROOM_UNDER, "output too small")                                               \
+    KIND(LIST_UNDER, "list of places too short")                                       \
+    KIND(BOTH_UNDER, "output too small and list too short")                            \
     KIND(SEVERAL, "several reasons to refuse")                                         \
     KIND(ROOM_EXACT, "output just large enough")                                       \
     KIND(ROOM_MORE, "output larger than needed")                                       \
     KIND(ROOM_FAR, "output of 65,536 octets and more")                                 \
+    KIND(LIST_EXACT, "list of just e entries")                                         \
+    KIND(LIST_MORE, "list of more than e entries")                                     \
+    KIND(LIST_FAR, "list of 65,536 entries and more")                                  \
+    KIND(LIST_MOST, "list of 127 entries")                                             \
+    KIND(LIST_NONE, "list of no entry")                                                \
     KIND(PLACED, "buffers amid guard octets")                                          \
     KIND(PLACED_END, "buffers before a page without access")                           \
     KIND(PLACED_START, "buffers after a page without access")                          \

@@ -33,14 +33,15 @@ def call():
     near, far, noise = end(), end(), noises()
     payloads = octets = damaged = differs = 0
     table = {n: [0] * 7 for n in UNITS}  # units, the five badges, octets repaired
+    example = []
 
     def take(channel, whole):
         if channel in AL1M:
-            return model.receive(whole, *AL1M[channel], 255)
+            return model.receive(whole, *AL1M[channel], 255, 127)
         if channel == 0:
-            return 4, 0, whole
+            return 4, whole, []
         badge, _, content = far.take(channel, True, whole)
-        return badge, 0, content
+        return badge, content, []
 
     for round_ in range(ROUNDS):
         for n in UNITS:
@@ -63,18 +64,29 @@ def call():
                         payload[k] ^= x // 24 % 255 + 1
                         damaged += 1
                 for n, whole in far.demux(code, mark, payload, 1280, 255):
-                    badge, changed, content = take(n, whole)
+                    badge, content, places = take(n, whole)
                     row = table[n]
                     row[0] += 1
                     row[1 + badge] += 1
-                    row[6] += changed if badge == 1 else 0
+                    row[6] += len(places) if badge == 1 else 0
                     differs += badge in (0, 1) and content != unit(n, round_)
-    return payloads, octets, damaged, table, differs
+                    if not example and (n, badge, len(places)) == (1, 1, 2):
+                        example = shown(whole, model.encode(unit(n, round_), *AL1M[n], 255), places)
+    return payloads, octets, damaged, table, differs, example
+
+
+def shown(received, sent, places):
+    """A unit as it came and as it was sent, and marks below what was repaired."""
+    def spelt(word):
+        return ''.join(' %02X' % o for o in word)
+    marks = ''.join(' ^^' if k in places else '   ' for k in range(places[-1] + 1))
+    return ['A damaged unit of channel 1: the octets at places %s, counted from 0, were repaired.' % ','.join(map(str, places)), '',
+            '  received' + spelt(received), '  repaired' + spelt(sent), '          ' + marks, '']
 
 
 def text():
-    payloads, octets, damaged, table, differs = call()
-    lines = ['A call: %d payloads, %d octets on the way, %d of them damaged.' % (payloads, octets, damaged), '',
+    payloads, octets, damaged, table, differs, example = call()
+    lines = example + ['A call: %d payloads, %d octets on the way, %d of them damaged.' % (payloads, octets, damaged), '',
              'channel  layer               units  clean  corrected  out of reach  check failed  unchecked  octets repaired']
     lines += ['%7d  %-19s%6d%7d%11d%14d%14d%11d%17d' % (n, LAYERS[n], *table[n]) for n in table]
     lines += ['', 'Units with a green badge (clean or corrected) that differ from what was sent: %s.' % (differs or 'none')]

@@ -133,13 +133,14 @@ def nearest(word, e):
             if value(slope, x) == 0:
                 return None
             found[len(word) - 1 - place] ^= product(value(now, x), inverse(value(slope, x)))
-    if any(syndromes(found, e)) or differing(word, found) > e:
+    if any(syndromes(found, e)) or len(differing(word, found)) > e:
         return None
     return found
 
 
 def differing(a, b):
-    return sum(x != y for x, y in zip(a, b))
+    """The places, from 0, at which two words differ."""
+    return [k for k in range(len(a)) if a[k] != b[k]]
 
 
 # The checks: bit 1 of the first octet is the highest coefficient
@@ -191,22 +192,22 @@ def encode(unit, width, e, room):
     return code_word(unit + check(unit, width), e)
 
 
-def receive(word, width, e, room):
-    """Badge, changed and unit."""
+def receive(word, width, e, room, list_room):
+    """Badge, unit and changed places."""
     refuse_if(width not in (0, 8, 16) or e > 127, 1)
     l, n = width // 8, len(word)
     refuse_if(n > 255 or n < 1 + l + 2 * e, 2)
-    refuse_if(room < n, 3)
+    refuse_if(room < n or list_room < e, 3)
     t = n - l - 2 * e
     found = nearest(word, e)
     if found is None:
-        return 2, 0, word[:t]
-    changed = differing(word, found)
+        return 2, word[:t], []
+    places = differing(word, found)
     if check(found[:t], width) != found[t:t + l]:
-        return 3, changed, word[:t]
-    if changed:
-        return 1, changed, found[:t]
-    return (4 if e == 0 and l == 0 else 0), 0, word[:t]
+        return 3, word[:t], places
+    if places:
+        return 1, found[:t], places
+    return (4 if e == 0 and l == 0 else 0), word[:t], []
 
 
 def decimal(digits):
@@ -479,14 +480,16 @@ def answer(g, line):
         counted(3)
         width, e, t = [number(a) for a in args]
         return ['length %d' % sent_length(t, width, e)]
-    if name in ('encode', 'receive'):
+    if name == 'encode':
         counted(3, 5)
         width, e, o = number(args[0]), number(args[1]), octets(args[2])
         room, = tail(args[3:], 'room', 1, [255])
-        if name == 'encode':
-            return ['sent ' + spell(encode(o, width, e, room))]
-        badge, changed, unit = receive(o, width, e, room)
-        return ['badge %d changed %d unit %s' % (badge, changed, spell(unit))]
+        return ['sent ' + spell(encode(o, width, e, room))]
+    if name == 'receive':
+        counted(3, 6)
+        width, e, o = number(args[0]), number(args[1]), octets(args[2])
+        badge, unit, places = receive(o, width, e, *tail(args[3:], 'room', 2, [255, 127]))
+        return ['badge %d changed %d unit %s at %s' % (badge, len(places), spell(unit), ','.join(map(str, places)) or '-')]
     if name == 'al1':
         counted(1)
         o = octets(args[0])

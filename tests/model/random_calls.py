@@ -39,8 +39,9 @@ def coded(source):
     unit = list(source.randbytes(source.randint(1, 40)))
     if source.random() < 0.2:
         return 'encode %d %d %s' % (width, e, model.spell(unit))
-    word = model.encode(unit, width, e, 255)
-    return 'receive %d %d %s' % (width, e, model.spell(damaged(source, word, e + 2)))
+    word = damaged(source, model.encode(unit, width, e, 255), e + 2)
+    room = ' room %d %d' % (source.randint(max(0, len(word) - 1), len(word) + 1), source.randint(max(0, e - 1), e + 1))
+    return 'receive %d %d %s' % (width, e, model.spell(word)) + (room if source.random() < 0.3 else '')
 
 
 def numbered(source):

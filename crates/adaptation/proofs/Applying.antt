@@ -24,9 +24,10 @@ use borrow.Author.Tests.{le-leb, leb-true, eqb-true}
 use lib.Dec.{T, leb, ltb, eqb}
 use lib.ListN.{length, take, drop, length-append}
 use lib.Seq.{take-at, drop-at}
-use Rattle.octets.specs.Exact.{chain, both-of, is-true, is-false, denied, less, two-at-most, equal}
+use Rattle.octets.specs.Exact.{chain, both-of, is-true, is-false, denied, less, two-at-most, either-over, equal}
 use Rattle.octets.specs.Same.{same, same-self, same-equal}
 use Rattle.octets.specs.Tests.{both-true, never}
+use Rattle.codeword.specs.Repair.{RepairLent, hasRoom}
 use Rattle.calls.specs.Refusal.{told, _when_, refusal, Gives}
 use Rattle.calls.proofs.Laws.{given-exactly}
 use Rattle.adaptation.specs.Bits.{octetsOf}
@@ -133,8 +134,8 @@ module _ (s r x : Bool) where
   third : {A : Type 0} → x ≡ true ↔ A → Gives (al1mTests s r x) 3 ↔ ((s ≡ true) × ((r ≡ true) × A))
   third q = chain (given-exactly 3 (al1mTests s r x) refl) (both-of (is-true s) (both-of (is-true r) q))
 
-pub of-al1m : (t n b e k : ℕ) → OfAL1M t n b e k
-of-al1m t n b e k =
+pub of-al1m : (t n b e k : ℕ) (lent : RepairLent) → OfAL1M t n b e k lent
+of-al1m t n b e k lent =
     let s = isSetting b e in
     let r = isSendable t b e in
     let x = ltb k (sentOctets t b e) in
@@ -146,9 +147,9 @@ of-al1m t n b e k =
       encode1 = first s r x;
       encode2 = second s r x;
       encode3 = third s r x (less k (sentOctets t b e));
-      receive1 = first s w (ltb k n);
-      receive2 = second s w (ltb k n);
-      receive3 = third s w (ltb k n) (less k n);
+      receive1 = first s w (not (hasRoom n e lent));
+      receive2 = second s w (not (hasRoom n e lent));
+      receive3 = third s w (not (hasRoom n e lent)) (either-over n (length (lent .repair)) e (length (lent .places)));
     }
 
 pub unit-not : (u : List ℕ) → not (isUnit 1024 u) ≡ true ↔ ((1 ≤ length u) × (length u ≤ 1024) → ⊥)

@@ -2,6 +2,7 @@
 --
 --   passed, word-is       what is known of a word that is not refused
 --   changed-found         where a code word lies within e octets: how many octets differ
+--   places-found          .. and which
 --   badge-sent            .. the badge, where its check agrees
 --   unit-found            .. and the unit that is handed up
 --   badge-exactly         each badge is given exactly for what it is to be given for
@@ -10,21 +11,23 @@
 --
 -- Assumes nothing.
 use mathlib.Core.Path.{_≡_, refl, sym, ap, ap₂, _∙_, subst}
-use mathlib.Core.Bool.{Bool, true, false}
+use mathlib.Core.Bool.{Bool, true, false, not}
 use mathlib.Core.List.{List}
 use Prim.Native.Nat.{ℕ, zero, suc, _+_, _-_, _*_, _≤_}
 use native.Mathlib.Omega.{arith}
-use borrow.Author.Tests.{ltb-false, eqb-true}
-use lib.Dec.{eqb, ltb}
+use borrow.Author.Tests.{leb-true, eqb-true}
+use lib.Dec.{leb, eqb}
 use lib.ListN.{length, take}
 use lib.Seq.{take-take}
+use Rattle.octets.specs.Exact.{is-true}
 use Rattle.octets.specs.Tests.{both-true, never}
-use Rattle.octets.specs.Written.{written, written-front}
 use Rattle.codeword.specs.CodeWord.{CodeWord, distance, Within, longestWord}
-use Rattle.codeword.specs.Repair.{reads, Repaired, FoundIs, OutOfReachIs}
+use Rattle.codeword.specs.Changed.{changedPlaces}
+use Rattle.codeword.specs.Claims.{Shows}
+use Rattle.codeword.specs.Repair.{RepairLent, hasRoom, reads, Repaired, FoundIs, OutOfReachIs}
 use Rattle.codeword.specs.declared.Reach.{Reach}
 use Rattle.codeword.specs.declared.Reach.the-variants as reach
-use Rattle.codeword.proofs.Laws.{distance-self, distance-zero, reads-true, neverSecond, withoutParity}
+use Rattle.codeword.proofs.Laws.{distance-self, distance-zero, reads-true, foundIsIt, withoutParity}
 use Rattle.calls.specs.Refusal.{told, refusal}
 use Rattle.adaptation.specs.Check.{none, agrees}
 use Rattle.adaptation.specs.Width.{kindAt}
@@ -41,33 +44,32 @@ use Rattle.adaptation.proofs.Settings.{word-all}
 
 -- ---- what is known of a word that is not refused
 
-module _ (n e : ℕ) (w before : List ℕ) (allowed : refusal (receiveTests (length w) n e (length before)) ≡ told tt) where
-  pub passed : (isSetting n e ≡ true) × (isWord (length w) n e ≡ true) × (ltb (length before) (length w) ≡ false)
-  passed = refused-none (isSetting n e) (isWord (length w) n e) (ltb (length before) (length w)) allowed
+module _ (n e : ℕ) (w : List ℕ) (before : RepairLent) (allowed : refusal (receiveTests (length w) n e before) ≡ told tt) where
+  pub passed : (isSetting n e ≡ true) × (isWord (length w) n e ≡ true) × (hasRoom (length w) e before ≡ true)
+  passed =
+      let p = refused-none (isSetting n e) (isWord (length w) n e) (not (hasRoom (length w) e before)) allowed in
+      (p .0, p .1, is-true (hasRoom (length w) e before) .0 (p .2))
 
-  pub word-is : (length w ≤ longestWord) × (1 + kindAt n .octets + 2 * e ≤ length w) × (length w ≤ length before)
+  rooms : (leb (length w) (length (before .repair)) ≡ true) × (leb e (length (before .places)) ≡ true)
+  rooms = both-true (leb (length w) (length (before .repair))) (leb e (length (before .places))) (passed .2)
+
+  pub word-is : (length w ≤ longestWord) × (1 + kindAt n .octets + 2 * e ≤ length w) × (length w ≤ length (before .repair))
   word-is =
       let b = word-all (length w) n e (passed .1) in
-      (b .0, b .1, ltb-false (length before) (length w) (passed .2))
+      (b .0, b .1, leb-true (length w) (length (before .repair)) (rooms .0))
 
-  fits : reads (length w) e (length before) ≡ true
-  fits = reads-true (length w) e (length before) (word-is .0) (omega (arith, word-is .1)) (word-is .2)
+  fits : reads (length w) e before ≡ true
+  fits =
+      reads-true (length w) e before (word-is .0) (omega (arith, word-is .1)) (word-is .2) (leb-true e (length (before .places)) (rooms .1))
 
 -- ---- what was found, by what it is within
 
-module _ (e : ℕ) (w before after c : List ℕ) (short : length w ≤ longestWord) (room : length w ≤ length before) (k : ℕ) (f : FoundIs e w before k after)
-    (h : Within e w c) where
-  found-same : f .found ≡ c
-  found-same = neverSecond e w (f .found) c short (f .within) h
+module _ (e : ℕ) (w : List ℕ) (before after : RepairLent) (c : List ℕ) (k : ℕ) (f : FoundIs e w before k after) (h : Within e w c) where
+  shown : Shows w c before k after
+  shown = foundIsIt e w before after k f c h
 
-  found-count : k ≡ distance w c
-  found-count = f .count ∙ ap (distance w) found-same
-
-  found-front : (i : ℕ) → i ≤ length w → take i after ≡ take i c
-  found-front i l =
-      let front : take (length w) after ≡ c =
-      ap₂ take (sym (h .long)) (f .written-is ∙ ap (written before 0) found-same) ∙ written-front before c (omega (arith, h .long)) in
-      sym (take-take i (length w) after l) ∙ ap (take i) front
+  found-front : (i : ℕ) → i ≤ length w → take i (after .repair) ≡ take i c
+  found-front i l = sym (take-take i (length w) (after .repair) l) ∙ ap (take i) (shown .word)
 
 -- ---- the badge, undone
 
@@ -100,17 +102,14 @@ chosen b (suc k) t w after c z h = h
 
 -- ---- what is handed up
 
-module _ (n e : ℕ) (w before after : List ℕ) (j : Judgement) (allowed : refusal (receiveTests (length w) n e (length before)) ≡ told tt)
+module _ (n e : ℕ) (w : List ℕ) (before after : RepairLent) (j : Judgement) (allowed : refusal (receiveTests (length w) n e before) ≡ told tt)
     (h : HandedIs (kindAt n) e w before j after) where
   abbrev bare : Bool
   bare = isBare (kindAt n) e
 
   -- whether the check in what stands in the lent octets agrees
   abbrev good : Bool
-  good = agrees (kindAt n) (take (length w - 2 * e) after)
-
-  known : (length w ≤ longestWord) × (1 + kindAt n .octets + 2 * e ≤ length w) × (length w ≤ length before)
-  known = word-is n e w before allowed
+  good = agrees (kindAt n) (take (length w - 2 * e) (after .repair))
 
   as-found : (k : ℕ) → h .reach ≡ reach.Found k → FoundIs e w before k after
   as-found k q = subst (λ (x : Reach). Repaired e w before x after) q (h .repaired)
@@ -131,11 +130,11 @@ module _ (n e : ℕ) (w before after : List ℕ) (j : Judgement) (allowed : refu
     unfolding count
     f = as-found count (has-found c near .1)
 
-    front : (i : ℕ) → i ≤ length w → take i after ≡ take i c
-    front = found-front e w before after c (known .0) (known .2) count f near
+    front : (i : ℕ) → i ≤ length w → take i (after .repair) ≡ take i c
+    front = found-front e w before after c count f near
 
     changed-is : count ≡ distance w c
-    changed-is = found-count e w before after c (known .0) (known .2) count f near
+    changed-is = shown e w before after c count f near .count
 
     good-is : good ≡ isAgreeing n e c
     good-is = ap (agrees (kindAt n)) (front (length w - 2 * e) (omega arith)) ∙ ap (λ (l : ℕ). agrees (kindAt n) (take (l - 2 * e) c)) (sym (near .long))
@@ -148,6 +147,11 @@ module _ (n e : ℕ) (w before after : List ℕ) (j : Judgement) (allowed : refu
     unfolding count
     changed-found = h .changed-is ∙ ap changedOf (has-found c near .1) ∙ changed-is
 
+    pub places-found : take (j .changed) (after .places) ≡ changedPlaces w c
+    unfolding count
+    places-found =
+        ap (λ (i : ℕ). take i (after .places)) (h .changed-is ∙ ap changedOf (has-found c near .1)) ∙ shown e w before after c count f near .places
+
     module _ (a : isAgreeing n e c ≡ true) where
       pub badge-sent : j .badge ≡ badgeOfSent (kindAt n) e (distance w c)
       badge-sent = badge-found true a ∙ go (distance w c)
@@ -156,10 +160,10 @@ module _ (n e : ℕ) (w before after : List ℕ) (j : Judgement) (allowed : refu
           go zero = refl
           go (suc k) = refl
 
-      pub unit-found : handedUnit (j .badge) w after (j .length) ≡ take (j .length) c
+      pub unit-found : handedUnit (j .badge) w (after .repair) (j .length) ≡ take (j .length) c
       unit-found =
-          ap (λ (b : Badge). handedUnit b w after (j .length)) (badge-found true a)
-          ∙ chosen bare (distance w c) (j .length) w after c (λ z. distance-zero w c (sym (near .long)) z) (front (j .length) (omega (arith, h .length-is)))
+          ap (λ (b : Badge). handedUnit b w (after .repair) (j .length)) (badge-found true a)
+          ∙ chosen bare (distance w c) (j .length) w (after .repair) c (λ z. distance-zero w c (sym (near .long)) z) (front (j .length) (omega (arith, h .length-is)))
 
   -- ---- from the badge to what it is given for
 
@@ -247,7 +251,7 @@ outOfReachLeaves n e w before after j (allowed, h) = lost-leaves n e w before af
 
 pub faultlessIsCodeWord : FaultlessIsCodeWord
 faultlessIsCodeWord n e w before after j (allowed, h) q =
-    let a = faultless (isBare (kindAt n) e) (h .reach) (agrees (kindAt n) (take (length w - 2 * e) after)) (ap isFaulty (sym (h .badge-is)) ∙ q) in
+    let a = faultless (isBare (kindAt n) e) (h .reach) (agrees (kindAt n) (take (length w - 2 * e) (after .repair))) (ap isFaulty (sym (h .badge-is)) ∙ q) in
     let f = as-found n e w before after j allowed h (a .0) (a .1) in
     let c = f .found in
     let agreeing : isAgreeing n e c ≡ true = sym (good-is n e w before after j allowed h c (f .within)) ∙ a .2 in (
@@ -256,6 +260,7 @@ faultlessIsCodeWord n e w before after j (allowed, h) q =
         within = f .within;
         agreeing = agreeing;
         changed = changed-found n e w before after j allowed h c (f .within);
+        places = places-found n e w before after j allowed h c (f .within);
         unit = unit-found n e w before after j allowed h c (f .within) agreeing;
       },
     )

@@ -6,17 +6,18 @@
 --
 -- Assumes nothing.
 use mathlib.Core.Path.{_≡_, sym, ap, ap₂, _∙_}
-use mathlib.Core.Bool.{true}
+use mathlib.Core.Bool.{true, not}
 use mathlib.Core.List.{List}
 use Prim.Native.Nat.{ℕ, _-_, _*_, _≤_, _<_}
 use native.Mathlib.Omega.{arith}
-use borrow.Author.Tests.{leb-true, le-ltb}
-use lib.Dec.{leb, ltb}
+use borrow.Author.Tests.{le-leb, leb-true}
+use lib.Dec.{leb}
 use lib.ListN.{length, take}
 use Rattle.octets.specs.Tests.{both-true}
 use Rattle.octets.specs.Written.{written}
 use Rattle.codeword.specs.CodeWord.{distance, Within, longestWord}
-use Rattle.codeword.specs.Repair.{Repaired}
+use Rattle.codeword.specs.Changed.{changedPlaces}
+use Rattle.codeword.specs.Repair.{RepairLent, hasRoom, Repaired}
 use Rattle.codeword.specs.declared.Reach.{Reach}
 use Rattle.codeword.specs.declared.Reach.the-variants as reach
 use Rattle.codeword.proofs.Laws.{codeWord-only, repairedUnique}
@@ -34,7 +35,7 @@ use Rattle.adaptation.specs.declared.al1m.Judgement.{Judgement}
 use Rattle.adaptation.specs.declared.al1m.Received.{Received}
 use Rattle.adaptation.specs.declared.al1m.Received.the-variants as receive
 use Rattle.adaptation.proofs.Assembled.{sendable, long, word, unit-sent}
-use Rattle.adaptation.proofs.Badges.{passed, word-is, changed-found, badge-sent, unit-found}
+use Rattle.adaptation.proofs.Badges.{passed, word-is, changed-found, places-found, badge-sent, unit-found}
 use Rattle.adaptation.proofs.Behind.{agrees-own}
 use Rattle.adaptation.proofs.Refusals.{refused-not}
 use Rattle.adaptation.proofs.Settings.{word-true}
@@ -65,7 +66,8 @@ module _ (n e m : ℕ) (u room sent : List ℕ) (s : Sends n e u room (sends.Oct
   sent-front : take m sent ≡ s .1 .sent
   sent-front = word n e m u room sent s
 
-  module _ (w before after : List ℕ) (l : length w ≡ m) (near : distance w (take m sent) ≤ e) (fits : m ≤ length before) where
+  module _ (w : List ℕ) (before after : RepairLent) (l : length w ≡ m) (near : distance w (take m sent) ≤ e) (fits : m ≤ length (before .repair))
+      (lists : e ≤ length (before .places)) where
     within : Within e w (s .1 .sent)
     within = record { long = sym (s .1 .count) ∙ sym l; code = coded .code; near = rw sent-front at near }
 
@@ -77,16 +79,18 @@ module _ (n e m : ℕ) (u room sent : List ℕ) (s : Sends n e u room (sends.Oct
     agrees-sent : isAgreeing n e (s .1 .sent) ≡ true
     agrees-sent = ap (agrees (kindAt n)) content ∙ agrees-own (kindAt n) u
 
-    allowed : refusal (receiveTests (length w) n e (length before)) ≡ told tt
+    allowed : refusal (receiveTests (length w) n e before) ≡ told tt
     allowed =
-        refused-not (isSetting n e) (isWord (length w) n e) (ltb (length before) (length w)) (sendable n e m u room sent s .0)
-        (word-true (length w) n e (omega (arith, sizes)) (omega (arith, sizes, sent-long))) (le-ltb (length before) (length w) (omega arith))
+        refused-not (isSetting n e) (isWord (length w) n e) (not (hasRoom (length w) e before)) (sendable n e m u room sent s .0)
+        (word-true (length w) n e (omega (arith, sizes)) (omega (arith, sizes, sent-long)))
+        (rw (le-leb (length w) (length (before .repair)) (omega arith), le-leb e (length (before .places)) lists))
 
     abbrev badge : Badge
     badge = badgeOfSent (kindAt n) e (distance w (take m sent))
 
     handed : (r : Received) → Receives n e w before r after
-        → (r ≡ receive.Unit (judgement badge (distance w (take m sent)) (length u))) × (handedUnit badge w after (length u) ≡ u)
+        → (r ≡ receive.Unit (judgement badge (distance w (take m sent)) (length u))) × (handedUnit badge w (after .repair) (length u) ≡ u)
+        × (take (distance w (take m sent)) (after .places) ≡ changedPlaces w (take m sent))
     handed (receive.Refused k) p = told-refused allowed (p .first)
     handed (receive.Unit j) (a, h) =
         let c = s .1 .sent in
@@ -95,20 +99,21 @@ module _ (n e m : ℕ) (u room sent : List ℕ) (s : Sends n e u room (sends.Oct
         let b : j .badge ≡ badge =
         badge-sent n e w before after j a h c within agrees-sent ∙ ap (λ (x : List ℕ). badgeOfSent (kindAt n) e (distance w x)) (sym sent-front) in (
           ap receive.Unit (judgement-same j badge (distance w (take m sent)) (length u) b d t),
-          ap₂ (λ (x : Badge) (i : ℕ). handedUnit x w after i) (sym b) (sym t) ∙ unit-found n e w before after j a h c within agrees-sent
+          ap₂ (λ (x : Badge) (i : ℕ). handedUnit x w (after .repair) i) (sym b) (sym t) ∙ unit-found n e w before after j a h c within agrees-sent
               ∙ ap (λ (i : ℕ). take i c) t ∙ unit-sent n e m u room sent s,
+          ap (λ (i : ℕ). take i (after .places)) (sym d) ∙ places-found n e w before after j a h c within ∙ ap (changedPlaces w) (sym sent-front),
         )
 
 pub sentIsHandedUp : SentIsHandedUp
 unfolding judgement
-sentIsHandedUp n e m u room sent w before after r s l near fits p = handed n e m u room sent s w before after l near fits r p
+sentIsHandedUp n e m u room sent w before after r s l near fits lists p = handed n e m u room sent s w before after l near fits lists r p
 
 -- ---- how large the numbers are
 
 pub sent-small : (n e m : ℕ) (u room sent : List ℕ) → Sends n e u room (sends.Octets m) sent → m ≤ longestWord
 sent-small n e m u room sent s = sizes n e m u room sent s .1
 
-pub handed-small : (n e : ℕ) (w before after : List ℕ) (j : Judgement) → Receives n e w before (receive.Unit j) after
+pub handed-small : (n e : ℕ) (w : List ℕ) (before after : RepairLent) (j : Judgement) → Receives n e w before (receive.Unit j) after
     → (j .changed ≤ 127) × (j .length ≤ longestWord)
 unfolding isSetting
 handed-small n e w before after j (allowed, h) = (
@@ -151,7 +156,7 @@ unfolding judgement
 receivedUnique n e w before after left (receive.Unit j) (receive.Unit i) (a, p) (b, q) =
     let both = repairedUnique e w before (p .reach) (q .reach) after left (p .repaired) (q .repaired) in
     let badge : j .badge ≡ i .badge =
-    p .badge-is ∙ ap₂ (λ (x : Reach) (y : List ℕ). badgeOf (isBare (kindAt n) e) x (agrees (kindAt n) (take (length w - 2 * e) y))) (both .0) (both .1)
+    p .badge-is ∙ ap₂ (λ (x : Reach) (y : RepairLent). badgeOf (isBare (kindAt n) e) x (agrees (kindAt n) (take (length w - 2 * e) (y .repair)))) (both .0) (both .1)
     ∙ sym (q .badge-is) in (
       ap receive.Unit (judgement-same j (i .badge) (i .changed) (i .length) badge (p .changed-is ∙ ap changedOf (both .0) ∙ sym (q .changed-is))
           (p .length-is ∙ sym (q .length-is))),

@@ -3,8 +3,8 @@
 -- there is none; what becomes of a unit of AL2 whose check disagrees; and what AL1M's sending leaves. The settings and lengths themselves
 -- are said in specs/Limits.antt, and the numbers in their order in crate `demands`.
 --
---   OfAL1M t n b e k         refusals 1, 2 and 3 of AL1M, with a check of b bits and e repairs: of the length question for t octets, of t
---                            octets sent into k lent ones, and of n octets received, with k lent ones for the repair
+--   OfAL1M t n b e k lent    refusals 1, 2 and 3 of AL1M, with a check of b bits and e repairs: of the length question for t octets, of t
+--                            octets sent into k lent ones, and of n octets received, with octets and a list lent for the repair
 --   OfUnits n s u out        refusals 2 and 3 of AL1 and AL2: of u passed, sent with number n into the lent octets out, and received
 --                            as a whole, with a number or not, by s
 --   SentLeaves b e u before m after   what sending u into the lent octets `before`, with a check of b bits and e repairs, leaves there
@@ -14,12 +14,13 @@
 --
 -- Assumes nothing.
 use mathlib.Core.Path.{_≡_}
-use mathlib.Core.Logic.{_↔_}
+use mathlib.Core.Logic.{_↔_, _⊎_}
 use mathlib.Core.Bool.{Bool, true, false}
 use mathlib.Core.List.{List, [], _∷_, _++_}
 use Prim.Native.Nat.{ℕ, _+_, _≤_, _<_}
 use lib.ListN.{length, take, drop}
 use Rattle.codeword.specs.CodeWord.{CodeWord}
+use Rattle.codeword.specs.Repair.{RepairLent}
 use Rattle.calls.specs.Refusal.{told, Gives}
 use Rattle.calls.specs.declared.Length.the-variants.{Octets}
 use Rattle.adaptation.specs.Check.{Kind, none, eight, sixteen, checkOf, agrees}
@@ -34,7 +35,7 @@ use Rattle.adaptation.specs.declared.al2.Number.{Number}
 use Rattle.adaptation.specs.declared.al2.Number.the-variants.{Numbered, Plain}
 
 -- "AL1M units"
-pub record OfAL1M (t n b e k : ℕ) : Type 0 where
+pub record OfAL1M (t n b e k : ℕ) (lent : RepairLent) : Type 0 where
   -- the length question, which is lent no room
   pub length1 : Gives (al1m.lengthTests t b e) 1 ↔ (al1m.isSetting b e ≡ false)
   pub length2 : Gives (al1m.lengthTests t b e) 2 ↔ ((al1m.isSetting b e ≡ true) × (al1m.isSendable t b e ≡ false))
@@ -43,10 +44,11 @@ pub record OfAL1M (t n b e k : ℕ) : Type 0 where
   pub encode1 : Gives (encodeTests t b e k) 1 ↔ (al1m.isSetting b e ≡ false)
   pub encode2 : Gives (encodeTests t b e k) 2 ↔ ((al1m.isSetting b e ≡ true) × (al1m.isSendable t b e ≡ false))
   pub encode3 : Gives (encodeTests t b e k) 3 ↔ ((al1m.isSetting b e ≡ true) × ((al1m.isSendable t b e ≡ true) × (k < al1m.sentOctets t b e)))
-  -- n octets received, with a repair buffer of k
-  pub receive1 : Gives (receiveTests n b e k) 1 ↔ (al1m.isSetting b e ≡ false)
-  pub receive2 : Gives (receiveTests n b e k) 2 ↔ ((al1m.isSetting b e ≡ true) × (isWord n b e ≡ false))
-  pub receive3 : Gives (receiveTests n b e k) 3 ↔ ((al1m.isSetting b e ≡ true) × ((isWord n b e ≡ true) × (k < n)))
+  -- n octets received: 3 for a repair buffer shorter than n, or a list shorter than e
+  pub receive1 : Gives (receiveTests n b e lent) 1 ↔ (al1m.isSetting b e ≡ false)
+  pub receive2 : Gives (receiveTests n b e lent) 2 ↔ ((al1m.isSetting b e ≡ true) × (isWord n b e ≡ false))
+  pub receive3 : Gives (receiveTests n b e lent) 3
+      ↔ ((al1m.isSetting b e ≡ true) × ((isWord n b e ≡ true) × ((length (lent .repair) < n) ⊎ (length (lent .places) < e))))
 
 -- "AL1 and AL2", without the channel that AL2's calls name
 pub record OfUnits (n : Number) (s : Bool) (u out : List ℕ) : Type 0 where
@@ -70,7 +72,7 @@ pub record WholeIs (n : ℕ) (u : List ℕ) : Type 0 where
   pub unnumbered : al2.whole Plain u ≡ u ++ checkOf eight u
 
 pub record AdaptationExactly : Type 0 where
-  pub al1m : (t n b e k : ℕ) → OfAL1M t n b e k
+  pub al1m : (t n b e k : ℕ) (lent : RepairLent) → OfAL1M t n b e k lent
   pub units : (n : Number) (s : Bool) (u out : List ℕ) → OfUnits n s u out
   -- AL1 passes a unit of 1 to 1,024 octets as it is, badge 4
   pub passes : (u : List ℕ) → 1 ≤ length u → length u ≤ 1024 → passed u ≡ told (record { badge = 4; changed = 0; unit = u })

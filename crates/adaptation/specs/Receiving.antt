@@ -1,7 +1,8 @@
--- AL1M's receiving (document 01, "AL1M units"; 003, D.4.1.9).
+-- AL1M's receiving (document 01, "AL1M units"; document 02, ticket 2; 003, D.4.1.9).
 --
+--   RepairLent, lending, hasRoom     what is lent for a repair, octets and a list, and whether it has the room: passed on from the code word's
 --   isWord n b e                     n octets may be a sent unit with a check of b bits and e repairs
---   receiveTests n b e room          what refuses to receive n octets, with `room` lent ones for the repair, in this order
+--   receiveTests n b e lent          what refuses to receive n octets, with octets and a list lent for the repair, in this order
 --   isBare κ e                       there is neither a check nor a code
 --   badgeOf x r a                    the badge, from whether it is bare, what the repair answers, and whether the check of the word
 --                                    found agrees
@@ -10,20 +11,21 @@
 --   isCorrected x                    badge 1
 --   handedUnit x w after t           the unit handed up: the first t octets of the repair buffer when corrected, and of the received
 --                                    word w otherwise (house)
---   HandedIs κ e w before j after    what is told of the word w, and left of the lent octets, where it is handed up
---   Receives b e w before r after    what receiving the word w, with the lent octets `before` for the repair, answers and leaves: it is
---                                    handed up, and the code word found is at the front of the lent octets, which are unchanged where none
---                                    was found; or it is refused, and nothing changes
+--   HandedIs κ e w before j after    what is told of the word w, and left of what was lent, where it is handed up
+--   Receives b e w before r after    what receiving the word w, with `before` lent for the repair, answers and leaves: it is handed up, and the
+--                                    code word found is at the front of the lent octets, the places at which it differs at the front of the
+--                                    lent list, both unchanged where none was found; or it is refused, and nothing changes
 --
 -- Assumes nothing.
 use mathlib.Core.Path.{_≡_}
-use mathlib.Core.Bool.{Bool, true, false, cond, _&&_}
+use mathlib.Core.Bool.{Bool, true, false, cond, not, _&&_}
 use mathlib.Core.List.{List}
 use Prim.Native.Nat.{ℕ, zero, suc, _+_, _-_, _*_}
-use lib.Dec.{eqb, leb, ltb}
+use lib.Dec.{eqb, leb}
 use lib.ListN.{length, take}
 use Rattle.codeword.specs.CodeWord.{longestWord}
 use Rattle.codeword.specs.Repair.{Repaired}
+pub use Rattle.codeword.specs.Repair.{RepairLent, lending, hasRoom}
 use Rattle.codeword.specs.declared.Reach.{Reach}
 use Rattle.codeword.specs.declared.Reach.the-variants as reach
 use Rattle.calls.specs.Refusal.{told, Test, refusal, RefusedIs}
@@ -39,8 +41,8 @@ use Rattle.adaptation.specs.declared.al1m.Received.the-variants.{Unit, R
 unfoldable pub isWord : ℕ → ℕ → ℕ → Bool
 isWord n b e = leb n longestWord && leb (1 + kindAt b .octets + 2 * e) n
 
-abbrev pub receiveTests : ℕ → ℕ → ℕ → ℕ → List Test
-receiveTests n b e room = al1mTests (isSetting b e) (isWord n b e) (ltb room n)
+abbrev pub receiveTests : ℕ → ℕ → ℕ → RepairLent → List Test
+receiveTests n b e lent = al1mTests (isSetting b e) (isWord n b e) (not (hasRoom n e lent))
 
 abbrev pub isBare : Kind → ℕ → Bool
 isBare κ e = eqb e 0 && eqb (κ .octets) 0
@@ -68,14 +70,13 @@ isCorrected Unchecked = false
 abbrev pub handedUnit : Badge → List ℕ → List ℕ → ℕ → List ℕ
 handedUnit x w after t = take t (cond (isCorrected x) after w)
 
-pub record HandedIs (κ : Kind) (e : ℕ) (w before : List ℕ) (j : Judgement) (after : List ℕ) : Type 0 where
+pub record HandedIs (κ : Kind) (e : ℕ) (w : List ℕ) (before : RepairLent) (j : Judgement) (after : RepairLent) : Type 0 where
   pub reach : Reach
   pub repaired : Repaired e w before reach after
-  pub badge-is : j .badge ≡ badgeOf (isBare κ e) reach (agrees κ (take (length w - 2 * e) after))
+  pub badge-is : j .badge ≡ badgeOf (isBare κ e) reach (agrees κ (take (length w - 2 * e) (after .repair)))
   pub changed-is : j .changed ≡ changedOf reach
   pub length-is : j .length ≡ unitLength κ e (length w)
 
-abbrev pub Receives : ℕ → ℕ → List ℕ → List ℕ → Received → List ℕ → Type 0
-Receives b e w before (Unit j) after =
-    (refusal (receiveTests (length w) b e (length before)) ≡ told tt) × HandedIs (kindAt b) e w before j after
-Receives b e w before (Refused k) after = RefusedIs (receiveTests (length w) b e (length before)) k before after
+abbrev pub Receives : ℕ → ℕ → List ℕ → RepairLent → Received → RepairLent → Type 0
+Receives b e w before (Unit j) after = (refusal (receiveTests (length w) b e before) ≡ told tt) × HandedIs (kindAt b) e w before j after
+Receives b e w before (Refused k) after = RefusedIs (receiveTests (length w) b e before) k before after

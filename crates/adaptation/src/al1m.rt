@@ -12,6 +12,7 @@ ghost use mathlib.Core.List.{List};
 ghost use Prim.Native.Nat.{ℕ, _+_, _*_, _≤_, _<_};
 ghost use lib.ListN.{length};
 ghost use Rattle.codeword.specs.CodeWord.{longestWord};
+ghost use Rattle.codeword.specs.Repair.{lending};
 ghost use Rattle.codeword.specs.declared.Reach.the-variants.{Found};
 ghost use Rattle.calls.specs.Refusal.{lengthSays};
 ghost use Rattle.adaptation.specs.Check.{Kind};
@@ -124,15 +125,16 @@ fn badge_of(bare: bool, changed: usize, agrees: bool) -> Badge
 }
 
 // Looks for the code word, and judges the unit by it.
-fn judge(received: &[u8], w: Width, e: usize, repair: &mut [u8]) -> Judgement
+fn judge(received: &[u8], w: Width, e: usize, repair: &mut [u8], places: &mut [u8]) -> Judgement
     requires { ⌜ (length (now received) ≤ longestWord) × (kindOf w .octets + 2 * e < length (now received))
         × (length (now received) ≤ length (now repair)) ⌝ }
-    ensures { λ r. ⌜ HandedIs (kindOf w) e (now (received .entry)) (now (repair .entry)) r (now (repair .exit)) ⌝ }
+    ensures { λ r. ⌜ HandedIs (kindOf w) e (now (received .entry)) (lending (now (repair .entry)) (now (places .entry))) r
+        (lending (now (repair .exit)) (now (places .exit))) ⌝ }
 {
     let l = checks::octets_of(w);
     let k = received.len() - 2 * e;
     let length = k - l;
-    let Reach::Found(changed) = codeword::repair(received, e, repair) else {
+    let Reach::Found(changed) = codeword::repair(received, e, repair, places) else {
         return Judgement {
             badge: Badge::OutOfReach,
             changed: 0,
@@ -149,9 +151,17 @@ fn judge(received: &[u8], w: Width, e: usize, repair: &mut [u8]) -> Judgement
     }
 }
 
-// Repairs a received word into the front of `repair`, and judges it: refusals 1, 2, 3. The unit that is handed up is what `unit` returns.
-pub fn receive(received: &[u8], width: u32, e: u32, repair: &mut [u8]) -> Received
-    ensures { λ r. ⌜ Receives width e (now (received .entry)) (now (repair .entry)) r (now (repair .exit)) ⌝ }
+// Repairs a received word into the front of `repair`, lists the changed places at the front of `places`, and judges the word: refusals 1,
+// 2, 3. The unit that is handed up is what `unit` returns.
+pub fn receive(
+    received: &[u8],
+    width: u32,
+    e: u32,
+    repair: &mut [u8],
+    places: &mut [u8],
+) -> Received
+    ensures { λ r. ⌜ Receives width e (now (received .entry)) (lending (now (repair .entry)) (now (places .entry))) r
+        (lending (now (repair .exit)) (now (places .exit))) ⌝ }
 {
     let Asked::Known(w) = setting_of(width, e) else {
         return Received::Refused(1);
@@ -166,7 +176,10 @@ pub fn receive(received: &[u8], width: u32, e: u32, repair: &mut [u8]) -> Receiv
     if repair.len() < n {
         return Received::Refused(3);
     }
-    let j = judge(received, w, e as usize, repair);
+    if places.len() < e as usize {
+        return Received::Refused(3);
+    }
+    let j = judge(received, w, e as usize, repair, places);
     Received::Unit(j)
 }
 

@@ -48,4 +48,4 @@ module _ (𝓕 : Field) where
 
         go : Dec (E p ≡ 𝟘) → E p ≡ 𝟘
         go (yes e) = e
-        go (no h) = let r = su .lists .all p l h in absurd (su .lists .not-nil (r .0) (r .1) (nil-at (r .0) (r .1)))
+        go (no h) = let r = su .lists .all p l h in absurd (su .lists .each (r .0) (r .1) (nil-at (r .0) (r .1)))

@@ -19,7 +19,8 @@
 --   derivative      deriv-even, deriv-odd
 --   weight          weight-zero, weight-suc; left-ne: a factor of 1 is not zero; light-is-none: the distance of the code
 --   Massey's loop   state-start, state-zero, state-keep, state-grow
---   the repair      length-complete, search-complete, divisor-ne, search-sound
+--   lists           lists-none, front, lists-skip, lists-take, lists-as, lists-same of rising lists of places
+--   the repair      length-complete, search-complete, divisor-ne, search-sound, search-lists
 --
 -- Assumes nothing.
 pub use Rattle.algebra.proofs.Ring.{ring, ⊕-comm, ⊕-𝟘, ⊕-self, ⊕-cancel, ⊙-comm, ⊙-assoc, ⊙-𝟘, ⊙-𝟙, ⊙-inv, eq-of-sum, sum-of-eq}
@@ -39,8 +40,10 @@ pub use Rattle.algebra.proofs.Theorems.{remainderOnly, divisionLeaves}
 pub use Rattle.algebra.proofs.Register.{remainder-raised, register-length, register-is, register-none, register-more, register-zeros}
 pub use Rattle.algebra.proofs.Loop.{dot-zero, dot-suc, ⊛-dot, ⊛-dot-below, from-zero, horner}
 pub use Rattle.algebra.proofs.Derivative.{deriv-even, deriv-odd}
+unfoldable pub use Rattle.algebra.proofs.Listing.{front}
+pub use Rattle.algebra.proofs.Listing.{lists-none, lists-skip, lists-take, lists-as, lists-same}
 pub use Rattle.algebra.proofs.Support.{weight-zero, weight-suc}
 pub use Rattle.algebra.proofs.Locator.{left-ne}
 pub use Rattle.algebra.proofs.Distance.{psum-⊞, light-is-none}
 pub use Rattle.algebra.proofs.Berlekamp.{state-start, state-zero, state-keep, state-grow}
-pub use Rattle.algebra.proofs.Repair.{length-complete, search-complete, divisor-ne, search-sound}
+pub use Rattle.algebra.proofs.Repair.{length-complete, search-complete, divisor-ne, search-sound, search-lists}

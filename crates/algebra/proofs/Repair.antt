@@ -5,6 +5,7 @@
 --   search-complete       .. and the search finds L places
 --   divisor-ne            if it finds L places, Forney's divisor is not zero there
 --   search-sound          .. and the error with Forney's values there has the syndromes S, and weight L
+--   search-lists          .. and is not zero at just the places found
 --
 -- Assumes nothing.
 use mathlib.Core.Path.{_≡_, refl, sym, _∙_, ap, ap₂}
@@ -22,7 +23,8 @@ use Rattle.algebra.specs.PowerSum.{psum, synd}
 use Rattle.algebra.specs.Locator.{loc, prod, skip}
 use Rattle.algebra.specs.Massey.{MasseyState}
 use Rattle.algebra.specs.Derivative.{deriv}
-use Rattle.algebra.specs.Support.{Support, Lists, pick, weight, one-if}
+use Rattle.algebra.specs.Support.{Support, pick, weight, one-if}
+use Rattle.algebra.specs.Lists.{Lists}
 use Rattle.algebra.specs.Search.{Search}
 use Rattle.algebra.proofs.Ring.{ring, mul-ne, 𝟘-⊙, 𝟙-⊙}
 use Rattle.algebra.proofs.Product.{⊛-local, tl-at}
@@ -63,18 +65,46 @@ module _ (𝓕 : Field) where
   mark-keeps (yes p) y h = 𝟙-⊙ 𝓕 y
   mark-keeps (no p) y h = rw (h p) (𝟘-⊙ 𝓕 𝟘)
 
-  -- a series that is zero where another is has at most its weight
-  weight-le : (n : ℕ) (E U : Series 𝓕) → ((p : ℕ) → p < n → U p ≡ 𝟘 → E p ≡ 𝟘) → weight 𝓕 n E ≤ weight 𝓕 n U
+  -- a series that is zero where another is has at most its weight, and less, where it is zero at a place where the other is not
+  one-le : (x y : F) (d : Dec (x ≡ 𝟘)) (u : Dec (y ≡ 𝟘)) → (y ≡ 𝟘 → x ≡ 𝟘) → one-if 𝓕 d ≤ one-if 𝓕 u
   unfolding one-if
+  one-le x y (yes d) u h = omega arith
+  one-le x y (no d) (no u) h = omega arith
+  one-le x y (no d) (yes u) h = absurd (d (h u))
+
+  one-lt : (x y : F) (d : Dec (x ≡ 𝟘)) (u : Dec (y ≡ 𝟘)) → x ≡ 𝟘 → y ≢ 𝟘 → one-if 𝓕 d < one-if 𝓕 u
+  unfolding one-if
+  one-lt x y (yes d) (no u) e h = omega arith
+  one-lt x y (yes d) (yes u) e h = absurd (h u)
+  one-lt x y (no d) u e h = absurd (d e)
+
+  weight-le : (n : ℕ) (E U : Series 𝓕) → ((p : ℕ) → p < n → U p ≡ 𝟘 → E p ≡ 𝟘) → weight 𝓕 n E ≤ weight 𝓕 n U
   weight-le zero E U h = rw (weight-zero 𝓕 E) (omega arith)
   weight-le (suc n) E U h =
       rw (weight-suc 𝓕 n E, weight-suc 𝓕 n U)
-      (omega (arith, weight-le n (tl E) (tl U) (λ p l. rw (tl-at 𝓕 E p, tl-at 𝓕 U p) (h (suc p) (omega arith))), first (𝓕 .decide (E 0) 𝟘) (𝓕 .decide (U 0) 𝟘)))
-    where
-      first : (d : Dec (E 0 ≡ 𝟘)) (u : Dec (U 0 ≡ 𝟘)) → one-if 𝓕 d ≤ one-if 𝓕 u
-      first (yes d) u = omega arith
-      first (no d) (no u) = omega arith
-      first (no d) (yes u) = absurd (d (h 0 (omega arith) u))
+      (omega (
+        arith,
+        weight-le n (tl E) (tl U) (λ p l. rw (tl-at 𝓕 E p, tl-at 𝓕 U p) (h (suc p) (omega arith))),
+        one-le (E 0) (U 0) (𝓕 .decide (E 0) 𝟘) (𝓕 .decide (U 0) 𝟘) (h 0 (omega arith)),
+      ))
+
+  weight-lt : (n : ℕ) (E U : Series 𝓕) → ((p : ℕ) → p < n → U p ≡ 𝟘 → E p ≡ 𝟘) → (q : ℕ) → q < n → E q ≡ 𝟘 → U q ≢ 𝟘 → weight 𝓕 n E < weight 𝓕 n U
+  weight-lt zero E U h q l e u = absurd (omega arith)
+  weight-lt (suc n) E U h zero l e u =
+      rw (weight-suc 𝓕 n E, weight-suc 𝓕 n U)
+      (omega (
+        arith,
+        weight-le n (tl E) (tl U) (λ p l. rw (tl-at 𝓕 E p, tl-at 𝓕 U p) (h (suc p) (omega arith))),
+        one-lt (E 0) (U 0) (𝓕 .decide (E 0) 𝟘) (𝓕 .decide (U 0) 𝟘) e u,
+      ))
+  weight-lt (suc n) E U h (suc q) l e u =
+      rw (weight-suc 𝓕 n E, weight-suc 𝓕 n U)
+      (omega (
+        arith,
+        weight-lt n (tl E) (tl U) (λ p l. rw (tl-at 𝓕 E p, tl-at 𝓕 U p) (h (suc p) (omega arith))) q (omega arith) (tl-at 𝓕 E q ∙ e)
+            (λ z. u (sym (tl-at 𝓕 U q) ∙ z)),
+        one-le (E 0) (U 0) (𝓕 .decide (E 0) 𝟘) (𝓕 .decide (U 0) 𝟘) (h 0 (omega arith)),
+      ))
 
   -- a power sum whose values are products, as one whose points are
   psum-one : (v : ℕ) (U E A : Series 𝓕) (i : ℕ) → psum 𝓕 v U (λ p. E p ⊙ pow 𝓕 (A p) i) 1 ≡ psum 𝓕 v (λ p. U p ⊙ E p) A i
@@ -137,7 +167,7 @@ module _ (𝓕 : Field) where
       located =
           bm-finds 𝓕 (weight 𝓕 n E) t L S C B (pick 𝓕 E at) (pick 𝓕 A at) (pick 𝓕 Z at) b
           (listed-distinct (weight 𝓕 n E) at (su .lists .inside) (su .lists .rises)) (listed-inverses (weight 𝓕 n E) at (su .lists .inside) (su .lists .rises))
-          (λ k l. rw pick-at (su .lists .not-nil k l))
+          (λ k l. rw pick-at (su .lists .each k l))
           (λ i l. syn i l ∙ su .sums A (suc i) ∙ sym (synd-at 𝓕 (weight 𝓕 n E) (pick 𝓕 E at) (pick 𝓕 A at) i)) st few
 
       pub length-complete : L ≡ weight 𝓕 n E
@@ -155,7 +185,7 @@ module _ (𝓕 : Field) where
       root-error p l h z =
           prod-ne 𝓕 (weight 𝓕 n E) (pick 𝓕 A at) (Z p)
           (λ j m. rw pick-at (link-ne 𝓕 (A (at j)) (A p) (Z p) (I p l)
-          (distinct-any n A D (at j) p (su .lists .inside j m) l (λ e. su .lists .not-nil j m (rw e z)))))
+          (distinct-any n A D (at j) p (su .lists .inside j m) l (λ e. su .lists .each j m (rw e z)))))
           (sym (value-at p) ∙ h)
 
       pub search-complete : (v : ℕ) (bt : ℕ → ℕ) → Search 𝓕 n v L C Z bt → v ≡ L
@@ -163,7 +193,7 @@ module _ (𝓕 : Field) where
           support-of 𝓕 n v E bt (record {
             inside = found .inside;
             rises = found .rises;
-            not-nil = λ j l. root-error (bt j) (found .inside j l) (found .root j l);
+            each = λ j l. root-error (bt j) (found .inside j l) (found .each j l);
             all = λ p l h. found .all p l (error-root p l h);
           }) .0 ∙ sym (located .0)
 
@@ -171,7 +201,7 @@ module _ (𝓕 : Field) where
 
     module _ (at : ℕ → ℕ) (found : Search 𝓕 n L L C Z at) where
       root-listed : (j : ℕ) → j < L → ev 𝓕 (suc L) C (pick 𝓕 Z at j) ≡ 𝟘
-      root-listed j l = rw pick-at (found .root j l)
+      root-listed j l = rw pick-at (found .each j l)
 
       C-is : C ≡ loc 𝓕 L (pick 𝓕 A at)
       C-is =
@@ -194,12 +224,12 @@ module _ (𝓕 : Field) where
         root-mark : Series 𝓕
         root-mark p = mark (𝓕 .decide (ev 𝓕 (suc L) C (Z p)) 𝟘)
 
-        marks : Lists 𝓕 n L root-mark at
+        marks : Lists n L (λ p. root-mark p ≢ 𝟘) at
         unfolding root-mark
         marks = record {
           inside = found .inside;
           rises = found .rises;
-          not-nil = λ j l. mark-ne (𝓕 .decide (ev 𝓕 (suc L) C (Z (at j))) 𝟘) (found .root j l);
+          each = λ j l. mark-ne (𝓕 .decide (ev 𝓕 (suc L) C (Z (at j))) 𝟘) (found .each j l);
           all = λ p l h. found .all p l (mark-of (𝓕 .decide (ev 𝓕 (suc L) C (Z p)) 𝟘) h);
         }
 
@@ -214,8 +244,20 @@ module _ (𝓕 : Field) where
             (listed-distinct L at (found .inside) (found .rises)) (listed-inverses L at (found .inside) (found .rises)) root-listed
             (λ j m. rw (← divisor-is j m, pick-at 𝓕 E at j, values j m, pick-at 𝓕 Z at j)) i l
 
-        most : weight 𝓕 n E ≤ L
-        most = omega (arith, support-of 𝓕 n L root-mark at marks .0, weight-le n E root-mark (λ p l z. sym (kept p) ∙ (rw z (𝟘-⊙ 𝓕 _))))
+        marked : (p : ℕ) → p < n → root-mark p ≡ 𝟘 → E p ≡ 𝟘
+        marked p l z = sym (kept p) ∙ (rw z (𝟘-⊙ 𝓕 _))
+
+        least : L ≤ weight 𝓕 n E
+        least = least-weight E (λ i l. sym (sums i l))
 
         pub search-sound : ((i : ℕ) → i < t → psum 𝓕 n E A (suc i) ≡ S i) × (weight 𝓕 n E ≡ L)
-        search-sound = (sums, omega (arith, least-weight E (λ i l. sym (sums i l)), most))
+        search-sound = (sums, omega (arith, least, support-of 𝓕 n L root-mark at marks .0, weight-le n E root-mark marked))
+
+        -- a listed place at which it were zero would leave a weight below the least
+        pub search-lists : Lists n L (λ p. E p ≢ 𝟘) at
+        search-lists = record {
+          inside = found .inside;
+          rises = found .rises;
+          each = λ j l z. omega (arith, least, support-of 𝓕 n L root-mark at marks .0, weight-lt n E root-mark marked (at j) (found .inside j l) z (marks .each j l));
+          all = λ p l h. elim (𝓕 .decide (ev 𝓕 (suc L) C (Z p)) 𝟘) [ yes r ↦ found .all p l r | no r ↦ absurd (h (elsewhere p r)) ];
+        }

@@ -1,4 +1,5 @@
 pub mod Field
+pub mod Lists
 pub mod Series
 pub mod Polynomial
 pub mod Power

@@ -4,16 +4,14 @@
 --
 -- Assumes nothing.
 use mathlib.Core.Path.{_≡_}
-use Prim.Native.Nat.{ℕ, suc, _<_}
+use Prim.Native.Nat.{ℕ, suc}
 use Rattle.algebra.specs.Field.{Field}
+use Rattle.algebra.specs.Lists.{Lists}
 use Rattle.algebra.specs.Series.{Series}
 use Rattle.algebra.specs.Value.{ev}
 
 module _ (𝓕 : Field) where
   open Field 𝓕 using (nil as 𝟘)
 
-  pub record Search (n v L : ℕ) (C Z : Series 𝓕) (at : ℕ → ℕ) : Type 0 where
-    pub inside : (j : ℕ) → j < v → at j < n
-    pub rises : (i j : ℕ) → i < j → j < v → at i < at j
-    pub root : (j : ℕ) → j < v → ev 𝓕 (suc L) C (Z (at j)) ≡ 𝟘
-    pub all : (p : ℕ) → p < n → ev 𝓕 (suc L) C (Z p) ≡ 𝟘 → (j : ℕ) × (j < v) × (at j ≡ p)
+  abbrev pub Search : (n v L : ℕ) → (C Z : Series 𝓕) → (ℕ → ℕ) → Type 0
+  Search n v L C Z at = Lists n v (λ p. ev 𝓕 (suc L) C (Z p) ≡ 𝟘) at

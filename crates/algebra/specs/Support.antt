@@ -3,14 +3,14 @@
 --   weight n E         their number below n
 --   one-if d           what one place adds to it: 0 where it is zero, 1 where not
 --   pick f at          the series f at the listed places
---   Lists n v E at     `at` lists them, v of them, rising
---   Support n v E at   .. and the power sums over all n places are those over the v
+--   Support n v E at   `at` lists them, v of them, and the power sums over all n places are those over the v
 --
 -- Assumes nothing.
 use mathlib.Core.Path.{_≡_}
 use mathlib.Core.Logic.{_≢_}
-use Prim.Native.Nat.{ℕ, zero, suc, _+_, _<_}
+use Prim.Native.Nat.{ℕ, zero, suc, _+_}
 use Rattle.algebra.specs.Field.{Field}
+use Rattle.algebra.specs.Lists.{Lists}
 use Rattle.algebra.specs.Series.{Series, Operations, operations}
 use Rattle.algebra.specs.PowerSum.{psum}
 
@@ -30,12 +30,6 @@ module _ (𝓕 : Field) where
   unfoldable pub pick : Series 𝓕 → (ℕ → ℕ) → Series 𝓕
   pick f at j = f (at j)
 
-  pub record Lists (n v : ℕ) (E : Series 𝓕) (at : ℕ → ℕ) : Type 0 where
-    pub inside : (j : ℕ) → j < v → at j < n
-    pub rises : (i j : ℕ) → i < j → j < v → at i < at j
-    pub not-nil : (j : ℕ) → j < v → E (at j) ≢ 𝟘
-    pub all : (p : ℕ) → p < n → E p ≢ 𝟘 → (j : ℕ) × (j < v) × (at j ≡ p)
-
   pub record Support (n v : ℕ) (E : Series 𝓕) (at : ℕ → ℕ) : Type 0 where
-    pub lists : Lists n v E at
+    pub lists : Lists n v (λ p. E p ≢ 𝟘) at
     pub sums : (A : Series 𝓕) (i : ℕ) → psum 𝓕 n E A i ≡ psum 𝓕 v (pick E at) (pick A at) i

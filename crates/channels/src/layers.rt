@@ -13,7 +13,7 @@ use calls::Length;
 ghost use mathlib.Core.Path.{_≡_};
 ghost use Prim.Native.Nat.{_<_};
 ghost use Rattle.adaptation.specs.AL1 as passing;
-ghost use Rattle.adaptation.specs.Receiving.{Receives};
+ghost use Rattle.adaptation.specs.Receiving.{lending, Receives};
 ghost use Rattle.channels.specs.Channels as the;
 ghost use Rattle.channels.specs.Channels.{channelAt, put};
 ghost use Rattle.channels.specs.Layers.{numberAs, risen, SendsOn, TakesOn};
@@ -167,10 +167,12 @@ pub fn al1m_at(
     width: u32,
     e: u32,
     repair: &mut [u8],
+    places: &mut [u8],
 ) -> al1m::Received
-    ensures { λ r. ⌜ Receives width e (partAt (now (output .entry)) start length) (now (repair .entry)) r (now (repair .exit)) ⌝ }
+    ensures { λ r. ⌜ Receives width e (partAt (now (output .entry)) start length) (lending (now (repair .entry)) (now (places .entry))) r
+        (lending (now (repair .exit)) (now (places .exit))) ⌝ }
 {
-    al1m::receive(unit_at(output, start, length), width, e, repair)
+    al1m::receive(unit_at(output, start, length), width, e, repair, places)
 }
 
 // A finished unit received by AL2 on its channel: refusals 5, 2.

@@ -1,5 +1,6 @@
 -- The distance of words and of code words.
 --
+--   element-same         two octets with the same element are one
 --   difference v w       the series of what v and w differ by, at each place
 --   distance-weight      the distance is its weight
 --   distance-symmetric, distance-triangle, distance-self, distance-zero
@@ -39,7 +40,7 @@ open Operations (operations elements) using (_⊞_, tl)
 abbrev pub difference : List ℕ → List ℕ → Series elements
 difference v w = places v ⊞ places w
 
-element-same : (a b : ℕ) → a < size → b < size → element a ≡ element b → a ≡ b
+pub element-same : (a b : ℕ) → a < size → b < size → element a ≡ element b → a ≡ b
 element-same a b h k e = sym (octet-element a h) ∙ ap octet e ∙ octet-element b k
 
 -- one place

@@ -2,7 +2,7 @@
 -- proofs is imported from outside.
 --
 --   words        word-length; value-none, value-snoc: the value of a word's polynomial, an octet at a time; octets-append
---   distance     distance-self, distance-zero
+--   distance     distance-self, distance-zero; placesExactly, placesCounted: where two words differ
 --   code words   codeWord-zero, zero-codeWord: a word is one exactly when its 2e syndromes are zero; codeWord-only: one begins
 --                with a message; parity-codeWord: the message and its parity
 --   encoding     encodes-true: what fits; encoded-is: what the promise says then
@@ -12,6 +12,7 @@
 --
 -- Assumes nothing.
 pub use Rattle.codeword.proofs.Word.{word-length, value-none, value-snoc}
+pub use Rattle.codeword.proofs.Counting.{placesExactly, placesCounted}
 pub use Rattle.codeword.proofs.Distance.{distance-self, distance-zero}
 pub use Rattle.codeword.proofs.Criterion.{codeWord-zero, zero-codeWord}
 pub use Rattle.codeword.proofs.Systematic.{octets-append, codeWord-only, parity-codeWord, encodes-true, encoded-is}

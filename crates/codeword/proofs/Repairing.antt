@@ -3,7 +3,8 @@
 --   clean-found             a word whose syndromes are zero is found, unchanged
 --   long-lost               a locator longer than e: no code word within e
 --   roots-lost              a locator with fewer roots among the places than its length: none either
---   corrected-found         as many roots as its length: with Forney's values added there, the code word within e, and the count is right
+--   corrected-found         as many roots as its length: with Forney's values added there, the code word within e; the roots' places are those
+--                           at which it differs, and the count is right
 --   reads-true, reads-all   which words are of the code, and have room
 --   refused-lost            one that is not, or has none, is out of reach
 --
@@ -19,9 +20,10 @@ use borrow.Author.Tests.{le-leb, lt-ltb, leb-true, ltb-true}
 use lib.Dec.{leb, ltb}
 use lib.ListN.{length, getD, take, drop, length-drop, List·getD-eq-default, take-append-drop}
 use lib.Seq.{length-take-le, getD-take, ext-getD, getD-drop}
-use Rattle.octets.specs.Tests.{three-true}
-use Rattle.octets.specs.Written.{written, written-length, written-inside, written-outside}
+use Rattle.octets.specs.Tests.{both-true, three-true}
+use Rattle.octets.specs.Written.{written, written-nothing, written-length, written-inside, written-outside}
 use Rattle.algebra.specs.Field.{Field}
+use Rattle.algebra.specs.Lists.{Lists}
 use Rattle.algebra.specs.Series.{Series, Operations, operations}
 use Rattle.algebra.specs.Power.{pow}
 use Rattle.algebra.specs.Value.{ev}
@@ -30,7 +32,7 @@ use Rattle.algebra.specs.PowerSum.{psum}
 use Rattle.algebra.specs.Support.{weight}
 use Rattle.algebra.specs.Derivative.{deriv}
 use Rattle.algebra.proofs.Laws.{⊕-self, ⊕-cancel, ⊕-𝟘, ⊙-assoc, ⊙-comm, ⊙-inv, ⊙-𝟙, ⊞-at, ev-local, length-complete}
-use Rattle.algebra.proofs.Laws.{search-complete, divisor-ne, search-sound}
+use Rattle.algebra.proofs.Laws.{search-complete, divisor-ne, search-sound, search-lists, eq-of-sum, lists-as}
 use Rattle.field.specs.Octet.{size, order}
 use Rattle.field.specs.Octet.Laws.{product-octet}
 use Rattle.codeword.specs.Element.{elements, element, octet, α}
@@ -41,10 +43,11 @@ use Rattle.codeword.specs.Syndromes.{SyndromesAre, allZero}
 use Rattle.codeword.specs.Locator.{LocatorIs}
 use Rattle.codeword.specs.Search.{valueOf, SearchIs}
 use Rattle.codeword.specs.Values.{EvaluatorIs, DerivativeIs, errorOf, Corrected}
-use Rattle.codeword.specs.Repair.{reads, FoundIs, OutOfReachIs}
+use Rattle.codeword.specs.Repair.{RepairLent, lending, hasRoom, reads, FoundIs, OutOfReachIs}
 use Rattle.codeword.proofs.Word.{places-at, locators-distinct, locators-inverse}
 use Rattle.codeword.proofs.Criterion.{codeWord-zero, zero-codeWord}
-use Rattle.codeword.proofs.Distance.{difference, distance-weight, distance-self, difference-value}
+use Rattle.codeword.proofs.Counting.{placesExactly, changed-none}
+use Rattle.codeword.proofs.Distance.{element-same, difference, distance-weight, distance-self, difference-value}
 use Rattle.codeword.proofs.Absorbing.{zero-syndromes}
 use Rattle.codeword.proofs.Systematic.{octets-take}
 
@@ -68,14 +71,14 @@ same-drop n u v e = length-drop n u ∙ ap (λ (k : ℕ). k - n) e ∙ sym (leng
 
 -- ---- a clean word
 
-pub clean-found : (e : ℕ) (w before s after : List ℕ) → reads (length w) e (length before) ≡ true → 2 * e < order → Octets w
-    → SyndromesAre (2 * e) w s → allZero (2 * e) s ≡ true → after ≡ written before 0 w → FoundIs e w before 0 after
-clean-found e w before s after fits small o sy z is = record {
+pub clean-found : (e : ℕ) (w : List ℕ) (before : RepairLent) (s u : List ℕ) → reads (length w) e before ≡ true → 2 * e < order → Octets w
+    → SyndromesAre (2 * e) w s → allZero (2 * e) s ≡ true → u ≡ written (before .repair) 0 w → FoundIs e w before 0 (lending u (before .places))
+clean-found e w before s u fits small o sy z is = record {
   fits = fits;
   found = w;
   within = record { long = refl; code = zero-syndromes e w s small o sy z; near = rw (distance-self w) (omega arith) };
   count = sym (distance-self w);
-  written-is = is;
+  filled-is = ap₂ lending is (sym (ap (written (before .places) 0) (changed-none w) ∙ written-nothing (before .places) 0));
 }
 
 -- ---- what the steps show
@@ -142,7 +145,7 @@ module _ (e : ℕ) (w s c : List ℕ) (l : ℕ) (n-small : length w ≤ longestW
         (divisor-ne elements distinct inverse (lo .state) (λ i. getD at i 0) (se .search) j h))
         ∙ ⊙-𝟙 elements _
 
-    module _ (before u : List ℕ) (room : length w ≤ length before) (co : Corrected (length w) l l at ov de (written before 0 w) u) where
+    module _ (before : List ℕ) (u : List ℕ) (room : length w ≤ length before) (co : Corrected (length w) l l at ov de (written before 0 w) u) where
       u-long : length u ≡ length before
       u-long = co .long ∙ written-length before 0 w (omega arith)
 
@@ -163,7 +166,7 @@ module _ (e : ℕ) (w s c : List ℕ) (l : ℕ) (n-small : length w ≤ longestW
 
       elsewhere : (p : ℕ) → (ev elements (suc l) (places c) (inverses (length w) p) ≡ 𝟘 → ⊥) → difference w (take (length w) u) p ≡ 𝟘
       elsewhere p no-root = same-none p (elim (decLt p (length w)) [
-        | yes h ↦ repaired-at p h ∙ co .same p (λ j m z. no-root (rw z at (se .search .root j m))) ∙ copied p h
+        | yes h ↦ repaired-at p h ∙ co .same p (λ j m z. no-root (rw z at (se .search .each j m))) ∙ copied p h
         | no h ↦ List·getD-eq-default (take (length w) u) 0 (beyond (take (length w) u) long h) ∙ sym (List·getD-eq-default w 0 (beyond w refl h))
       ])
         where
@@ -179,15 +182,33 @@ module _ (e : ℕ) (w s c : List ℕ) (l : ℕ) (n-small : length w ≤ longestW
           inside : getD at j 0 < length w
           inside = se .search .inside j h
 
+      valued : (j : ℕ) → j < l
+          → difference w (take (length w) u) (getD at j 0) ⊙ ev elements l (deriv elements (places c)) (inverses (length w) (getD at j 0))
+          ≡ ev elements l (places c ⊛ places s) (inverses (length w) (getD at j 0))
+      valued j h =
+          ap (λ (x : F). x ⊙ ev elements l (deriv elements (places c)) (inverses (length w) (getD at j 0))) (listed j h) ∙ divided j h
+
       sound : ((i : ℕ) → i < 2 * e → psum elements (length w) (difference w (take (length w) u)) (locators (length w)) (suc i) ≡ places s i)
           × (weight elements (length w) (difference w (take (length w) u)) ≡ l)
       sound =
           search-sound elements distinct inverse (lo .state) (λ i. getD at i 0) (se .search)
-          (difference w (take (length w) u)) (omega arith) elsewhere
-          (λ j h. ap (λ (x : F). x ⊙ ev elements l (deriv elements (places c)) (inverses (length w) (getD at j 0))) (listed j h) ∙ divided j h)
+          (difference w (take (length w) u)) (omega arith) elsewhere valued
 
       octets-repaired : Octets (take (length w) u)
       octets-repaired = octets-take (length w) u (co .octets)
+
+      -- the roots are at the places where the words differ
+      differ : (p : ℕ) → difference w (take (length w) u) p ≡ 𝟘 → getD w p 0 ≡ getD (take (length w) u) p 0
+      differ p z = element-same _ _ (o p) (octets-repaired p) (eq-of-sum elements _ _ (sym (difference-at p) ∙ z))
+
+      at-long : length (take l at) ≡ l
+      at-long = length-take-le l at (omega (arith, se .long, short))
+
+      places-listed : Lists (length w) (length (take l at)) (λ p. getD w p 0 ≢ getD (take (length w) u) p 0) (λ j. getD (take l at) j 0)
+      places-listed = rw at-long (lists-as (length w) l _ (λ p. getD w p 0 ≢ getD (take (length w) u) p 0) (λ j. getD at j 0) _
+          (λ p h ne q. ne (same-none p (sym q))) (λ p h ne z. ne (differ p z)) (λ j h. sym (getD-take l at j 0 h))
+          (search-lists elements distinct inverse (lo .state) (λ i. getD at i 0) (se .search)
+          (difference w (take (length w) u)) (omega arith) elsewhere valued))
 
       zero-value : (i : ℕ) → i < 2 * e → value (take (length w) u) (pow elements α (suc i)) ≡ 𝟘
       zero-value i h =
@@ -195,8 +216,9 @@ module _ (e : ℕ) (w s c : List ℕ) (l : ℕ) (n-small : length w ≤ longestW
           ∙ ap (λ (x : F). value w (pow elements α (suc i)) ⊕ x) (sym (difference-value w (take (length w) u) (sym long) (suc i)) ∙ sound .0 i h ∙ syndrome i h)
           ∙ ⊕-self elements _
 
-      pub corrected-found : 2 * e < order → reads (length w) e (length before) ≡ true → FoundIs e w before l u
-      corrected-found small fits = record {
+      pub corrected-found : 2 * e < order → (list left : List ℕ) → reads (length w) e (lending before list) ≡ true → left ≡ written list 0 (take l at)
+          → FoundIs e w (lending before list) l (lending u left)
+      corrected-found small list left fits is = record {
         fits = fits;
         found = take (length w) u;
         within = record {
@@ -205,7 +227,7 @@ module _ (e : ℕ) (w s c : List ℕ) (l : ℕ) (n-small : length w ≤ longestW
           near = omega (arith, apart);
         };
         count = sym apart;
-        written-is = kept;
+        filled-is = ap₂ lending kept (is ∙ ap (written list 0) (placesExactly w (take (length w) u) (take l at) long .1 places-listed));
       }
         where
           apart : distance w (take (length w) u) ≡ l
@@ -226,14 +248,18 @@ module _ (e : ℕ) (w s c : List ℕ) (l : ℕ) (n-small : length w ≤ longestW
 
 -- ---- whether the word is one of the code
 
-pub reads-true : (n e room : ℕ) → n ≤ longestWord → 2 * e < n → n ≤ room → reads n e room ≡ true
-reads-true n e room a b c = rw (le-leb n longestWord a, lt-ltb (2 * e) n b, le-leb n room c)
+pub reads-true : (n e : ℕ) (lent : RepairLent) → n ≤ longestWord → 2 * e < n → n ≤ length (lent .repair) → e ≤ length (lent .places)
+    → reads n e lent ≡ true
+reads-true n e lent a b c d = rw (le-leb n longestWord a, lt-ltb (2 * e) n b, le-leb n (length (lent .repair)) c, le-leb e (length (lent .places)) d)
 
-pub reads-all : (n e room : ℕ) → reads n e room ≡ true → (n ≤ longestWord) × (2 * e < n) × (n ≤ room)
-reads-all n e room h =
-    let t = three-true (leb n longestWord) (ltb (2 * e) n) (leb n room) h in
-    (leb-true n longestWord (t .0), ltb-true (2 * e) n (t .1), leb-true n room (t .2))
+pub reads-all : (n e : ℕ) (lent : RepairLent) → reads n e lent ≡ true
+    → (n ≤ longestWord) × (2 * e < n) × (n ≤ length (lent .repair)) × (e ≤ length (lent .places))
+reads-all n e lent h =
+    let t = three-true (leb n longestWord) (ltb (2 * e) n) (hasRoom n e lent) h in
+    let r = both-true (leb n (length (lent .repair))) (leb e (length (lent .places))) (t .2) in
+    (leb-true n longestWord (t .0), ltb-true (2 * e) n (t .1), leb-true n (length (lent .repair)) (r .0), leb-true e (length (lent .places)) (r .1))
 
-pub refused-lost : (e : ℕ) (w before : List ℕ) → ((length w ≤ longestWord) × (2 * e < length w) × (length w ≤ length before) → ⊥)
+pub refused-lost : (e : ℕ) (w : List ℕ) (before : RepairLent)
+    → ((length w ≤ longestWord) × (2 * e < length w) × (length w ≤ length (before .repair)) × (e ≤ length (before .places)) → ⊥)
     → OutOfReachIs e w before before
-refused-lost e w before no-fit = record { none = λ h. absurd (no-fit (reads-all (length w) e (length before) h)); same = refl }
+refused-lost e w before no-fit = record { none = λ h. absurd (no-fit (reads-all (length w) e before h)); same = refl }

@@ -16,7 +16,7 @@ use lib.ListN.{length, getD, set, length-set}
 use lib.Seq.{getD-set-same, getD-set-other}
 use Rattle.algebra.specs.Field.{Field}
 use Rattle.algebra.specs.Value.{ev, from}
-use Rattle.algebra.proofs.Laws.{⊕-comm, ⊙-comm, ev-zero, from-zero, horner}
+use Rattle.algebra.proofs.Laws.{⊕-comm, ⊙-comm, ev-zero, from-zero, horner, lists-none}
 use Rattle.field.specs.Octet as Octet
 use Rattle.codeword.specs.Element.{elements, element, octet}
 use Rattle.codeword.specs.Element.Laws.{octet-element, octet-same, octet-nil, element-sum, element-product, element-zero}
@@ -59,12 +59,7 @@ pub search-start : {n l : ℕ} {c : List ℕ} → SearchIs n 0 l c zeros 0
 search-start = record {
   long = refl;
   few = omega arith;
-  search = record {
-    inside = λ j h. absurd (omega arith);
-    rises = λ i j h k. absurd (omega arith);
-    root = λ j h. absurd (omega arith);
-    all = λ p h. absurd (omega arith);
-  };
+  search = lists-none _ _;
 }
 
 module _ {n p l : ℕ} {c at : List ℕ} {count x : ℕ} (x-is : x ≡ octet (inverses n p)) (s : SearchIs n p l c at count) where
@@ -86,7 +81,7 @@ module _ {n p l : ℕ} {c at : List ℕ} {count x : ℕ} (x-is : x ≡ octet (in
     search = record {
       inside = λ j h. omega (arith, s .search .inside j h);
       rises = s .search .rises;
-      root = s .search .root;
+      each = s .search .each;
       all = λ q h z. go q h z (ℕ-discrete q p);
     };
   }
@@ -99,7 +94,7 @@ module _ {n p l : ℕ} {c at : List ℕ} {count x : ℕ} (x-is : x ≡ octet (in
   search-hit small is-root = record {
     long = length-set at count p ∙ s .long;
     few = omega (arith, s .few);
-    search = record { inside = inside; rises = rises; root = root; all = all };
+    search = record { inside = inside; rises = rises; each = root; all = all };
   }
     where
       room : count < length at
@@ -125,7 +120,7 @@ module _ {n p l : ℕ} {c at : List ℕ} {count x : ℕ} (x-is : x ≡ octet (in
 
       root : (j : ℕ) → j < count + 1 → ev elements (suc l) (places c) (inverses n (getD (set at count p) j 0)) ≡ 𝟘
       root j h = elim (decLt j count) [
-        | yes m ↦ rw (old j m) (s .search .root j m)
+        | yes m ↦ rw (old j m) (s .search .each j m)
         | no m ↦ (let e : j ≡ count = omega arith in rw (e, new) (root-value is-root))
       ]
 

@@ -1,4 +1,4 @@
--- The claims of specs/Claims.antt, but for `DistanceIs` (Counting.antt).
+-- The claims of specs/Claims.antt, but for `DistanceIs`, `PlacesExactly` and `PlacesCounted` (Counting.antt).
 --
 --   encodedIsCodeWord, encodedIsOnly, encodedUnique                      of encoding
 --   codeWordsApart, withoutParity, zeroSyndromes, neverSecond            of code words
@@ -17,12 +17,15 @@ use Rattle.octets.specs.Tests.{never}
 use Rattle.octets.specs.Written.{written, written-part, written-behind}
 use Rattle.codeword.specs.Element.{octet}
 use Rattle.codeword.specs.Element.Laws.{octet-element, octet-nil}
+use Rattle.codeword.specs.Changed.{changedPlaces}
 use Rattle.codeword.specs.CodeWord.{distance}
 use Rattle.codeword.specs.Encoding.{encodes, Done, Encoded}
+use Rattle.codeword.specs.Repair.{RepairLent, filled}
 use Rattle.codeword.specs.Claims.{EncodedIsCodeWord, EncodedIsOnly, CodeWordsApart, WithoutParity, ZeroSyndromes}
 use Rattle.codeword.specs.Claims.{FoundExactly, FoundIsIt, NeverSecond, LostUntouched, UnusedZero, EncodedUnique, RepairedUnique}
 use Rattle.codeword.specs.declared.Reach.the-variants.{Found, OutOfReach}
 use Rattle.codeword.proofs.Word.{places-at}
+use Rattle.codeword.proofs.Counting.{placesCounted}
 use Rattle.codeword.proofs.Criterion.{codeWord-zero, zero-codeWord}
 use Rattle.codeword.proofs.Distance.{codeWords-apart, within-unique}
 use Rattle.codeword.proofs.Systematic.{parity-codeWord, codeWord-begins, parity-unique, encoded-unique, encoded-is, encodes-all}
@@ -96,12 +99,19 @@ foundExactly e w before after OutOfReach fits p = (
 
 pub foundIsIt : FoundIsIt
 foundIsIt e w before after changed p c h =
-    let f = reads-all (length w) e (length before) (p .fits) in
-    let same : p .found ≡ c = within-unique e w (p .found) c (f .0) (p .within) h in (
-      (rw (← p .within .long) (ap (take (length (p .found))) (p .written-is) ∙ front before (p .found) (omega (arith, p .within .long)))) ∙ same,
-      p .count ∙ ap (distance w) same,
-      ap (drop (length w)) (p .written-is) ∙ rest before (p .found) (length w) (sym (p .within .long)) (f .2),
-    )
+    let f = reads-all (length w) e before (p .fits) in
+    let same : p .found ≡ c = within-unique e w (p .found) c (f .0) (p .within) h in
+    let left : after ≡ filled before c (changedPlaces w c) = p .filled-is ∙ ap (λ (x : List ℕ). filled before x (changedPlaces w x)) same in
+    let many : changed ≡ distance w c = p .count ∙ ap (distance w) same in
+    let number : changed ≡ length (changedPlaces w c) = many ∙ sym (placesCounted w c (h .long)) in
+    record {
+      word = ap₂ take (sym (h .long)) (ap (λ (x : RepairLent). x .repair) left) ∙ front (before .repair) c (omega (arith, h .long));
+      behind = ap (λ (x : RepairLent). drop (length w) (x .repair)) left ∙ rest (before .repair) c (length w) (sym (h .long)) (f .2);
+      places = ap₂ take number (ap (λ (x : RepairLent). x .places) left) ∙ front (before .places) (changedPlaces w c) (omega (arith, h .near));
+      past = ap (λ (x : RepairLent). drop changed (x .places)) left ∙ rest (before .places) (changedPlaces w c) changed number (omega (arith, h .near));
+      number = number;
+      count = many;
+    }
 
 pub lostUntouched : LostUntouched
 lostUntouched e w before after p = p .same
@@ -114,9 +124,11 @@ unusedZero e w s c l sy lo o = (
 
 pub repairedUnique : RepairedUnique
 repairedUnique e w before (Found k) (Found j) after left p q =
-    let f = reads-all (length w) e (length before) (p .fits) in
-    let same : p .found ≡ q .found = within-unique e w (p .found) (q .found) (f .0) (p .within) (q .within) in
-    (ap Found (p .count ∙ ap (distance w) same ∙ sym (q .count)), p .written-is ∙ ap (written before 0) same ∙ sym (q .written-is))
+    let f = reads-all (length w) e before (p .fits) in
+    let same : p .found ≡ q .found = within-unique e w (p .found) (q .found) (f .0) (p .within) (q .within) in (
+      ap Found (p .count ∙ ap (distance w) same ∙ sym (q .count)),
+      p .filled-is ∙ ap (λ (x : List ℕ). filled before x (changedPlaces w x)) same ∙ sym (q .filled-is),
+    )
 repairedUnique e w before (Found k) OutOfReach after left p q = absurd (q .none (p .fits) (p .found) (p .within))
 repairedUnique e w before OutOfReach (Found j) after left p q = absurd (p .none (q .fits) (q .found) (q .within))
 repairedUnique e w before OutOfReach OutOfReach after left p q = (refl, p .same ∙ sym (q .same))

@@ -1,38 +1,45 @@
--- What is claimed of encoding and repair, over every word and every setting; proofs/Counting.antt proves `DistanceIs`, and
--- proofs/Theorems.antt each other claim. `encodes` and `reads` hold exactly of words of at least one octet and at most `longestWord`
--- with 2e below their length, where there is room.
+-- What is claimed of encoding and repair, over every word and every setting; proofs/Counting.antt proves `DistanceIs`, `PlacesExactly` and
+-- `PlacesCounted`, and proofs/Theorems.antt each other claim. `encodes` and `reads` hold exactly of words of at least one octet and at most
+-- `longestWord` with 2e below their length, where there is room.
 --
 --   isFound r            whether a repair's answer is that it found a code word
 --   DistanceIs           the distance of two words is the number of octets in which they differ
+--   PlacesExactly        numbers are the changed places of two words of one length exactly if they list, ascending, every place at which the
+--                        words differ and no other, the first octet being at place 0
+--   PlacesCounted        there are as many of them as octets in which the words differ
 --   EncodedIsCodeWord    encoding gives a code word that begins with the message
 --   EncodedIsOnly        .. and the only one of its length that does
 --   CodeWordsApart       two code words of one length that differ in at most 2e octets are equal
 --   WithoutParity        with e = 0 every word of octets is a code word
 --   ZeroSyndromes        a word is a code word exactly when the values of its polynomial at α, α², .., α^2e are zero
 --   FoundExactly         a repair finds a code word exactly when one of that length differs from the word in at most e octets
---   FoundIsIt            .. what is found is that code word, and the number is that of the octets that differ
+--   Shows w c before k after   after a repair of w the code word c, and the places at which it differs from w, stand at the front of what was
+--                        lent, the rest is as it was, and k is the number of those places and of the octets that differ
+--   FoundIsIt            .. what is found is that code word: it, its places and their number are shown
 --   NeverSecond          .. and there is never a second one
---   LostUntouched        where it finds none, the lent octets are as they came
+--   LostUntouched        where it finds none, the lent octets and the lent list are as they came
 --   UnusedZero           the syndromes past 2e are zero, and so are the locator's coefficients past its length
 --   EncodedUnique        any two answers that encoding's promise allows are equal, lent octets included
---   RepairedUnique       any two answers that the repair's promise allows are equal, lent octets included
+--   RepairedUnique       any two answers that the repair's promise allows are equal, lent octets and lent list included
 --
 -- Assumes nothing.
 use mathlib.Core.Path.{_≡_}
-use mathlib.Core.Logic.{_↔_}
+use mathlib.Core.Logic.{_≢_, _↔_}
 use mathlib.Core.Bool.{Bool, true, false}
 use mathlib.Core.List.{List, [], _∷_}
 use Prim.Native.Nat.{ℕ, suc, _+_, _*_, _≤_, _<_}
 use lib.ListN.{length, getD, take, drop}
+use Rattle.algebra.specs.Lists.{Lists}
 use Rattle.algebra.specs.Power.{pow}
 use Rattle.field.specs.Octet.{order}
 use Rattle.codeword.specs.Element.{elements, α}
+use Rattle.codeword.specs.Changed.{changedPlaces}
 use Rattle.codeword.specs.CodeWord.{longestWord, Octets, CodeWord, distance, Within}
 use Rattle.codeword.specs.Places.{value}
 use Rattle.codeword.specs.Syndromes.{SyndromesAre}
 use Rattle.codeword.specs.Locator.{LocatorIs}
 use Rattle.codeword.specs.Encoding.{encodes, Encoded}
-use Rattle.codeword.specs.Repair.{reads, Repaired}
+use Rattle.codeword.specs.Repair.{RepairLent, reads, Repaired}
 use Rattle.codeword.specs.declared.Reach.{Reach}
 use Rattle.codeword.specs.declared.Reach.the-variants.{Found, OutOfReach}
 
@@ -44,6 +51,14 @@ abbrev pub DistanceIs : Type 0
 DistanceIs =
     (a b : ℕ) (v w : List ℕ)
     → (distance [] [] ≡ 0) × (distance (a ∷ v) (a ∷ w) ≡ distance v w) × ((a ≡ b → ⊥) → distance (a ∷ v) (b ∷ w) ≡ 1 + distance v w)
+
+abbrev pub PlacesExactly : Type 0
+PlacesExactly =
+    (w c l : List ℕ) → length c ≡ length w
+    → l ≡ changedPlaces w c ↔ Lists (length w) (length l) (λ p. getD w p 0 ≢ getD c p 0) (λ j. getD l j 0)
+
+abbrev pub PlacesCounted : Type 0
+PlacesCounted = (w c : List ℕ) → length c ≡ length w → length (changedPlaces w c) ≡ distance w c
 
 abbrev pub EncodedIsCodeWord : Type 0
 EncodedIsCodeWord =
@@ -66,19 +81,28 @@ ZeroSyndromes = (e : ℕ) (w : List ℕ) → 2 * e < order → Octets w → Code
 
 abbrev pub FoundExactly : Type 0
 FoundExactly =
-    (e : ℕ) (w before after : List ℕ) (r : Reach) → reads (length w) e (length before) ≡ true → Repaired e w before r after
+    (e : ℕ) (w : List ℕ) (before after : RepairLent) (r : Reach) → reads (length w) e before ≡ true → Repaired e w before r after
     → isFound r ≡ true ↔ ((c : List ℕ) × Within e w c)
+
+pub record Shows (w c : List ℕ) (before : RepairLent) (changed : ℕ) (after : RepairLent) : Type 0 where
+  pub word : take (length w) (after .repair) ≡ c
+  pub behind : drop (length w) (after .repair) ≡ drop (length w) (before .repair)
+  -- "the changed count is the number of places"
+  pub places : take changed (after .places) ≡ changedPlaces w c
+  pub past : drop changed (after .places) ≡ drop changed (before .places)
+  pub number : changed ≡ length (changedPlaces w c)
+  pub count : changed ≡ distance w c
 
 abbrev pub FoundIsIt : Type 0
 FoundIsIt =
-    (e : ℕ) (w before after : List ℕ) (changed : ℕ) → Repaired e w before (Found changed) after
-    → (c : List ℕ) → Within e w c → (take (length w) after ≡ c) × (changed ≡ distance w c) × (drop (length w) after ≡ drop (length w) before)
+    (e : ℕ) (w : List ℕ) (before after : RepairLent) (changed : ℕ) → Repaired e w before (Found changed) after
+    → (c : List ℕ) → Within e w c → Shows w c before changed after
 
 abbrev pub NeverSecond : Type 0
 NeverSecond = (e : ℕ) (w c d : List ℕ) → length w ≤ longestWord → Within e w c → Within e w d → c ≡ d
 
 abbrev pub LostUntouched : Type 0
-LostUntouched = (e : ℕ) (w before after : List ℕ) → Repaired e w before OutOfReach after → after ≡ before
+LostUntouched = (e : ℕ) (w : List ℕ) (before after : RepairLent) → Repaired e w before OutOfReach after → after ≡ before
 
 -- "have room for 255 coefficients, zero where unused"
 abbrev pub UnusedZero : Type 0
@@ -92,4 +116,5 @@ EncodedUnique =
 
 abbrev pub RepairedUnique : Type 0
 RepairedUnique =
-    (e : ℕ) (w before : List ℕ) (r q : Reach) (after left : List ℕ) → Repaired e w before r after → Repaired e w before q left → (r ≡ q) × (after ≡ left)
+    (e : ℕ) (w : List ℕ) (before : RepairLent) (r q : Reach) (after left : RepairLent)
+    → Repaired e w before r after → Repaired e w before q left → (r ≡ q) × (after ≡ left)

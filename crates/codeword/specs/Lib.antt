@@ -3,6 +3,7 @@ pub mod CodeWord
 pub mod Encoding
 pub mod Remainder
 pub mod Register
+pub mod Changed
 pub mod Repair
 pub mod Places
 pub mod Syndromes

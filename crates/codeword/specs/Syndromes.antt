@@ -3,7 +3,7 @@
 --   SyndromesAre m w s        s₀, .., s₍ₘ₋₁₎ are the values of w's polynomial at α, .., αᵐ, and the rest is zero
 --   PointsAre m x             x₀, .., x₍ₘ₋₁₎ are α, .., αᵐ
 --   Absorbed m a x s t        one octet a of the word taken in: each s becomes x s + a
---   Decodable e w before s    what decoding is given: a word of the code's lengths, the room for it, and its syndromes
+--   Decodable e w before s    what decoding is given: a word of the code's lengths, the room for it and for e places, and its syndromes
 --   allZero m s               s₀, .., s₍ₘ₋₁₎ are zero
 --
 -- Assumes nothing.
@@ -18,6 +18,7 @@ use Rattle.field.specs.Octet as Octet
 use Rattle.codeword.specs.Element.{elements, element, α}
 use Rattle.codeword.specs.CodeWord.{longestWord}
 use Rattle.codeword.specs.Places.{value}
+use Rattle.codeword.specs.Repair.{RepairLent}
 
 pub record PointsAre (m : ℕ) (x : List ℕ) : Type 0 where
   pub long : length x ≡ longestWord
@@ -32,10 +33,11 @@ pub record SyndromesAre (m : ℕ) (w s : List ℕ) : Type 0 where
   pub used : (i : ℕ) → i < m → element (getD s i 0) ≡ value w (pow elements α (suc i))
   pub unused : (i : ℕ) → m ≤ i → getD s i 0 ≡ 0
 
-pub record Decodable (e : ℕ) (w before s : List ℕ) : Type 0 where
+pub record Decodable (e : ℕ) (w : List ℕ) (before : RepairLent) (s : List ℕ) : Type 0 where
   pub short : length w ≤ longestWord
   pub parity : 2 * e < length w
-  pub room : length w ≤ length before
+  pub room : length w ≤ length (before .repair)
+  pub list : e ≤ length (before .places)
   pub syndromes : SyndromesAre (2 * e) w s
 
 unfoldable pub allZero : ℕ → List ℕ → Bool

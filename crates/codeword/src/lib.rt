@@ -9,7 +9,7 @@ use field::TABLES;
 ghost use Rattle.field.specs.Octet.Table.{Tables};
 ghost use Rattle.codeword.specs.Encoding.{Encoded};
 ghost use Rattle.codeword.specs.Syndromes.{Decodable};
-ghost use Rattle.codeword.specs.Repair.{Repaired};
+ghost use Rattle.codeword.specs.Repair.{lending, Repaired};
 
 // The octets of the longest word (003, D.4.1.7.3): as many as α has powers.
 pub const LONGEST_WORD: usize = 255;
@@ -46,17 +46,19 @@ pub fn encode(message: &[u8], e: usize, sent: &mut [u8]) -> usize
     k + m
 }
 
-// The code word within e octets of a word with the syndromes s, if there is one.
+// The code word within e octets of a word with the syndromes s, and the places at which they differ, if there is one.
 fn decode(
     received: &[u8],
     s: &[u8; LONGEST_WORD],
     e: usize,
     repaired: &mut [u8],
+    places: &mut [u8],
     t: &[u8; TABLES],
 ) -> Reach
-    requires { ⌜ Decodable e (now received) (now repaired) (now s) ⌝ }
+    requires { ⌜ Decodable e (now received) (lending (now repaired) (now places)) (now s) ⌝ }
     requires { ⌜ Tables (now t) ⌝ }
-    ensures { λ r. ⌜ Repaired e (now (received .entry)) (now (repaired .entry)) r (now (repaired .exit)) ⌝ }
+    ensures { λ r. ⌜ Repaired e (now (received .entry)) (lending (now (repaired .entry)) (now (places .entry))) r
+        (lending (now (repaired .exit)) (now (places .exit))) ⌝ }
 {
     let n = received.len();
     let recurrence = locator::locator(s, 2 * e, t);
@@ -65,23 +67,26 @@ fn decode(
         return Reach::OutOfReach;
     }
     let c = recurrence.coefficients;
-    let places = search::search(&c, l, n, t);
-    let count = places.count;
+    let roots = search::search(&c, l, n, t);
+    let count = roots.count;
     if count != l {
         return Reach::OutOfReach;
     }
-    let at = places.at;
+    let at = roots.at;
     let o = values::evaluator(&c, s, l, t);
     let d = values::derivative(&c, l);
     octets::write(repaired, 0, received);
     values::correct(repaired, n, &at, l, &o, &d, t);
+    octets::write(places, 0, &at[..l]);
     Reach::Found(l)
 }
 
-// The code word within e octets of the received word into the front of `repaired`, and how many octets were changed for it; or out of
-// reach, and nothing is written. Where the word is longer than the longest or not over 2e, or `repaired` is shorter, it is out of reach too.
-pub fn repair(received: &[u8], e: usize, repaired: &mut [u8]) -> Reach
-    ensures { λ r. ⌜ Repaired e (now (received .entry)) (now (repaired .entry)) r (now (repaired .exit)) ⌝ }
+// The code word within e octets of the received word into the front of `repaired`, the places at which they differ, rising, into the front
+// of `places`, and how many these are; or out of reach, and nothing is written. Where the word is longer than the longest or not over 2e,
+// `repaired` is shorter, or `places` shorter than e, it is out of reach too.
+pub fn repair(received: &[u8], e: usize, repaired: &mut [u8], places: &mut [u8]) -> Reach
+    ensures { λ r. ⌜ Repaired e (now (received .entry)) (lending (now (repaired .entry)) (now (places .entry))) r
+        (lending (now (repaired .exit)) (now (places .exit))) ⌝ }
 {
     let n = received.len();
     if LONGEST_WORD < n {
@@ -96,11 +101,14 @@ pub fn repair(received: &[u8], e: usize, repaired: &mut [u8]) -> Reach
     if repaired.len() < n {
         return Reach::OutOfReach;
     }
+    if places.len() < e {
+        return Reach::OutOfReach;
+    }
     let t = field::tables();
     let s = syndromes::syndromes(received, 2 * e, &t);
     if syndromes::clean(&s, 2 * e) {
         octets::write(repaired, 0, received);
         return Reach::Found(0);
     }
-    decode(received, &s, e, repaired, &t)
+    decode(received, &s, e, repaired, places, &t)
 }

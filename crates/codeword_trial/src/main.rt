@@ -3,6 +3,9 @@ use codeword::LONGEST_WORD;
 use codeword::Reach;
 use field::ORDER;
 
+// The most octets that may be repaired: the longest word is then one octet and its parity.
+const MOST_REPAIRS: usize = 127;
+
 // The exponent below α's order of which a is α to it; the order for 0, which is no power.
 fn exponent(a: u8) -> usize {
     let mut k = 0;
@@ -62,19 +65,36 @@ fn try_encode(message: &[u8], e: usize) {
     }
 }
 
+// Writes a place in decimal.
+fn write_place(p: u8) {
+    io::write_all(1, b" ");
+    io::print_decimal(1, p as u64);
+}
+
+// Writes places behind one another.
+fn write_places(places: &[u8]) {
+    io::write_all(1, b" at");
+    let mut i = 0;
+    while i < places.len() {
+        write_place(places[i]);
+        i += 1;
+    }
+    io::write_all(1, b":");
+}
+
 // Repairs, and writes what was found.
 fn try_repair(word: &[u8], e: usize) {
     let mut repaired = [0u8; LONGEST_WORD];
-    let reach = codeword::repair(word, e, &mut repaired);
+    let mut places = [0u8; MOST_REPAIRS];
+    let reach = codeword::repair(word, e, &mut repaired, &mut places);
     let Reach::Found(changed) = reach else {
         io::write_all(1, b"repair: out of reach\n");
         return;
     };
     io::write_all(1, b"repair: changed ");
     io::print_decimal(1, changed as u64);
-    if word.len() <= LONGEST_WORD {
-        write_octets(&repaired[..word.len()], false);
-    }
+    write_places(octets::front(&places, changed));
+    write_octets(octets::front(&repaired, word.len()), false);
 }
 
 // 003, D.4.1.7.3: e = 2, u, g, p and c as powers of α. The generator is what encodes 01.
@@ -103,9 +123,6 @@ fn damage(word: &mut [u8]) {
         i += 2;
     }
 }
-
-// The most octets that may be repaired: the longest word is then one octet and its parity.
-const MOST_REPAIRS: usize = 127;
 
 // One octet with that e: the longest word, of which as many octets are then damaged.
 fn try_longest() {

@@ -12,7 +12,7 @@ use Rattle.calls.specs.declared.Length.the-variants as sends
 use Rattle.calls.proofs.Laws.{allowed-refuses, refused-refuses, checked-refuses, told-refuses}
 use Rattle.adaptation.specs.AL1M.{sentLength}
 use Rattle.adaptation.specs.Sending.{encodeTests, Sends}
-use Rattle.adaptation.specs.Receiving.{receiveTests, Receives}
+use Rattle.adaptation.specs.Receiving.{RepairLent, receiveTests, Receives}
 use Rattle.adaptation.specs.AL1.{passed}
 use Rattle.adaptation.specs.declared.al1m.Received.{Received}
 use Rattle.adaptation.specs.declared.al1m.Received.the-variants as al1m
@@ -30,8 +30,8 @@ encoding : (b e : ℕ) (u before after : List ℕ) (r : Length) → Sends b e u 
 encoding b e u before after (sends.Octets m) (a, p) = allowed-refuses before _ m after a
 encoding b e u before after (sends.Refused k) p = refused-refuses before _ k after (p .first) (p .same)
 
-receiving : (b e : ℕ) (w before after : List ℕ) (r : Received) → Receives b e w before r after
-    → Refuses (ended (judged r) after) (receiveTests (length w) b e (length before)) before
+receiving : (b e : ℕ) (w : List ℕ) (before after : RepairLent) (r : Received) → Receives b e w before r after
+    → Refuses (ended (judged r) after) (receiveTests (length w) b e before) before
 receiving b e w before after (al1m.Unit j) (a, p) = allowed-refuses before _ j after a
 receiving b e w before after (al1m.Refused k) p = refused-refuses before _ k after (p .first) (p .same)
 

@@ -13,6 +13,7 @@ use lib.IntN.{ℤ, pos}
 use lib.ListN.{length, take}
 use lib.Seq.{take-take}
 use Rattle.octets.specs.Tests.{never}
+use Rattle.codeword.specs.Changed.{changedPlaces}
 use Rattle.codeword.specs.CodeWord.{distance, Within}
 use Rattle.codeword.specs.Repair.{Repaired}
 use Rattle.codeword.specs.declared.Reach.{Reach}
@@ -23,7 +24,7 @@ use Rattle.adaptation.specs.Check.{Kind, agrees}
 use Rattle.adaptation.specs.Width.{kindAt}
 use Rattle.adaptation.specs.Handed.{badgeNumber}
 use Rattle.adaptation.specs.Sending.{Sends}
-use Rattle.adaptation.specs.Receiving.{isBare, badgeOf, changedOf, handedUnit, Receives}
+use Rattle.adaptation.specs.Receiving.{RepairLent, isBare, badgeOf, handedUnit, Receives}
 use Rattle.adaptation.specs.Claims.{isFaulty, badgeOfSent}
 use Rattle.adaptation.specs.declared.Badge.{Badge}
 use Rattle.adaptation.specs.declared.Badge.the-variants.{Clean, Corrected, OutOfReach, CheckFailed, Unchecked}
@@ -81,7 +82,8 @@ trusted-number b e zero true = go (isChecked b) refl
 
 -- ---- what is told of a word that is handed up
 
-module _ (b e : ℕ) (w before after : List ℕ) (r : ℤ) (j : Judgement) (p : Receives b e w before (al1m.Unit j) after) (q : Parts r j w after) where
+module _ (b e : ℕ) (w : List ℕ) (before after : RepairLent) (r : ℤ) (j : Judgement) (p : Receives b e w before (al1m.Unit j) after)
+    (q : Parts r j w (after .repair)) where
   known : Repairs b e w before after j
   known = demand3 .repairs b e w before after j p
 
@@ -108,19 +110,20 @@ module _ (b e : ℕ) (w before after : List ℕ) (r : ℤ) (j : Judgement) (p : 
     unfolding agreeing
     judged-as = go (p .1 .reach) (p .1 .repaired) (p .1 .badge-is)
       where
-        go : (o : Reach) → Repaired e w before o after → j .badge ≡ badgeOf (isBare (kindAt b) e) o (agrees (kindAt b) (take (length w - 2 * e) after))
+        go : (o : Reach) → Repaired e w before o after
+            → j .badge ≡ badgeOf (isBare (kindAt b) e) o (agrees (kindAt b) (take (length w - 2 * e) (after .repair)))
             → j .badge ≡ badgeOf (isBare (kindAt b) e) (reach.Found (distance w c)) agreeing
         go reach.OutOfReach f h = absurd (known .found .1 (c, near) h)
         go (reach.Found d) f h =
             let k = foundIsIt e w before after d f c near in
-            let m : take (length w - 2 * e) after ≡ take (length w - 2 * e) c =
-            sym (take-take (length w - 2 * e) (length w) after (omega arith)) ∙ ap (take (length w - 2 * e)) (k .0) in
-            h ∙ ap₂ (badgeOf (isBare (kindAt b) e)) (ap reach.Found (k .1)) (ap (agrees (kindAt b)) m)
+            let m : take (length w - 2 * e) (after .repair) ≡ take (length w - 2 * e) c =
+            sym (take-take (length w - 2 * e) (length w) (after .repair) (omega arith)) ∙ ap (take (length w - 2 * e)) (k .word) in
+            h ∙ ap₂ (badgeOf (isBare (kindAt b) e)) (ap reach.Found (k .count)) (ap (agrees (kindAt b)) m)
 
     badge-told : badgeNumber (j .badge) ≡ foundBadge (isBare (kindAt b) e) (distance w c) agreeing
     badge-told = ap badgeNumber judged-as ∙ found-number (isBare (kindAt b) e) (distance w c) agreeing
 
-    unit-told : agreeing ≡ true → handedUnit (j .badge) w after (j .length) ≡ take (j .length) c
+    unit-told : agreeing ≡ true → handedUnit (j .badge) w (after .repair) (j .length) ≡ take (j .length) c
     unit-told a =
         let f = known .faultless (ap isFaulty (judged-as ∙ ap (badgeOf (isBare (kindAt b) e) (reach.Found (distance w c))) a)
         ∙ found-faultless (isBare (kindAt b) e) (distance w c)) in
@@ -129,9 +132,11 @@ module _ (b e : ℕ) (w before after : List ℕ) (r : ℤ) (j : Judgement) (p : 
     found-told : FoundTold b e w before after r c
     unfolding agreeing
     found-told = record {
-      front = known .repaired c near .0;
-      rest = known .repaired c near .1;
-      changed = q .changed-is ∙ known .repaired c near .2;
+      front = known .repaired c near .word;
+      rest = known .repaired c near .behind;
+      places = rw (q .changed-is) (known .repaired c near .places);
+      others = rw (q .changed-is) (known .repaired c near .past);
+      changed = q .changed-is ∙ known .repaired c near .count;
       badge = q .badge-is ∙ ap pos badge-told;
       trusted = trusted-by _ badge-told ∙ trusted-number b e (distance w c) agreeing;
       unit = λ a. q .unit-is ∙ unit-told a ∙ ap (λ (t : ℕ). take t c) (sym (q .length-is));
@@ -154,15 +159,16 @@ module _ (b e : ℕ) (w before after : List ℕ) (r : ℤ) (j : Judgement) (p : 
 unit-same : (i j : Judgement) → al1m.Unit i ≡ al1m.Unit j → i ≡ j
 unit-same i j h = cc
 
-parts-of : (b e : ℕ) (w before after : List ℕ) (r : ℤ) (j : Judgement) → ReceiveIs b e w before r after → Receives b e w before (al1m.Unit j) after
-    → Parts r j w after
+parts-of : (b e : ℕ) (w : List ℕ) (before after : RepairLent) (r : ℤ) (j : Judgement) → ReceiveIs b e w before r after
+    → Receives b e w before (al1m.Unit j) after → Parts r j w (after .repair)
 parts-of b e w before after r j g p =
     let same = receivedUnique b e w before after after (g .outcome) (al1m.Unit j) (g .received) p .0 in
     let k = receiveAnswered b e w before after r g .1 (ap isBelow (g .number ∙ ap receiveAnswer same)) in
-    subst (λ (i : Judgement). Parts r i w after)
+    subst (λ (i : Judgement). Parts r i w (after .repair))
     (unit-same (k .0) j (receivedUnique b e w before after after (al1m.Unit (k .0)) (al1m.Unit j) (k .1) p .0)) (k .2)
 
-repairs : (b e : ℕ) (w before after : List ℕ) (r : ℤ) → ReceiveIs b e w before r after → isBelow r ≡ false → HostRepairs b e w before after r
+repairs : (b e : ℕ) (w : List ℕ) (before after : RepairLent) (r : ℤ) → ReceiveIs b e w before r after → isBelow r ≡ false
+    → HostRepairs b e w before after r
 repairs b e w before after r a h =
     let k = receiveAnswered b e w before after r a .1 h in host-repairs b e w before after r (k .0) (k .1) (k .2)
 
@@ -172,29 +178,31 @@ sent-number : (κ : Kind) (e d : ℕ) → badgeNumber (badgeOfSent κ e d) ≡ f
 sent-number κ e zero = found-number (isBare κ e) zero true
 sent-number κ e (suc d) = found-number (isBare κ e) (suc d) true
 
-sent-told : (b e d : ℕ) (u w before after : List ℕ) (r : ℤ)
-    → (p : Receives b e w before (al1m.Unit (record { badge = badgeOfSent (kindAt b) e d; changed = d; length = length u })) after)
-    → Parts r (record { badge = badgeOfSent (kindAt b) e d; changed = d; length = length u }) w after
-    → handedUnit (badgeOfSent (kindAt b) e d) w after (length u) ≡ u → SentTold b e d u w after r
-sent-told b e d u w before after r p q h =
-    let n = sent-number (kindAt b) e d in
+sent-told : (b e : ℕ) (c u w : List ℕ) (before after : RepairLent) (r : ℤ)
+    → (p : Receives b e w before (al1m.Unit (record { badge = badgeOfSent (kindAt b) e (distance w c); changed = distance w c; length = length u })) after)
+    → Parts r (record { badge = badgeOfSent (kindAt b) e (distance w c); changed = distance w c; length = length u }) w (after .repair)
+    → handedUnit (badgeOfSent (kindAt b) e (distance w c)) w (after .repair) (length u) ≡ u
+    → take (distance w c) (after .places) ≡ changedPlaces w c → SentTold b e c u w after r
+sent-told b e c u w before after r p q h l =
+    let n = sent-number (kindAt b) e (distance w c) in
     record {
       badge = q .badge-is ∙ ap pos n;
       changed = q .changed-is;
+      places = rw (q .changed-is) l;
       long = q .length-is;
       unit = q .unit-is ∙ h;
-      trusted = trusted-by b e w before after r _ p q _ n ∙ trusted-number b e d true ∙ and-true (isChecked b);
+      trusted = trusted-by b e w before after r _ p q _ n ∙ trusted-number b e (distance w c) true ∙ and-true (isChecked b);
     }
 
-asSent : (b e m : ℕ) (u room sent w before after : List ℕ) (r : ℤ) → EncodeIs b e u room (pos m) sent
-    → length w ≡ m → distance w (take m sent) ≤ e → m ≤ length before → ReceiveIs b e w before r after
-    → SentTold b e (distance w (take m sent)) u w after r
-asSent b e m u room sent w before after r a l near fits g =
+asSent : (b e m : ℕ) (u room sent w : List ℕ) (before after : RepairLent) (r : ℤ) → EncodeIs b e u room (pos m) sent
+    → length w ≡ m → distance w (take m sent) ≤ e → m ≤ length (before .repair) → e ≤ length (before .places) → ReceiveIs b e w before r after
+    → SentTold b e (take m sent) u w after r
+asSent b e m u room sent w before after r a l near fits list g =
     let k = encodeAnswered b e u room sent (pos m) a .1 refl in
     let s : Sends b e u room (sends.Octets m) sent = subst (λ (n : ℕ). Sends b e u room (sends.Octets n) sent) (cc (k .1)) (k .3) in
-    let h = demand3 .asSent b e m u room sent w before after (g .outcome) s l near fits (g .received) in
+    let h = demand3 .asSent b e m u room sent w before after (g .outcome) s l near fits list (g .received) in
     let p = subst (λ (o : Received). Receives b e w before o after) (h .0) (g .received) in
-    sent-told b e (distance w (take m sent)) u w before after r p (parts-of b e w before after r _ g p) (h .1)
+    sent-told b e (take m sent) u w before after r p (parts-of b e w before after r _ g p) (h .1) (h .2)
 
 pub host : Host
 host = record {

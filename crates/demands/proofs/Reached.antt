@@ -3,23 +3,25 @@
 --   demand3     demand 3
 --
 -- Assumes nothing.
-use mathlib.Core.Path.{_≡_, refl, _∙_}
+use mathlib.Core.Path.{_≡_, refl}
+use mathlib.Core.Bool.{not}
 use mathlib.Core.List.{List}
 use Prim.Native.Nat.{ℕ, _+_, _*_, _-_, _≤_}
 use borrow.Author.Tests.{leb-true}
-use lib.Dec.{leb, ltb}
-use lib.ListN.{length, take, drop}
+use lib.Dec.{leb}
+use lib.ListN.{length, take}
 use Rattle.octets.specs.Tests.{both-true}
-use Rattle.codeword.specs.CodeWord.{distance, Within, longestWord}
+use Rattle.codeword.specs.Claims.{Shows}
+use Rattle.codeword.specs.CodeWord.{Within, longestWord}
 use Rattle.codeword.specs.Repair.{Repaired}
 use Rattle.codeword.specs.declared.Reach.{Reach}
 use Rattle.codeword.specs.declared.Reach.the-variants as reach
-use Rattle.codeword.proofs.Laws.{foundIsIt, neverSecond}
+use Rattle.codeword.proofs.Laws.{placesExactly, placesCounted, foundIsIt, neverSecond}
 use Rattle.adaptation.specs.Check.{agrees}
 use Rattle.adaptation.specs.Width.{kindAt}
 use Rattle.calls.specs.Refusal.{told, refusal}
 use Rattle.adaptation.specs.AL1M.{isSetting}
-use Rattle.adaptation.specs.Receiving.{isWord, receiveTests, isBare, badgeOf, changedOf, handedUnit, Receives}
+use Rattle.adaptation.specs.Receiving.{RepairLent, hasRoom, isWord, receiveTests, isBare, badgeOf, changedOf, handedUnit, Receives}
 use Rattle.adaptation.specs.declared.Badge.{Badge}
 use Rattle.adaptation.specs.declared.Badge.the-variants.{Clean, Corrected, OutOfReach, CheckFailed, Unchecked}
 use Rattle.adaptation.specs.declared.al1m.Judgement.{Judgement}
@@ -28,10 +30,10 @@ use Rattle.adaptation.proofs.Laws.{refused-none}
 use Rattle.adaptation.proofs.Laws.{sentIsHandedUp, badge-exactly, outOfReachExactly, outOfReachLeaves, faultlessIsCodeWord}
 use Rattle.demands.specs.Repairs.{Repairs, Demand3}
 
-short : (n e : ℕ) (w before : List ℕ) → refusal (receiveTests (length w) n e (length before)) ≡ told tt → length w ≤ longestWord
+short : (n e : ℕ) (w : List ℕ) (before : RepairLent) → refusal (receiveTests (length w) n e before) ≡ told tt → length w ≤ longestWord
 unfolding isWord
 short n e w before a =
-    let b = refused-none (isSetting n e) (isWord (length w) n e) (ltb (length before) (length w)) a .1 in
+    let b = refused-none (isSetting n e) (isWord (length w) n e) (not (hasRoom (length w) e before)) a .1 in
     leb-true (length w) longestWord (both-true (leb (length w) longestWord) (leb (1 + kindAt n .octets + 2 * e) (length w)) b .0)
 
 as-received : (x : Badge) (w after : List ℕ) (t : ℕ) → (x ≡ Corrected → ⊥) → handedUnit x w after t ≡ take t w
@@ -41,16 +43,16 @@ as-received OutOfReach w after t f = refl
 as-received CheckFailed w after t f = refl
 as-received Unchecked w after t f = refl
 
-module _ (n e : ℕ) (w before after : List ℕ) (j : Judgement) (a : Receives n e w before (al1m.Unit j) after) where
-  found : (x : Reach) → Repaired e w before x after → j .badge ≡ badgeOf (isBare (kindAt n) e) x (agrees (kindAt n) (take (length w - 2 * e) after))
+module _ (n e : ℕ) (w : List ℕ) (before after : RepairLent) (j : Judgement) (a : Receives n e w before (al1m.Unit j) after) where
+  found : (x : Reach) → Repaired e w before x after → j .badge ≡ badgeOf (isBare (kindAt n) e) x (agrees (kindAt n) (take (length w - 2 * e) (after .repair)))
       → (j .badge ≡ OutOfReach → ⊥) → (c : List ℕ) × Within e w c
   found (reach.Found k) p b h = (p .found, p .within)
   found reach.OutOfReach p b h = absurd (h b)
 
-  repaired : (x : Reach) → Repaired e w before x after → j .badge ≡ badgeOf (isBare (kindAt n) e) x (agrees (kindAt n) (take (length w - 2 * e) after))
+  repaired : (x : Reach) → Repaired e w before x after → j .badge ≡ badgeOf (isBare (kindAt n) e) x (agrees (kindAt n) (take (length w - 2 * e) (after .repair)))
       → j .changed ≡ changedOf x
-      → (c : List ℕ) → Within e w c → (take (length w) after ≡ c) × (drop (length w) after ≡ drop (length w) before) × (j .changed ≡ distance w c)
-  repaired (reach.Found k) p b q c i = let f = foundIsIt e w before after k p c i in (f .0, f .2, q ∙ f .1)
+      → (c : List ℕ) → Within e w c → Shows w c before (j .changed) after
+  repaired (reach.Found k) p b q c i = rw q (foundIsIt e w before after k p c i)
   repaired reach.OutOfReach p b q c i = absurd (outOfReachExactly n e w before after j a .0 b c i)
 
   repairs : Repairs n e w before after j
@@ -60,9 +62,9 @@ module _ (n e : ℕ) (w before after : List ℕ) (j : Judgement) (a : Receives n
     once = λ c d p q. neverSecond e w c d (short n e w before (a .0)) p q;
     badge = λ x. badge-exactly x n e w before after j a;
     faultless = faultlessIsCodeWord n e w before after j a;
-    asReceived = as-received (j .badge) w after (j .length);
+    asReceived = as-received (j .badge) w (after .repair) (j .length);
     lost = λ h. let b = outOfReachExactly n e w before after j a .1 h in let l = outOfReachLeaves n e w before after j a b in (b, l .0, l .1);
   }
 
 pub demand3 : Demand3
-demand3 = record { repairs = repairs; asSent = sentIsHandedUp }
+demand3 = record { places = placesExactly; counted = placesCounted; repairs = repairs; asSent = sentIsHandedUp }

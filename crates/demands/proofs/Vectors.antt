@@ -11,22 +11,23 @@
 --
 -- Assumes nothing.
 use mathlib.Core.Path.{_≡_, refl, sym, ap, _∙_, fun-ext}
-use mathlib.Core.Bool.{Bool, true, false, cond, _&&_}
+use mathlib.Core.Bool.{Bool, true, false, cond, not, _&&_}
 use mathlib.Core.List.{List, [], _∷_}
 use Prim.Native.Nat.{ℕ, zero, suc, _*_, _-_, _≤_, _<_}
 use native.Mathlib.Omega.{arith}
-use borrow.Author.Tests.{le-leb, le-ltb, leb-true}
+use borrow.Author.Tests.{le-leb, leb-true}
 use lib.Dec.{T, leb, ltb, lit<, ltb→lt}
 use lib.ListN.{length, take}
 use lib.Seq.{take-append-le}
 use Rattle.octets.specs.Every.{both-left, both-right}
-use Rattle.octets.specs.Written.{written}
+use Rattle.octets.specs.Written.{written, written-nothing}
 use Rattle.algebra.specs.Polynomial.{polynomial}
 use Rattle.codeword.specs.Element.{elements}
 use Rattle.codeword.specs.Element.Laws.{octet-same}
+use Rattle.codeword.specs.Changed.{changedPlaces}
 use Rattle.codeword.specs.CodeWord as code
 use Rattle.codeword.specs.CodeWord.{Octets, distance, Within, longestWord}
-use Rattle.codeword.specs.Repair.{reads}
+use Rattle.codeword.specs.Repair.{reads, filled}
 use Rattle.codeword.specs.declared.Reach.the-variants as reach
 use Rattle.calls.specs.Refusal.{told, refusal}
 use Rattle.algebra.specs.Division.{sum, lowered, divided, remainder}
@@ -35,7 +36,7 @@ use Rattle.adaptation.specs.Check as check
 use Rattle.adaptation.specs.Check.{plain, preset, checkBits, checkOf, agrees, none, eight, sixteen}
 use Rattle.adaptation.specs.Width.{widthOf, kindAt}
 use Rattle.adaptation.specs.AL1M.{isSetting, isSendable, sentLength}
-use Rattle.adaptation.specs.Receiving.{isWord, receiveTests, isBare, badgeOf, isCorrected, unitLength, Receives}
+use Rattle.adaptation.specs.Receiving.{RepairLent, hasRoom, isWord, receiveTests, isBare, badgeOf, isCorrected, unitLength, Receives}
 use Rattle.adaptation.specs.declared.Badge.{Badge}
 use Rattle.adaptation.specs.declared.Badge.the-variants.{Clean, Corrected, OutOfReach, CheckFailed}
 use Rattle.adaptation.specs.declared.al1m.Received.the-variants as al1m
@@ -54,26 +55,30 @@ use Rattle.demands.proofs.Generating.{coefficient, ofList, rooted-worke
 
 module _ (n e : ℕ) (w : List ℕ) (setting : isSetting n e ≡ true) (isOne : isWord (length w) n e ≡ true) (short : leb (length w) longestWord ≡ true)
     (long : ltb (2 * e) (length w) ≡ true) where
-  module _ (before : List ℕ) (room : length w ≤ length before) where
-    allowed : refusal (receiveTests (length w) n e (length before)) ≡ told tt
-    allowed = refused-not (isSetting n e) (isWord (length w) n e) (ltb (length before) (length w)) setting isOne (le-ltb (length before) (length w) room)
+  module _ (before : RepairLent) (room : length w ≤ length (before .repair)) (list : e ≤ length (before .places)) where
+    enough : hasRoom (length w) e before ≡ true
+    enough = rw (le-leb (length w) (length (before .repair)) room, le-leb e (length (before .places)) list)
 
-    fits : reads (length w) e (length before) ≡ true
-    fits = rw (short, long) (le-leb (length w) (length before) room)
+    allowed : refusal (receiveTests (length w) n e before) ≡ told tt
+    allowed = refused-not (isSetting n e) (isWord (length w) n e) (not (hasRoom (length w) e before)) setting isOne (ap not enough)
+
+    fits : reads (length w) e before ≡ true
+    fits = rw (short, long) enough
 
     -- the first octets of what the repair leaves
-    front : (c : List ℕ) (k : ℕ) → length c ≡ length w → k ≤ length w → take k (written before 0 c) ≡ take k c
+    front : (c : List ℕ) (k : ℕ) → length c ≡ length w → k ≤ length w → take k (written (before .repair) 0 c) ≡ take k c
     front c k l h = take-append-le k c _ (omega arith)
 
     module _ (c : List ℕ) (near : Within e w c) (b : Badge) (t : ℕ)
         (badge : badgeOf (isBare (kindAt n) e) (reach.Found (distance w c)) (agrees (kindAt n) (take (length w - 2 * e) c)) ≡ b)
         (unit : unitLength (kindAt n) e (length w) ≡ t) where
-      pub receives : Receives n e w before (al1m.Unit (record { badge = b; changed = distance w c; length = t })) (written before 0 c)
+      pub receives : Receives n e w before (al1m.Unit (record { badge = b; changed = distance w c; length = t }))
+          (filled before c (changedPlaces w c))
       receives = (
         allowed,
         record {
           reach = reach.Found (distance w c);
-          repaired = record { fits = fits; found = c; within = near; count = refl; written-is = refl };
+          repaired = record { fits = fits; found = c; within = near; count = refl; filled-is = refl };
           badge-is = sym badge ∙ ap (λ (l : List ℕ). badgeOf (isBare (kindAt n) e) (reach.Found (distance w c)) (agrees (kindAt n) l))
               (sym (front c (length w - 2 * e) (near .long) (omega arith)));
           changed-is = refl;
@@ -94,26 +99,29 @@ module _ (n e : ℕ) (w : List ℕ) (setting : isSetting n e ≡ true) (isOne : 
         },
       )
 
-  pub found-as : (c : List ℕ) (b : Badge) (k : ℕ) (u : List ℕ) → Within e w c
+  pub found-as : (c : List ℕ) (b : Badge) (k : ℕ) (u l : List ℕ) → Within e w c
       → badgeOf (isBare (kindAt n) e) (reach.Found (distance w c)) (agrees (kindAt n) (take (length w - 2 * e) c)) ≡ b
-      → distance w c ≡ k → unitLength (kindAt n) e (length w) ≡ length u → take (length u) (cond (isCorrected b) c w) ≡ u → ReceivedAs n e w b k u
-  found-as c b k u near bs ks ls us before after r room h =
-      let both = receivedUnique n e w before after (written before 0 c) r _ h (receives before room c near b (length u) bs ls) in
+      → distance w c ≡ k → unitLength (kindAt n) e (length w) ≡ length u → take (length u) (cond (isCorrected b) c w) ≡ u → changedPlaces w c ≡ l
+      → ReceivedAs n e w b k u l
+  found-as c b k u l near bs ks ls us ps before after r room list h =
+      let both = receivedUnique n e w before after (filled before c (changedPlaces w c)) r _ h (receives before room list c near b (length u) bs ls) in
       let t : length u ≤ length w = omega (arith, ls) in (
         both .0 ∙ ap (λ (i : ℕ). al1m.Unit (record { badge = b; changed = i; length = length u })) ks,
-        ap (λ (l : List ℕ). take (length u) (cond (isCorrected b) l w)) (both .1)
-            ∙ chosen (isCorrected b) (front before room c (length u) (near .long) t) ∙ us,
+        ap (λ (x : RepairLent). take (length u) (cond (isCorrected b) (x .repair) w)) (both .1)
+            ∙ chosen (isCorrected b) (front before room list c (length u) (near .long) t) ∙ us,
+        ap (λ (x : RepairLent). x .places) (both .1) ∙ ap (written (before .places) 0) ps,
       )
     where
-      chosen : (t : Bool) → take (length u) (written before 0 c) ≡ take (length u) c → take (length u) (cond t (written before 0 c) w)
+      chosen : (t : Bool) → take (length u) (written (before .repair) 0 c) ≡ take (length u) c → take (length u) (cond t (written (before .repair) 0 c) w)
           ≡ take (length u) (cond t c w)
       chosen true p = p
       chosen false p = refl
 
   pub lost-as : (u : List ℕ) → ((c : List ℕ) → Within e w c → ⊥) → unitLength (kindAt n) e (length w) ≡ length u → take (length u) w ≡ u
-      → ReceivedAs n e w OutOfReach 0 u
-  lost-as u none ls us before after r room h =
-      (receivedUnique n e w before after before r _ h (misses before room none (length u) ls) .0, us)
+      → ReceivedAs n e w OutOfReach 0 u []
+  lost-as u none ls us before after r room list h =
+      let both = receivedUnique n e w before after before r _ h (misses before room list none (length u) ls) in
+      (both .0, us, ap (λ (x : RepairLent). x .places) (both .1) ∙ sym (written-nothing (before .places) 0))
 
 -- ---- words
 
@@ -174,18 +182,19 @@ w8 = 0x10 ∷ 0x80 ∷ 0xAF ∷ []
 -- each row is worked out by antt; A7 goes through all words that differ in one octet
 pub small : Small
 unfolding isOdd bitsOf bits number octetsOf sum lowered divided remainder check.generator plain preset checkBits checkOf agrees
-    eight sixteen none widthOf isSetting isSendable sentLength isWord distance isCode isZeroAt noneAt noneNear horner times alphas
+    eight sixteen none widthOf isSetting isSendable sentLength isWord distance changedPlaces isCode isZeroAt noneAt noneNear horner times alphas
     size allElements depth isList isEntryTree elementNumbers many headAt elementAt skip inTurn elementAs listAs treeOf isEntry copies slots cut
     payloadSlots channelsOf
 small = (
   refl,
   generator-two,
   record { long = refl; begins = refl; code = isCode-true 2 c3 (lit< tt) (octets-by c3 tt) tt },
-  found-as 8 2 w4 refl refl refl refl c3 Corrected 2 (0x10 ∷ 0x80 ∷ []) (within-by 2 w4 c3 refl (lit< tt) tt tt refl) refl refl refl refl,
-  found-as 0 1 c5 refl refl refl refl c5 Clean 0 (0x01 ∷ []) (within-by 1 c5 c5 refl (lit< tt) tt tt refl) refl refl refl refl,
-  found-as 0 1 w6 refl refl refl refl c5 Corrected 1 (0x01 ∷ []) (within-by 1 w6 c5 refl (lit< tt) tt tt refl) refl refl refl refl,
+  found-as 8 2 w4 refl refl refl refl c3 Corrected 2 (0x10 ∷ 0x80 ∷ []) (0 ∷ 1 ∷ []) (within-by 2 w4 c3 refl (lit< tt) tt tt refl) refl refl refl refl
+      refl,
+  found-as 0 1 c5 refl refl refl refl c5 Clean 0 (0x01 ∷ []) [] (within-by 1 c5 c5 refl (lit< tt) tt tt refl) refl refl refl refl refl,
+  found-as 0 1 w6 refl refl refl refl c5 Corrected 1 (0x01 ∷ []) (2 ∷ []) (within-by 1 w6 c5 refl (lit< tt) tt tt refl) refl refl refl refl refl,
   lost-as 0 1 w7 refl refl refl refl (0x01 ∷ []) (noneNear-none w7 (lit< tt) tt) refl refl,
-  found-as 8 0 w8 refl refl refl refl w8 CheckFailed 0 (0x10 ∷ 0x80 ∷ []) (within-by 0 w8 w8 refl (lit< tt) tt tt refl) refl refl refl refl,
+  found-as 8 0 w8 refl refl refl refl w8 CheckFailed 0 (0x10 ∷ 0x80 ∷ []) [] (within-by 0 w8 w8 refl (lit< tt) tt tt refl) refl refl refl refl refl,
   refl,
   refl,
   refl,

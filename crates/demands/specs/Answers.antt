@@ -15,7 +15,7 @@ use Rattle.calls.specs.Refusal.{Told, refused, told, ended, Refuses, lengthSays
 use Rattle.calls.specs.declared.Length.{Length}
 use Rattle.adaptation.specs.AL1M.{lengthTests, sentLength}
 use Rattle.adaptation.specs.Sending.{encodeTests, Sends}
-use Rattle.adaptation.specs.Receiving.{receiveTests, Receives}
+use Rattle.adaptation.specs.Receiving.{RepairLent, receiveTests, Receives}
 use Rattle.adaptation.specs.AL1.{passTests, passed}
 use Rattle.adaptation.specs.declared.al1m.Judgement.{Judgement}
 use Rattle.adaptation.specs.declared.al1m.Received.{Received}
@@ -35,8 +35,8 @@ pub record Demand1 : Type 0 where
   pub lengths : (t b e : ℕ) → Refuses {X = Unit {0}} (ended (sentLength t b e) tt) (lengthTests t b e) tt
   pub encoding : (b e : ℕ) (u before after : List ℕ) (r : Length) → Sends b e u before r after
       → Refuses (ended (lengthSays r) after) (encodeTests (length u) b e (length before)) before
-  pub receiving : (b e : ℕ) (w before after : List ℕ) (r : Received) → Receives b e w before r after
-      → Refuses (ended (judged r) after) (receiveTests (length w) b e (length before)) before
+  pub receiving : (b e : ℕ) (w : List ℕ) (before after : RepairLent) (r : Received) → Receives b e w before r after
+      → Refuses (ended (judged r) after) (receiveTests (length w) b e before) before
   pub passing : (u : List ℕ) → Refuses {X = Unit {0}} (ended (passed u) tt) (passTests u) tt
   pub sending : (x : layers.SendLent) (n : ℕ) (numbered : Bool) (u : List ℕ)
       → Refuses (layers.sending x n numbered u) (layers.sendingTests x n numbered u) x

@@ -3,9 +3,9 @@
 --
 --   foundBadge x d a     document 01's badge of a word for which a code word was found: x if there is neither check nor code, d octets in
 --                        which they differ, a if its check agrees
---   FoundTold            what a host is told of a word, and finds in the lent octets, where the code word c lies within e octets
+--   FoundTold            what a host is told of a word, and finds in what it lent, where the code word c lies within e octets
 --   HostRepairs          what demand 3 says of one answer of kyte_receive
---   SentTold             what a host is told of a unit of which d octets changed on the way
+--   SentTold             what a host is told of a unit that was sent as c, and that came as w
 --   Host                 demands 1 and 3 of the entries; proofs/Hosted.antt proves it
 --
 -- Assumes nothing.
@@ -16,10 +16,11 @@ use mathlib.Core.List.{List}
 use Prim.Native.Nat.{ℕ, zero, suc, _-_, _*_, _≤_}
 use lib.IntN.{ℤ, pos}
 use lib.ListN.{length, take, drop}
+use Rattle.codeword.specs.Changed.{changedPlaces}
 use Rattle.codeword.specs.CodeWord.{distance, Within}
 use Rattle.adaptation.specs.Check.{agrees}
 use Rattle.adaptation.specs.Width.{kindAt}
-use Rattle.adaptation.specs.Receiving.{isBare, unitLength}
+use Rattle.adaptation.specs.Receiving.{RepairLent, isBare, unitLength}
 use Rattle.kyteblossom.specs.Answer.{EncodeIs, ReceiveIs}
 use Rattle.kyteblossom.specs.Header.{isBelow, toldBadge, toldChanged, toldLength, toldUnit, isChecked, isTrusted}
 use Rattle.kyteblossom.specs.Claims.{LengthAnswered, EncodeAnswered, ReceiveAnswered, RecordWriteAnswered, RecordReadAnswered}
@@ -30,23 +31,26 @@ foundBadge x zero true = cond x 4 0
 foundBadge x (suc d) true = 1
 
 -- a check of b bits and e repairs, the word w, what was lent for the repair before and after, and the answer
-module _ (b e : ℕ) (w before after : List ℕ) (r : ℤ) where
+module _ (b e : ℕ) (w : List ℕ) (before after : RepairLent) (r : ℤ) where
   pub record FoundTold (c : List ℕ) : Type 0 where
     -- it stands in the repair buffer, and nothing behind it has changed
-    pub front : take (length w) after ≡ c
-    pub rest : drop (length w) after ≡ drop (length w) before
+    pub front : take (length w) (after .repair) ≡ c
+    pub rest : drop (length w) (after .repair) ≡ drop (length w) (before .repair)
+    -- kyte_changed entries of the list are the places at which it differs, and none behind them has changed
+    pub places : take (toldChanged r) (after .places) ≡ changedPlaces w c
+    pub others : drop (toldChanged r) (after .places) ≡ drop (toldChanged r) (before .places)
     -- kyte_changed, kyte_badge and kyte_trusted
     pub changed : toldChanged r ≡ distance w c
     pub badge : toldBadge r ≡ pos (foundBadge (isBare (kindAt b) e) (distance w c) (agrees (kindAt b) (take (length w - 2 * e) c)))
     pub trusted : isTrusted r b ≡ (isChecked b && agrees (kindAt b) (take (length w - 2 * e) c))
     -- kyte_unit, where its check agrees, or there is none
-    pub unit : agrees (kindAt b) (take (length w - 2 * e) c) ≡ true → toldUnit r w after ≡ take (toldLength r) c
+    pub unit : agrees (kindAt b) (take (length w - 2 * e) c) ≡ true → toldUnit r w (after .repair) ≡ take (toldLength r) c
 
   pub record HostRepairs : Type 0 where
     -- kyte_unit_length
     pub long : toldLength r ≡ unitLength (kindAt b) e (length w)
     -- kyte_unit, but where it is corrected: a part of the received word
-    pub asReceived : (toldBadge r ≡ pos 1 → ⊥) → toldUnit r w after ≡ take (toldLength r) w
+    pub asReceived : (toldBadge r ≡ pos 1 → ⊥) → toldUnit r w (after .repair) ≡ take (toldLength r) w
     -- badge 2 is told exactly if no code word lies within e octets; nothing has changed then, and nothing is trusted
     pub lost : toldBadge r ≡ pos 2 ↔ ((c : List ℕ) → Within e w c → ⊥)
     pub untouched : toldBadge r ≡ pos 2 → (toldChanged r ≡ 0) × (after ≡ before) × (isTrusted r b ≡ false)
@@ -55,12 +59,13 @@ module _ (b e : ℕ) (w before after : List ℕ) (r : ℤ) where
     pub repaired : (c : List ℕ) → Within e w c → FoundTold c
 
 -- the unit u, handed up with the octets w received and what was lent for the repair
-pub record SentTold (b e d : ℕ) (u w after : List ℕ) (r : ℤ) : Type 0 where
+pub record SentTold (b e : ℕ) (c u w : List ℕ) (after : RepairLent) (r : ℤ) : Type 0 where
   -- 0 where nothing changed, 1 where it was repaired; 4 for 0, where there is neither check nor code
-  pub badge : toldBadge r ≡ pos (foundBadge (isBare (kindAt b) e) d true)
-  pub changed : toldChanged r ≡ d
+  pub badge : toldBadge r ≡ pos (foundBadge (isBare (kindAt b) e) (distance w c) true)
+  pub changed : toldChanged r ≡ distance w c
+  pub places : take (toldChanged r) (after .places) ≡ changedPlaces w c
   pub long : toldLength r ≡ length u
-  pub unit : toldUnit r w after ≡ u
+  pub unit : toldUnit r w (after .repair) ≡ u
   pub trusted : isTrusted r b ≡ isChecked b
 
 pub record Host : Type 0 where
@@ -71,8 +76,9 @@ pub record Host : Type 0 where
   pub writing : RecordWriteAnswered
   pub reading : RecordReadAnswered
   -- demand 3
-  pub repairs : (b e : ℕ) (w before after : List ℕ) (r : ℤ) → ReceiveIs b e w before r after → isBelow r ≡ false → HostRepairs b e w before after r
-  -- what kyte_encode wrote in m octets, of which at most e changed, with room for the repair
-  pub asSent : (b e m : ℕ) (u room sent w before after : List ℕ) (r : ℤ) → EncodeIs b e u room (pos m) sent
-      → length w ≡ m → distance w (take m sent) ≤ e → m ≤ length before → ReceiveIs b e w before r after
-      → SentTold b e (distance w (take m sent)) u w after r
+  pub repairs : (b e : ℕ) (w : List ℕ) (before after : RepairLent) (r : ℤ) → ReceiveIs b e w before r after → isBelow r ≡ false
+      → HostRepairs b e w before after r
+  -- what kyte_encode wrote in m octets, of which at most e changed, with room for the repair and for e places
+  pub asSent : (b e m : ℕ) (u room sent w : List ℕ) (before after : RepairLent) (r : ℤ) → EncodeIs b e u room (pos m) sent
+      → length w ≡ m → distance w (take m sent) ≤ e → m ≤ length (before .repair) → e ≤ length (before .places) → ReceiveIs b e w before r after
+      → SentTold b e (take m sent) u w after r

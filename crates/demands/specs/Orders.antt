@@ -11,7 +11,7 @@ use mathlib.Core.List.{List, [], _∷_}
 use Prim.Native.Nat.{ℕ}
 use Rattle.calls.specs.Refusal.{Test, _when_}
 use Rattle.adaptation.specs.Sending.{encodeTests}
-use Rattle.adaptation.specs.Receiving.{receiveTests}
+use Rattle.adaptation.specs.Receiving.{RepairLent, receiveTests}
 use Rattle.adaptation.specs.AL1M.{lengthTests}
 use Rattle.adaptation.specs.AL1.{passTests}
 use Rattle.table.specs.Table.{replaceTests}
@@ -29,7 +29,7 @@ pub record Orders : Type 0 where
   -- "AL1M units"; the length question is lent no room, and its third test never holds
   pub lengths : (t b e : ℕ) → numbers (lengthTests t b e) ≡ 1 ∷ 2 ∷ 3 ∷ []
   pub encoding : (t b e room : ℕ) → numbers (encodeTests t b e room) ≡ 1 ∷ 2 ∷ 3 ∷ []
-  pub receiving : (n b e room : ℕ) → numbers (receiveTests n b e room) ≡ 1 ∷ 2 ∷ 3 ∷ []
+  pub receiving : (n b e : ℕ) (lent : RepairLent) → numbers (receiveTests n b e lent) ≡ 1 ∷ 2 ∷ 3 ∷ []
   -- "AL1 and AL2"
   pub passing : (u : List ℕ) → numbers (passTests u) ≡ 2 ∷ []
   pub sending : (x : SendLent) (n : ℕ) (numbered : Bool) (u : List ℕ) → numbers (sendingTests x n numbered u) ≡ 5 ∷ 2 ∷ 3 ∷ []

@@ -10,6 +10,7 @@
 --   RefusersFail       whatever the operation, nothing does both
 --   SomeKeepsRefusals  there is a library that keeps the refusals of all of them: the definitions' own
 --   Encoder            anything that answers a unit for AL1M to send, and leaves octets where it was lent some
+--   OfOctets P         P holds of every width, e, unit of octets and lent octets
 --   EncodersFail       one that keeps the refusals of AL1M's sending, as each that keeps its promise does (`encoding` of demand 1), does
 --                      not refuse every unit of octets. (Of receiving, specs/Wrong.antt says so.)
 --
@@ -20,11 +21,11 @@ use mathlib.Core.List.{List}
 use Prim.Native.Nat.{ℕ}
 use lib.ListN.{length}
 use Rattle.calls.specs.Refusal.{refused, Ended, Refuses}
+use Rattle.codeword.specs.CodeWord.{Octets}
 use Rattle.adaptation.specs.Sending.{encodeTests}
 use Rattle.channels.specs.Channels.{allOctets}
 use Rattle.multiplex.specs.Calls.{Link, Call, Answer, testsOf, led, begun}
 use Rattle.multiplex.specs.Calls as calls
-use Rattle.demands.specs.Wrong.{OfOctets}
 
 -- ---- the calls of an end
 
@@ -73,6 +74,9 @@ SomeKeepsRefusals = (L : Responder) × ((o : Operation) → KeepsRefusals o L)
 
 abbrev pub Encoder : Type 0
 Encoder = (width e : ℕ) → (unit lent : List ℕ) → Ended ℕ (List ℕ)
+
+abbrev pub OfOctets : ((width e : ℕ) → (unit lent : List ℕ) → Type 0) → Type 0
+OfOctets P = (b e : ℕ) (u before : List ℕ) → Octets u → Octets before → P b e u before
 
 abbrev pub EncodersFail : Type 0
 EncodersFail =

@@ -1,5 +1,6 @@
 // The far end: each finished unit is handed to its layer where it lies in the demultiplexer's output, judged, and compared with what
 // was sent.
+use crate::example::PLACES;
 use crate::near;
 use crate::plan;
 use crate::tally;
@@ -97,9 +98,10 @@ fn by_al1m(
     sent: &[u8],
 ) -> Verdict {
     let mut repair = [0u8; LONGEST_WORD];
+    let mut places = [0u8; PLACES];
     let width = plan::width(channel);
     let e = plan::repairs(channel);
-    let received = layers::al1m_at(output, start, length, width, e, &mut repair);
+    let received = layers::al1m_at(output, start, length, width, e, &mut repair, &mut places);
     match received {
         al1m::Received::Unit(j) => {
             let badge = j.badge;

@@ -1,6 +1,7 @@
 // A whole call: units of five channels are coded, multiplexed, damaged on the way by a fixed pattern, demultiplexed, repaired and
-// badged; then a table of what became of them.
+// badged; one of them, repaired, is shown octet by octet; then a table of what became of them.
 
+mod example; // example.rt: one unit, received and repaired, octet by octet
 mod far; // far.rt: the far end: units judged and compared with what was sent
 mod near; // near.rt: the near end: units made, coded and posted
 mod plan; // plan.rt: the channels, their layers and the table's entries

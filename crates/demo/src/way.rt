@@ -1,11 +1,14 @@
 // The way from the near end to the far end: payloads, and the damage to them.
+use crate::example;
 use crate::far;
+use crate::far::Verdict;
 use crate::plan;
 use crate::tally;
 use crate::tally::Tally;
 use channels::ALL_OCTETS;
 use channels::ChannelNumber;
 use channels::Channels;
+use channels::layers;
 use multiplex::demultiplexer;
 use multiplex::demultiplexer::Finished;
 use multiplex::multiplexer;
@@ -22,7 +25,7 @@ use table::TABLE_NUMBERS;
 const ROOM: usize = 90;
 
 // A call: the channels at both ends; the noise that the next octet meets; how many payloads and octets were carried, and how many
-// octets damaged; and what became of the units.
+// octets damaged; what became of the units; and whether one of them has been shown.
 pub struct Call {
     pub near: Channels,
     pub far: Channels,
@@ -31,6 +34,7 @@ pub struct Call {
     pub octets: u32,
     pub damaged: u32,
     pub tally: Tally,
+    pub shown: bool,
 }
 
 // The channels at either end.
@@ -54,6 +58,7 @@ pub fn start() -> Call {
         octets: 0,
         damaged: 0,
         tally: tally::new(),
+        shown: false,
     }
 }
 
@@ -105,6 +110,17 @@ fn damage(call: Call, payload: &mut [u8; LONGEST_PAYLOAD], n: usize) -> Call {
     next
 }
 
+// Whether a unit is the one to show: the first of its channel in which so many octets were repaired.
+fn is_example(shown: bool, number: ChannelNumber, v: Verdict) -> bool {
+    if shown {
+        return false;
+    }
+    if number.0 == example::CHANNEL {
+        return v.repaired == example::REPAIRED;
+    }
+    false
+}
+
 // Judges the finished unit j of the list.
 fn judge_one(call: Call, round: usize, output: &[u8], units: &[u16], j: usize) -> Call {
     let mut next = call;
@@ -119,6 +135,10 @@ fn judge_one(call: Call, round: usize, output: &[u8], units: &[u16], j: usize) -
     let counted = call.tally;
     let all = far::count(counted, number, v);
     next.tally = all;
+    if is_example(call.shown, number, v) {
+        example::show(layers::unit_at(output, unit.start, unit.length));
+        next.shown = true;
+    }
     next
 }
 

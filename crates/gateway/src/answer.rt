@@ -13,7 +13,7 @@ pub fn help() {
     );
     print::text(b"  length WIDTH E T\n");
     print::text(b"  encode WIDTH E OCTETS [room N]\n");
-    print::text(b"  receive WIDTH E OCTETS [room N]\n");
+    print::text(b"  receive WIDTH E OCTETS [room REPAIR PLACES]\n");
     print::text(b"  al1 OCTETS\n");
     print::text(b"  open CHANNEL segmentable|whole    close CHANNEL    reset CHANNEL\n");
     print::text(
@@ -82,15 +82,29 @@ pub fn number_and_octets(name: &[u8], value: usize, octets: &[u8]) {
     end(&mut out, n);
 }
 
-// Answers a unit that is handed up: its badge, how many octets were changed or units are missing, and the unit.
+// Puts a unit that is handed up: its badge, how many octets were changed or units are missing, and the unit.
+fn put_unit(out: &mut [u8; BUFFER], badge: Badge, name: &[u8], value: usize, unit: &[u8]) -> usize {
+    let mut n = print::put(out, 0, b"badge");
+    n = put_number(out, n, adaptation::badge_number(badge) as usize);
+    n = print::put(out, n, name);
+    n = put_number(out, n, value);
+    n = print::put(out, n, b" unit");
+    put_octets(out, n, unit)
+}
+
+// Answers a unit that is handed up.
 pub fn unit(badge: Badge, name: &[u8], value: usize, unit: &[u8]) {
     let mut out = [0u8; BUFFER];
-    let mut n = print::put(&mut out, 0, b"badge");
-    n = put_number(&mut out, n, adaptation::badge_number(badge) as usize);
-    n = print::put(&mut out, n, name);
-    n = put_number(&mut out, n, value);
-    n = print::put(&mut out, n, b" unit");
-    n = put_octets(&mut out, n, unit);
+    let n = put_unit(&mut out, badge, name, value, unit);
+    end(&mut out, n);
+}
+
+// Answers a unit of AL1M, and the places of the octets that were changed.
+pub fn repaired(badge: Badge, changed: usize, unit: &[u8], places: &[u8]) {
+    let mut out = [0u8; BUFFER];
+    let mut n = put_unit(&mut out, badge, b" changed", changed, unit);
+    n = print::put(&mut out, n, b" at ");
+    n = print::list(&mut out, n, places);
     end(&mut out, n);
 }
 

@@ -11,6 +11,9 @@ use codeword::LONGEST_WORD;
 use script::call::Coding;
 use script::call::CodingCall;
 
+// The most octets that can be repaired, and so the longest list of places.
+const PLACES: usize = 127;
+
 // Answers the octets that a call wrote to the front of out.
 pub fn sent(length: Length, out: &[u8; LONGEST_UNIT]) {
     match length {
@@ -26,27 +29,34 @@ fn length(t: u32, width: u32, e: u32) {
     }
 }
 
-fn encode(c: CodingCall, octets: &[u8; OCTETS]) {
+fn encode(c: CodingCall, room: u32, octets: &[u8; OCTETS]) {
     let mut out = [0u8; LONGEST_UNIT];
     let unit = octets::front(octets, c.octets);
-    let length = lent::encode(unit, c.width, c.e, &mut out, c.room);
+    let length = lent::encode(unit, c.width, c.e, &mut out, room);
     sent(length, &out);
 }
 
-fn receive(c: CodingCall, octets: &[u8; OCTETS]) {
+fn receive(c: CodingCall, room: u32, list: u32, octets: &[u8; OCTETS]) {
     let mut repair = [0u8; LONGEST_WORD];
+    let mut places = [0u8; PLACES];
     let word = octets::front(octets, c.octets);
-    let received = lent::receive(word, c.width, c.e, &mut repair, c.room);
-    hand_up(received, octets, &repair);
+    let received = lent::receive(word, c.width, c.e, &mut repair, room, &mut places, list);
+    hand_up(received, octets, &repair, &places);
 }
 
 // What AL1M made of a word.
-fn hand_up<'a>(received: al1m::Received, word: &'a [u8; OCTETS], repair: &'a [u8; LONGEST_WORD]) {
+fn hand_up<'a>(
+    received: al1m::Received,
+    word: &'a [u8; OCTETS],
+    repair: &'a [u8; LONGEST_WORD],
+    places: &[u8; PLACES],
+) {
     match received {
         al1m::Received::Unit(j) => {
             let badge = j.badge;
             let unit = al1m::unit(word, repair, badge, j.length);
-            answer::unit(badge, b" changed", j.changed, unit);
+            let changed = j.changed;
+            answer::repaired(badge, changed, unit, octets::front(places, changed));
         }
         al1m::Received::Refused(k) => answer::refused(k),
     }
@@ -63,8 +73,12 @@ fn pass(unit: &[u8]) {
 pub fn carry_out(call: Coding, octets: &[u8; OCTETS]) {
     match call {
         Coding::Length { width, e, t } => length(t, width, e),
-        Coding::Encode(c) => encode(c, octets),
-        Coding::Receive(c) => receive(c, octets),
+        Coding::Encode { coding, room } => encode(coding, room, octets),
+        Coding::Receive {
+            coding,
+            room,
+            places,
+        } => receive(coding, room, places, octets),
         Coding::Al1 { octets: n } => pass(octets::front(octets, n)),
     }
 }

@@ -36,9 +36,18 @@ pub fn encode(unit: &[u8], width: u32, e: u32, out: &mut [u8], room: u32) -> Len
     al1m::encode(unit, width, e, &mut out[..n])
 }
 
-pub fn receive(word: &[u8], width: u32, e: u32, repair: &mut [u8], room: u32) -> al1m::Received {
+pub fn receive(
+    word: &[u8],
+    width: u32,
+    e: u32,
+    repair: &mut [u8],
+    room: u32,
+    places: &mut [u8],
+    list: u32,
+) -> al1m::Received {
     let n = within(room, repair);
-    al1m::receive(word, width, e, &mut repair[..n])
+    let m = within(list, places);
+    al1m::receive(word, width, e, &mut repair[..n], &mut places[..m])
 }
 
 pub fn send(

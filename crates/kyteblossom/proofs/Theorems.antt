@@ -22,7 +22,7 @@ use Rattle.adaptation.specs.Check.{checkOf, none, eight, sixteen}
 use Rattle.adaptation.specs.Width.{widthOf, kindAt}
 use Rattle.adaptation.specs.AL1M.{al1mTests, lengthTests, isSetting, isSendable, sentOctets, sentLength}
 use Rattle.adaptation.specs.Sending.{encodeTests, Sends}
-use Rattle.adaptation.specs.Receiving.{isWord, receiveTests, isCorrected, Receives}
+use Rattle.adaptation.specs.Receiving.{RepairLent, hasRoom, isWord, receiveTests, isCorrected, Receives}
 use Rattle.adaptation.specs.declared.Badge.{Badge}
 use Rattle.adaptation.specs.declared.Badge.the-variants.{Clean, Corrected, OutOfReach, CheckFailed, Unchecked}
 use Rattle.adaptation.specs.declared.al1m.Judgement.{Judgement}
@@ -124,23 +124,23 @@ module _ (j : Judgement) (few : j .changed < 256) (short : j .length < 256) (w a
         (ap (λ (c : Bool). cond c after w) (ap (λ (n : ℕ). eqb n 1) badge-back ∙ corrected-one (j .badge)));
   }
 
-module _ (b e : ℕ) (w before after : List ℕ) where
+module _ (b e : ℕ) (w : List ℕ) (before after : RepairLent) where
   receives-refuses : (o : Received) → Receives b e w before o after
-      → Refuses (ended (receiveSays o) after) (receiveTests (length w) b e (length before)) before
+      → Refuses (ended (receiveSays o) after) (receiveTests (length w) b e before) before
   unfolding receiveSays
   receives-refuses (al1m.Unit j) p = allowed-refuses before _ (packed j) after (p .0)
   receives-refuses (al1m.Refused k) p = refused-refuses before _ k after (p .first) (p .same)
 
-  handed-parts : refusal (receiveTests (length w) b e (length before)) ≡ told tt → (r : ℤ) (o : Received) → Receives b e w before o after
-      → r ≡ receiveAnswer o → (j : Judgement) × Receives b e w before (al1m.Unit j) after × Parts r j w after
+  handed-parts : refusal (receiveTests (length w) b e before) ≡ told tt → (r : ℤ) (o : Received) → Receives b e w before o after
+      → r ≡ receiveAnswer o → (j : Judgement) × Receives b e w before (al1m.Unit j) after × Parts r j w (after .repair)
   handed-parts h r (al1m.Unit j) p is =
       let small = handed-small b e w before after j p in
-      (j, p, rw is (parts j (omega (arith, small)) (omega (arith, small)) w after))
+      (j, p, rw is (parts j (omega (arith, small)) (omega (arith, small)) w (after .repair)))
   handed-parts h r (al1m.Refused k) p is = told-refused h (p .first)
 
 pub receiveAnswered : ReceiveAnswered
 receiveAnswered b e w before after r a =
-    let is = answered _ (positive (isSetting b e) (isWord (length w) b e) (ltb (length before) (length w))) before after r
+    let is = answered _ (positive (isSetting b e) (isWord (length w) b e) (not (hasRoom (length w) e before))) before after r
     (receiveSays (a .outcome)) (a .number ∙ receive-answer (a .outcome)) (receives-refuses b e w before after (a .outcome) (a .received)) in
     (is, λ h. handed-parts b e w before after (not-below _ before after r is h) r (a .outcome) (a .received) (a .number))
 

@@ -18,7 +18,7 @@ use lib.IntN.{ℤ, pos, negℤ}
 use Rattle.calls.specs.Refusal.{Told, refused, told, ended, lengthSays}
 use Rattle.adaptation.specs.Handed.{badgeNumber}
 use Rattle.adaptation.specs.Sending.{Sends}
-use Rattle.adaptation.specs.Receiving.{Receives}
+use Rattle.adaptation.specs.Receiving.{RepairLent, Receives}
 use Rattle.record.specs.Call.{Writes, ReadLent, Reads}
 use Rattle.calls.specs.declared.Length.{Length}
 use Rattle.adaptation.specs.declared.al1m.Judgement.{Judgement}
@@ -44,7 +44,7 @@ pub record EncodeIs (b e : ℕ) (u before : List ℕ) (r : ℤ) (after : List �
   pub encoded : Sends b e u before outcome after
   pub number : r ≡ answer (lengthSays outcome)
 
-pub record ReceiveIs (b e : ℕ) (w before : List ℕ) (r : ℤ) (after : List ℕ) : Type 0 where
+pub record ReceiveIs (b e : ℕ) (w : List ℕ) (before : RepairLent) (r : ℤ) (after : RepairLent) : Type 0 where
   pub outcome : Received
   pub received : Receives b e w before outcome after
   pub number : r ≡ receiveAnswer outcome

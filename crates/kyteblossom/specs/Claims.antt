@@ -27,7 +27,7 @@ use Rattle.adaptation.specs.Handed.{badgeNumber}
 use Rattle.adaptation.specs.Width.{kindAt}
 use Rattle.adaptation.specs.AL1M.{lengthTests, sentOctets, sentLength}
 use Rattle.adaptation.specs.Sending.{encodeTests, Sends}
-use Rattle.adaptation.specs.Receiving.{receiveTests, handedUnit, Receives}
+use Rattle.adaptation.specs.Receiving.{RepairLent, receiveTests, handedUnit, Receives}
 use Rattle.adaptation.specs.declared.al1m.Judgement.{Judgement}
 use Rattle.adaptation.specs.declared.al1m.Received.the-variants as al1m
 use Rattle.record.specs.Call.{Listing, writeTests, Writes, Contents, readTests, Reads}
@@ -66,9 +66,9 @@ pub record Parts (r : ℤ) (j : Judgement) (w after : List ℕ) : Type 0 where
 
 abbrev pub ReceiveAnswered : Type 0
 ReceiveAnswered =
-    (b e : ℕ) (w before after : List ℕ) (r : ℤ) → ReceiveIs b e w before r after
-    → Answered r (receiveTests (length w) b e (length before)) before after
-    × (isBelow r ≡ false → (j : Judgement) × Receives b e w before (al1m.Unit j) after × Parts r j w after)
+    (b e : ℕ) (w : List ℕ) (before after : RepairLent) (r : ℤ) → ReceiveIs b e w before r after
+    → Answered r (receiveTests (length w) b e before) before after
+    × (isBelow r ≡ false → (j : Judgement) × Receives b e w before (al1m.Unit j) after × Parts r j w (after .repair))
 
 -- ---- records; specs/Claims.antt of `record` says what is written and read
 

@@ -8,6 +8,7 @@ ghost use mathlib.Core.Path.{_≡_};
 ghost use Prim.Native.Nat.{_<_};
 ghost use lib.IntN.{pos, negℤ};
 ghost use Rattle.adaptation.specs.AL1M.{sentLength};
+ghost use Rattle.adaptation.specs.Receiving.{lending};
 ghost use Rattle.kyteblossom.specs.Answer.{answer, packed, EncodeIs, ReceiveIs, RecordWriteIs, RecordReadIs};
 
 // A refusal as the host reads it: minus its number.
@@ -50,12 +51,19 @@ pub extern "C" fn kyte_encode(unit: &[u8], width: u32, e: u32, sent: &mut [u8]) 
     }
 }
 
-// Receives a word: badge + 256 changed + 65,536 unit length, or minus the refusal's number.
+// Receives a word: badge + 256 changed + 65,536 unit length, or minus the refusal's number. The changed places are at the front of `places`.
 #[no_mangle]
-pub extern "C" fn kyte_receive(received: &[u8], width: u32, e: u32, repair: &mut [u8]) -> i32
-    ensures { λ r. ⌜ ReceiveIs width e (now (received .entry)) (now (repair .entry)) r (now (repair .exit)) ⌝ }
+pub extern "C" fn kyte_receive(
+    received: &[u8],
+    width: u32,
+    e: u32,
+    repair: &mut [u8],
+    places: &mut [u8],
+) -> i32
+    ensures { λ r. ⌜ ReceiveIs width e (now (received .entry)) (lending (now (repair .entry)) (now (places .entry))) r
+        (lending (now (repair .exit)) (now (places .exit))) ⌝ }
 {
-    match al1m::receive(received, width, e, repair) {
+    match al1m::receive(received, width, e, repair, places) {
         Received::Unit(j) => pack(j),
         Received::Refused(k) => refusal(k),
     }

@@ -8,15 +8,16 @@
 --   less, not-less         one number is less than another
 --   at-most, two-at-most   .. or at most as much; and two such comparisons
 --   either-less            one of two comparisons
+--   either-over            .. and one of two that fails
 --   equal, not-equal       two numbers are equal
 --
 -- Assumes nothing.
 use mathlib.Core.Path.{_≡_, refl}
-use mathlib.Core.Logic.{_↔_, _⊎_, inl, inr}
+use mathlib.Core.Logic.{_↔_, _⊎_, ⊎-elim, inl, inr}
 use mathlib.Core.Bool.{Bool, true, false, not, _&&_, _||_}
 use Prim.Native.Nat.{ℕ, _≤_, _<_}
 use native.Mathlib.Omega.{arith}
-use borrow.Author.Tests.{le-leb, leb-true, lt-ltb, ltb-true, ltb-false, le-ltb, eq-eqb, ne-eqb, eqb-true, eqb-false}
+use borrow.Author.Tests.{le-leb, leb-true, leb-false, lt-ltb, ltb-true, ltb-false, le-ltb, eq-eqb, ne-eqb, eqb-true, eqb-false}
 use lib.Dec.{leb, ltb, eqb}
 use Rattle.octets.specs.Tests.{both-true, never}
 
@@ -73,6 +74,15 @@ either-less a b c d = by (ltb a b) refl
         second : (a < b) ⊎ (c < d) → ltb c d ≡ true
         second (inl l) = absurd (omega (arith, ltb-false a b e))
         second (inr l) = lt-ltb c d l
+
+pub either-over : (a b c d : ℕ) → not (leb a b && leb c d) ≡ true ↔ ((b < a) ⊎ (d < c))
+either-over a b c d = by (leb a b) (leb c d) refl refl
+  where
+    by : (s t : Bool) → leb a b ≡ s → leb c d ≡ t → not (s && t) ≡ true ↔ ((b < a) ⊎ (d < c))
+    by true true e f =
+        (λ h. never (cc), ⊎-elim (λ l. absurd (omega (arith, leb-true a b e))) (λ l. absurd (omega (arith, leb-true c d f))))
+    by true false e f = (λ h. inr (leb-false c d f), λ h. refl)
+    by false t e f = (λ h. inl (leb-false a b e), λ h. refl)
 
 pub equal : (n k : ℕ) → eqb n k ≡ true ↔ (n ≡ k)
 equal n k = (eqb-true n k, eq-eqb n k)

@@ -73,3 +73,25 @@ pub fn hex(out: &mut [u8; BUFFER], from: usize, octets: &[u8]) -> usize {
     }
     n
 }
+
+// Puts a number below 256 in decimal.
+fn small(out: &mut [u8; BUFFER], from: usize, n: u8) -> usize {
+    number(out, from, n as u64, 0)
+}
+
+// Puts numbers below 256 in decimal, parted by commas, or `-` for none.
+pub fn list(out: &mut [u8; BUFFER], from: usize, numbers: &[u8]) -> usize {
+    if numbers.len() == 0 {
+        return store(out, from, b'-');
+    }
+    let mut n = from;
+    let mut i = 0;
+    while i < numbers.len() {
+        if 0 < i {
+            n = store(out, n, b',');
+        }
+        n = small(out, n, numbers[i]);
+        i += 1;
+    }
+    n
+}

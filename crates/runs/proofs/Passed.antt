@@ -148,4 +148,4 @@ carried-by-AL1M R r i n j q h b e m u room out w before after a s c d =
     let k = demand-met R (r .held) (r .waiting) (r .held′) (r .waiting′) (r .heldRoom) (r .waitingRoom) (r .heldRoom′) (r .waitingRoom′) (r .events) (r .permitted) in
     let long : length w ≡ m =
     ap (λ (l : List ℕ). length l) (sym d) ∙ sym (each-length (each-at [] (k .complete i n q) j h)) ∙ ap (λ (l : List ℕ). length l) c ∙ sent-front b e m u room out s in
-    (long, λ near enough received. sentIsHandedUp b e m u room out w before after a s long near enough received)
+    (long, λ near enough list received. sentIsHandedUp b e m u room out w before after a s long near enough list received)

@@ -18,7 +18,7 @@
 --   CarriedByPlainAL2  a unit that AL2 sent without a number is handed up so too
 --   CarriedByAL1       a unit that is delivered is passed as it is, unchecked
 --   CarriedByAL1M      the unit j that is delivered, whatever changed on the way, has as many octets as the one wholly sent; and where at most e
---                      of them differ, AL1M hands up the unit that was coded, with the true count and its badge
+--                      of them differ, AL1M hands up the unit that was coded, with the true count, the places of those that differ and its badge
 --   UnitToUnit         all of these, and that the unit which a layer reads where it lies in the output is the one delivered (the multiplexer's
 --                      `LiesThere`)
 --
@@ -31,6 +31,7 @@ use Prim.Native.Nat.{ℕ, _≤_, _<_}
 use lib.Dec.{eqb}
 use lib.ListN.{length, getD, take}
 use Rattle.calls.specs.Refusal.{Told, told}
+use Rattle.codeword.specs.Changed.{changedPlaces}
 use Rattle.codeword.specs.CodeWord.{distance}
 use Rattle.adaptation.specs.Handed.{handed}
 use Rattle.adaptation.specs.AL1.{passed}
@@ -39,7 +40,7 @@ use Rattle.adaptation.specs.AL2Claims.{asSent, wholesFrom, receipts, inOrder}
 use Rattle.adaptation.specs.declared.al2.Number.the-variants.{Plain}
 use Rattle.adaptation.specs.Width.{kindAt}
 use Rattle.adaptation.specs.Sending.{Sends}
-use Rattle.adaptation.specs.Receiving.{Receives, handedUnit}
+use Rattle.adaptation.specs.Receiving.{RepairLent, Receives, handedUnit}
 use Rattle.adaptation.specs.Claims.{badgeOfSent}
 use Rattle.adaptation.specs.declared.Badge.the-variants.{Unchecked}
 use Rattle.adaptation.specs.declared.al1m.Received.{Received}
@@ -188,12 +189,13 @@ CarriedByPlainAL2 =
 abbrev pub CarriedByAL1M : Type 1
 CarriedByAL1M =
     (R : ℕ → ℕ → Type 0) (r : Run R) (i : Side) (n j : ℕ) → endAt (ending r) (other i) .coming ≡ [] → j < length (whollySent (endAt (ending r) i) n)
-    → (b e m : ℕ) (u room out w before after : List ℕ) (a : Received) → Sends b e u room (sends.Octets m) out
+    → (b e m : ℕ) (u room out w : List ℕ) (before after : RepairLent) (a : Received) → Sends b e u room (sends.Octets m) out
     → getD (whollySent (endAt (ending r) i) n) j [] ≡ take m out → getD (unitsOn n (endAt (ending r) (other i) .delivered)) j [] ≡ w
     → (length w ≡ m)
-    × (distance w (take m out) ≤ e → m ≤ length before → Receives b e w before a after
+    × (distance w (take m out) ≤ e → m ≤ length (before .repair) → e ≤ length (before .places) → Receives b e w before a after
     → (a ≡ al1m.Unit (record { badge = badgeOfSent (kindAt b) e (distance w (take m out)); changed = distance w (take m out); length = length u }))
-    × (handedUnit (badgeOfSent (kindAt b) e (distance w (take m out))) w after (length u) ≡ u))
+    × (handedUnit (badgeOfSent (kindAt b) e (distance w (take m out))) w (after .repair) (length u) ≡ u)
+    × (take (distance w (take m out)) (after .places) ≡ changedPlaces w (take m out)))
 
 pub record UnitToUnit : Type 1 where
   pub asSent : AsSent

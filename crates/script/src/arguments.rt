@@ -21,9 +21,9 @@ pub enum Room {
     Bad,
 }
 
-// How much is lent for a payload's octets and units.
+// How many octets are lent, and how many entries of a list beside them: a payload's units, or a repair's places.
 pub enum Rooms {
-    Lent { octets: u32, units: u32 },
+    Lent { octets: u32, list: u32 },
     Bad,
 }
 
@@ -76,12 +76,12 @@ pub fn room_at(line: &[u8], at: usize, name: &[u8]) -> Room {
     Room::Bad
 }
 
-// What is lent for octets and units, behind `room`, as the line's last three words; enough where the line has ended.
+// What is lent of octets and of a list, behind `room`, as the line's last three words; enough where the line has ended.
 pub fn rooms_at(line: &[u8], at: usize) -> Rooms {
     if words::ended(line, at) {
         return Rooms::Lent {
             octets: u32::MAX,
-            units: u32::MAX,
+            list: u32::MAX,
         };
     }
     let w = words::next(line, at);
@@ -94,14 +94,14 @@ pub fn rooms_at(line: &[u8], at: usize) -> Rooms {
             return Rooms::Bad;
         };
         let Number::Value {
-            value: units,
+            value: list,
             at: end,
         } = numbers::next(line, next)
         else {
             return Rooms::Bad;
         };
         if words::ended(line, end) {
-            return Rooms::Lent { octets, units };
+            return Rooms::Lent { octets, list };
         }
     }
     Rooms::Bad

@@ -1,12 +1,11 @@
 // A call, as a value: what a line asks for. Octets and the numbers of a table entry stand in what was lent to the reading of the line,
 // and the value says how many there are.
 
-// Settings of AL1M, the octets that they are for, and how many are lent for the answer.
+// Settings of AL1M, and the octets that they are for.
 pub struct CodingCall {
     pub width: u32,
     pub e: u32,
     pub octets: usize,
-    pub room: u32,
 }
 
 // The room of a payload, and how many octets are lent for it.
@@ -32,12 +31,25 @@ pub struct UnitCall {
     pub octets: usize,
 }
 
-// Calls that have no state.
+// Calls that have no state; how many octets are lent for the answer, and how many places.
 pub enum Coding {
-    Length { width: u32, e: u32, t: u32 },
-    Encode(CodingCall),
-    Receive(CodingCall),
-    Al1 { octets: usize },
+    Length {
+        width: u32,
+        e: u32,
+        t: u32,
+    },
+    Encode {
+        coding: CodingCall,
+        room: u32,
+    },
+    Receive {
+        coding: CodingCall,
+        room: u32,
+        places: u32,
+    },
+    Al1 {
+        octets: usize,
+    },
 }
 
 // A line that asks for nothing, one that cannot be read, or a call.

@@ -19,13 +19,13 @@ use text::numbers::Number;
 use text::words;
 use text::words::Word;
 
-// What AL1M's calls say, or a line that cannot be read.
+// What AL1M's calls say and the place behind it, or a line that cannot be read.
 enum Settings {
-    Given(CodingCall),
+    Given { coding: CodingCall, at: usize },
     Bad,
 }
 
-// WIDTH E OCTETS [room N]
+// WIDTH E OCTETS
 fn settings_at(line: &[u8], from: usize, octets: &mut [u8]) -> Settings {
     let Number::Value { value: width, at } = numbers::next(line, from) else {
         return Settings::Bad;
@@ -36,31 +36,42 @@ fn settings_at(line: &[u8], from: usize, octets: &mut [u8]) -> Settings {
     let Octets::Count { count, at } = hex::next(line, at, octets) else {
         return Settings::Bad;
     };
-    let Room::Lent(room) = arguments::room_at(line, at, b"room") else {
-        return Settings::Bad;
-    };
-    Settings::Given(CodingCall {
+    let coding = CodingCall {
         width,
         e,
         octets: count,
-        room,
-    })
+    };
+    Settings::Given { coding, at }
 }
 
 // encode WIDTH E OCTETS [room N]
-fn encode(line: &[u8], at: usize, octets: &mut [u8]) -> Call {
-    let Settings::Given(c) = settings_at(line, at, octets) else {
+fn encode(line: &[u8], from: usize, octets: &mut [u8]) -> Call {
+    let Settings::Given { coding, at } = settings_at(line, from, octets) else {
         return Call::Malformed;
     };
-    Call::Coding(Coding::Encode(c))
+    let Room::Lent(room) = arguments::room_at(line, at, b"room") else {
+        return Call::Malformed;
+    };
+    Call::Coding(Coding::Encode { coding, room })
 }
 
-// receive WIDTH E OCTETS [room N]
-fn receive(line: &[u8], at: usize, octets: &mut [u8]) -> Call {
-    let Settings::Given(c) = settings_at(line, at, octets) else {
+// receive WIDTH E OCTETS [room REPAIR PLACES]
+fn receive(line: &[u8], from: usize, octets: &mut [u8]) -> Call {
+    let Settings::Given { coding, at } = settings_at(line, from, octets) else {
         return Call::Malformed;
     };
-    Call::Coding(Coding::Receive(c))
+    let Rooms::Lent {
+        octets: room,
+        list: places,
+    } = arguments::rooms_at(line, at)
+    else {
+        return Call::Malformed;
+    };
+    Call::Coding(Coding::Receive {
+        coding,
+        room,
+        places,
+    })
 }
 
 // length WIDTH E T
@@ -193,7 +204,7 @@ fn demux(line: &[u8], from: usize, octets: &mut [u8]) -> Call {
     };
     let Rooms::Lent {
         octets: room,
-        units,
+        list: units,
     } = arguments::rooms_at(line, at)
     else {
         return Call::Malformed;

@@ -11,7 +11,7 @@ use Rattle.kyteblossom.proofs.kyte_receive.Tie as tie
 
 pack-requires : tie.Need-pack-requires
 pack-requires c κs =
-    let small = handed-small _ _ _ _ _ _ (rw (c .before .j .given .1) at (c .before .before .before .before .before .receive .ensures)) in
+    let small = handed-small _ _ _ _ _ _ (rw (c .before .j .given .1) at (c .before .before .before .before .before .before .before .receive .ensures)) in
     (omega (arith, small .0), omega (arith, small .1))
 
 returns : tie.Need-returns
@@ -20,7 +20,7 @@ returns c =
       outcome = Unit
           (c .before .before .j .given .0 .0);
       received =
-          rw (c .before .before .j .given .1) at (c .before .before .before .before .before .before .receive .ensures);
+          rw (c .before .before .j .given .1) at (c .before .before .before .before .before .before .before .before .receive .ensures);
       number = toZ-ofZ {w = w32}
           (record { sfits = c .pack .ok }) ∙ c .pack .ensures;
     }
@@ -31,7 +31,7 @@ returns-2 c =
       outcome = Refused
           (c .before .before .k .given .0 .0);
       received =
-          rw (c .before .before .k .given .1) at (c .before .before .before .before .before .before .receive .ensures);
+          rw (c .before .before .k .given .1) at (c .before .before .before .before .before .before .before .before .receive .ensures);
       number = toZ-ofZ {w = w32}
           (record { sfits = c .refusal .ok }) ∙ c .refusal .ensures;
     }
@@ -40,4 +40,4 @@ pub kyte-receive-spec : {M : Type 1} → statement M
 kyte-receive-spec =
     tie.close
     (tie.spec (λ c κs. search needs) (λ c. search needs) pack-requires (λ c. search needs) (λ c κs. search needs)
-    (λ c. search needs) returns (λ c. search needs) returns-2)
+    (λ c. search needs) (λ c. search needs) returns (λ c. search needs) (λ c. search needs) returns-2)
