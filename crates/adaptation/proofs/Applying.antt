@@ -4,6 +4,7 @@
 --   unit-not            what is no unit of 1 to 1,024 octets
 --   adaptation-limits   the numbers (specs/Limits.antt)
 --   of-al1m, of-units   the refusals (specs/Exactly.antt)
+--   enough-lent         .. and what is never too small for a repair
 --   passes              .. what AL1 passes, and how
 --   whole-is            .. what AL2 sends a unit as
 --   agreeing            .. when a check agrees
@@ -14,7 +15,7 @@
 --
 -- Assumes nothing.
 use mathlib.Core.Path.{_≡_, refl, sym, ap, _∙_, subst}
-use mathlib.Core.Logic.{_↔_, _⊎_, inl, inr}
+use mathlib.Core.Logic.{_↔_, _⊎_, ⊎-elim, inl, inr}
 use mathlib.Core.Bool.{Bool, true, false, cond, not, and-true, and-false}
 use mathlib.Core.List.{List, [], _∷_, _++_}
 use Prim.Native.Nat.{ℕ, _+_, _-_, _*_, _≤_}
@@ -36,7 +37,7 @@ use Rattle.adaptation.specs.Width.{widthOf, isKnown, kindAt}
 use Rattle.adaptation.specs.declared.checks.Asked.the-variants.{Known, Unknown}
 use Rattle.adaptation.specs.declared.checks.Width.the-variants.{Zero, Eight, Sixteen}
 use Rattle.adaptation.specs.AL1M.{isSetting, sentOctets, isSendable, al1mTests, sentLength}
-use Rattle.adaptation.specs.Receiving.{isWord, isBare}
+use Rattle.adaptation.specs.Receiving.{isWord, receiveTests, isBare}
 use Rattle.adaptation.specs.Handed.{isUnit}
 use Rattle.adaptation.specs.AL1.{passTests, passed}
 use Rattle.adaptation.specs.AL2 as al2
@@ -151,6 +152,13 @@ of-al1m t n b e k lent =
       receive2 = second s w (not (hasRoom n e lent));
       receive3 = third s w (not (hasRoom n e lent)) (either-over n (length (lent .repair)) e (length (lent .places)));
     }
+
+pub enough-lent : (n b e : ℕ) (lent : RepairLent) → 255 ≤ length (lent .repair) → 127 ≤ length (lent .places) → Gives (receiveTests n b e lent) 3 → ⊥
+unfolding isWord
+enough-lent n b e lent r l g =
+    let q = of-al1m 0 n b e 0 lent .receive3 .0 g in
+    let w = leb-true n 255 (both-true (leb n 255) (leb (1 + kindAt b .octets + 2 * e) n) (q .1 .0) .0) in
+    ⊎-elim (λ h. omega (arith, w)) (λ h. omega (arith, settings b e .0 (q .0) .1)) (q .1 .1)
 
 pub unit-not : (u : List ℕ) → not (isUnit 1024 u) ≡ true ↔ ((1 ≤ length u) × (length u ≤ 1024) → ⊥)
 unit-not u = denied (isUnit 1024 u) (two-at-most 1 (length u) (length u) 1024)

@@ -23,7 +23,7 @@ use Rattle.adaptation.specs.Width.{kindAt}
 use Rattle.adaptation.specs.AL1M.{isSetting, isSendable, sentOctets}
 use Rattle.adaptation.specs.Sending.{message, Sends}
 use Rattle.adaptation.specs.Exactly.{SentLeaves, AdaptationExactly}
-use Rattle.adaptation.proofs.Applying.{of-al1m, of-units, passes, whole-is, agreeing, unchecked, failed}
+use Rattle.adaptation.proofs.Applying.{of-al1m, enough-lent, of-units, passes, whole-is, agreeing, unchecked, failed}
 use Rattle.adaptation.proofs.Behind.{message-length}
 use Rattle.adaptation.proofs.Refusals.{refused-none}
 
@@ -84,6 +84,7 @@ module _ (b e m : ℕ) (u before after : List ℕ) (h : Sends b e u before (Octe
 pub adaptation-exactly : AdaptationExactly
 adaptation-exactly = record {
   al1m = of-al1m;
+  enough = enough-lent;
   units = of-units;
   passes = passes;
   whole = whole-is;

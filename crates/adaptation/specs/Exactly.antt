@@ -73,6 +73,8 @@ pub record WholeIs (n : ℕ) (u : List ℕ) : Type 0 where
 
 pub record AdaptationExactly : Type 0 where
   pub al1m : (t n b e k : ℕ) (lent : RepairLent) → OfAL1M t n b e k lent
+  -- a repair buffer of 255 octets and a list of 127 places are never too small
+  pub enough : (n b e : ℕ) (lent : RepairLent) → 255 ≤ length (lent .repair) → 127 ≤ length (lent .places) → Gives (receiveTests n b e lent) 3 → ⊥
   pub units : (n : Number) (s : Bool) (u out : List ℕ) → OfUnits n s u out
   -- AL1 passes a unit of 1 to 1,024 octets as it is, badge 4
   pub passes : (u : List ℕ) → 1 ≤ length u → length u ≤ 1024 → passed u ≡ told (record { badge = 4; changed = 0; unit = u })

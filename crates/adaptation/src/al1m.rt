@@ -24,6 +24,9 @@ ghost use Rattle.adaptation.specs.Receiving.{badgeOf, isBare, handedUnit
 // The most octets of a code word that may be repaired (003, D.4.1.7.3).
 pub const MOST_REPAIRS: u32 = 127;
 
+// .. and so the longest list of places that a repair needs.
+pub const MOST_PLACES: usize = MOST_REPAIRS as usize;
+
 // A unit that is handed up: its badge, how many octets of the word were changed, and its length.
 pub struct Judgement {
     pub badge: Badge,

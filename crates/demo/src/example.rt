@@ -1,11 +1,9 @@
 // One unit of the call, as it came and as it was repaired, one above the other, with the repaired octets marked.
 use crate::plan;
 use adaptation::al1m;
+use adaptation::al1m::MOST_PLACES;
 use codeword::LONGEST_WORD;
 use print::BUFFER;
-
-// The most octets that can be repaired, and so the longest list of places.
-pub const PLACES: usize = 127;
 
 // Puts a line: a name, and octets in hex, each behind a space.
 fn put_octets(out: &mut [u8; BUFFER], from: usize, name: &[u8], octets: &[u8]) -> usize {
@@ -69,7 +67,7 @@ pub const REPAIRED: usize = 2;
 // Repairs a word of that channel once more, and shows it.
 pub fn show(word: &[u8]) {
     let mut repair = [0u8; LONGEST_WORD];
-    let mut places = [0u8; PLACES];
+    let mut places = [0u8; MOST_PLACES];
     let width = plan::width(CHANNEL);
     let e = plan::repairs(CHANNEL);
     let received = al1m::receive(word, width, e, &mut repair, &mut places);

@@ -1,6 +1,5 @@
 // The far end: each finished unit is handed to its layer where it lies in the demultiplexer's output, judged, and compared with what
 // was sent.
-use crate::example::PLACES;
 use crate::near;
 use crate::plan;
 use crate::tally;
@@ -8,6 +7,7 @@ use crate::tally::Tally;
 use adaptation::Badge;
 use adaptation::al1::Passed;
 use adaptation::al1m;
+use adaptation::al1m::MOST_PLACES;
 use adaptation::al2;
 use channels::ChannelNumber;
 use channels::Channels;
@@ -98,7 +98,7 @@ fn by_al1m(
     sent: &[u8],
 ) -> Verdict {
     let mut repair = [0u8; LONGEST_WORD];
-    let mut places = [0u8; PLACES];
+    let mut places = [0u8; MOST_PLACES];
     let width = plan::width(channel);
     let e = plan::repairs(channel);
     let received = layers::al1m_at(output, start, length, width, e, &mut repair, &mut places);

@@ -6,13 +6,11 @@ use adaptation::LONGEST_UNIT;
 use adaptation::al1;
 use adaptation::al1::Passed;
 use adaptation::al1m;
+use adaptation::al1m::MOST_PLACES;
 use calls::Length;
 use codeword::LONGEST_WORD;
 use script::call::Coding;
 use script::call::CodingCall;
-
-// The most octets that can be repaired, and so the longest list of places.
-const PLACES: usize = 127;
 
 // Answers the octets that a call wrote to the front of out.
 pub fn sent(length: Length, out: &[u8; LONGEST_UNIT]) {
@@ -38,7 +36,7 @@ fn encode(c: CodingCall, room: u32, octets: &[u8; OCTETS]) {
 
 fn receive(c: CodingCall, room: u32, list: u32, octets: &[u8; OCTETS]) {
     let mut repair = [0u8; LONGEST_WORD];
-    let mut places = [0u8; PLACES];
+    let mut places = [0u8; MOST_PLACES];
     let word = octets::front(octets, c.octets);
     let received = lent::receive(word, c.width, c.e, &mut repair, room, &mut places, list);
     hand_up(received, octets, &repair, &places);
@@ -49,7 +47,7 @@ fn hand_up<'a>(
     received: al1m::Received,
     word: &'a [u8; OCTETS],
     repair: &'a [u8; LONGEST_WORD],
-    places: &[u8; PLACES],
+    places: &[u8; MOST_PLACES],
 ) {
     match received {
         al1m::Received::Unit(j) => {
