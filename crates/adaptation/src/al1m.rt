@@ -12,7 +12,6 @@ ghost use mathlib.Core.List.{List};
 ghost use Prim.Native.Nat.{ℕ, _+_, _*_, _≤_, _<_};
 ghost use lib.ListN.{length};
 ghost use Rattle.codeword.specs.CodeWord.{longestWord};
-ghost use Rattle.codeword.specs.Repair.{lending};
 ghost use Rattle.codeword.specs.declared.Reach.the-variants.{Found};
 ghost use Rattle.calls.specs.Refusal.{lengthSays};
 ghost use Rattle.adaptation.specs.Check.{Kind};
@@ -131,8 +130,8 @@ fn badge_of(bare: bool, changed: usize, agrees: bool) -> Badge
 fn judge(received: &[u8], w: Width, e: usize, repair: &mut [u8], places: &mut [u8]) -> Judgement
     requires { ⌜ (length (now received) ≤ longestWord) × (kindOf w .octets + 2 * e < length (now received))
         × (length (now received) ≤ length (now repair)) ⌝ }
-    ensures { λ r. ⌜ HandedIs (kindOf w) e (now (received .entry)) (lending (now (repair .entry)) (now (places .entry))) r
-        (lending (now (repair .exit)) (now (places .exit))) ⌝ }
+    ensures { λ r. ⌜ HandedIs (kindOf w) e (now (received .entry)) (record { repair = now (repair .entry); places = now (places .entry) }) r
+        (record { repair = now (repair .exit); places = now (places .exit) }) ⌝ }
 {
     let l = checks::octets_of(w);
     let k = received.len() - 2 * e;
@@ -163,8 +162,8 @@ pub fn receive(
     repair: &mut [u8],
     places: &mut [u8],
 ) -> Received
-    ensures { λ r. ⌜ Receives width e (now (received .entry)) (lending (now (repair .entry)) (now (places .entry))) r
-        (lending (now (repair .exit)) (now (places .exit))) ⌝ }
+    ensures { λ r. ⌜ Receives width e (now (received .entry)) (record { repair = now (repair .entry); places = now (places .entry) }) r
+        (record { repair = now (repair .exit); places = now (places .exit) }) ⌝ }
 {
     let Asked::Known(w) = setting_of(width, e) else {
         return Received::Refused(1);

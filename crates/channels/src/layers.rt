@@ -13,7 +13,7 @@ use calls::Length;
 ghost use mathlib.Core.Path.{_≡_};
 ghost use Prim.Native.Nat.{_<_};
 ghost use Rattle.adaptation.specs.AL1 as passing;
-ghost use Rattle.adaptation.specs.Receiving.{lending, Receives};
+ghost use Rattle.adaptation.specs.Receiving.{Receives};
 ghost use Rattle.channels.specs.Channels as the;
 ghost use Rattle.channels.specs.Channels.{channelAt, put};
 ghost use Rattle.channels.specs.Layers.{numberAs, risen, SendsOn, TakesOn};
@@ -169,8 +169,8 @@ pub fn al1m_at(
     repair: &mut [u8],
     places: &mut [u8],
 ) -> al1m::Received
-    ensures { λ r. ⌜ Receives width e (partAt (now (output .entry)) start length) (lending (now (repair .entry)) (now (places .entry))) r
-        (lending (now (repair .exit)) (now (places .exit))) ⌝ }
+    ensures { λ r. ⌜ Receives width e (partAt (now (output .entry)) start length) (record { repair = now (repair .entry); places = now (places .entry) }) r
+        (record { repair = now (repair .exit); places = now (places .exit) }) ⌝ }
 {
     al1m::receive(unit_at(output, start, length), width, e, repair, places)
 }

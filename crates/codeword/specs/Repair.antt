@@ -1,7 +1,7 @@
 -- The repair (document 01, "AL1M units"; 003, D.4.1.9), and the list of what it changed (document 02, ticket 2).
 --
 --   RepairLent                     what is lent for a repair: octets for the repaired word, and a list for the changed places
---   lending o l                    the octets o and the list l, lent
+--   lending o l                    the octets o and the list l, lent: for the proofs, since each promise writes the record out
 --   hasRoom n e lent               they have room for a word of n octets and for e places
 --   reads n e lent                 a word of n octets is one of the code, and they have room for it
 --   filled lent c l                c is written at the front of the lent octets, and l at the front of the lent list; the rest stays
@@ -38,7 +38,7 @@ abbrev pub reads : ℕ → ℕ → RepairLent → Bool
 reads n e lent = leb n longestWord && ltb (2 * e) n && hasRoom n e lent
 
 abbrev pub filled : RepairLent → List ℕ → List ℕ → RepairLent
-filled lent c l = lending (written (lent .repair) 0 c) (written (lent .places) 0 l)
+filled lent c l = record { repair = written (lent .repair) 0 c; places = written (lent .places) 0 l }
 
 pub record FoundIs (e : ℕ) (w : List ℕ) (before : RepairLent) (changed : ℕ) (after : RepairLent) : Type 0 where
   pub fits : reads (length w) e before ≡ true

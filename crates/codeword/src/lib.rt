@@ -9,7 +9,7 @@ use field::TABLES;
 ghost use Rattle.field.specs.Octet.Table.{Tables};
 ghost use Rattle.codeword.specs.Encoding.{Encoded};
 ghost use Rattle.codeword.specs.Syndromes.{Decodable};
-ghost use Rattle.codeword.specs.Repair.{lending, Repaired};
+ghost use Rattle.codeword.specs.Repair.{Repaired};
 
 // The octets of the longest word (003, D.4.1.7.3): as many as α has powers.
 pub const LONGEST_WORD: usize = 255;
@@ -55,10 +55,10 @@ fn decode(
     places: &mut [u8],
     t: &[u8; TABLES],
 ) -> Reach
-    requires { ⌜ Decodable e (now received) (lending (now repaired) (now places)) (now s) ⌝ }
+    requires { ⌜ Decodable e (now received) (record { repair = now repaired; places = now places }) (now s) ⌝ }
     requires { ⌜ Tables (now t) ⌝ }
-    ensures { λ r. ⌜ Repaired e (now (received .entry)) (lending (now (repaired .entry)) (now (places .entry))) r
-        (lending (now (repaired .exit)) (now (places .exit))) ⌝ }
+    ensures { λ r. ⌜ Repaired e (now (received .entry)) (record { repair = now (repaired .entry); places = now (places .entry) }) r
+        (record { repair = now (repaired .exit); places = now (places .exit) }) ⌝ }
 {
     let n = received.len();
     let recurrence = locator::locator(s, 2 * e, t);
@@ -85,8 +85,8 @@ fn decode(
 // of `places`, and how many these are; or out of reach, and nothing is written. Where the word is longer than the longest or not over 2e,
 // `repaired` is shorter, or `places` shorter than e, it is out of reach too.
 pub fn repair(received: &[u8], e: usize, repaired: &mut [u8], places: &mut [u8]) -> Reach
-    ensures { λ r. ⌜ Repaired e (now (received .entry)) (lending (now (repaired .entry)) (now (places .entry))) r
-        (lending (now (repaired .exit)) (now (places .exit))) ⌝ }
+    ensures { λ r. ⌜ Repaired e (now (received .entry)) (record { repair = now (repaired .entry); places = now (places .entry) }) r
+        (record { repair = now (repaired .exit); places = now (places .exit) }) ⌝ }
 {
     let n = received.len();
     if LONGEST_WORD < n {

@@ -8,7 +8,6 @@ ghost use mathlib.Core.Path.{_≡_};
 ghost use Prim.Native.Nat.{_<_};
 ghost use lib.IntN.{pos, negℤ};
 ghost use Rattle.adaptation.specs.AL1M.{sentLength};
-ghost use Rattle.adaptation.specs.Receiving.{lending};
 ghost use Rattle.kyteblossom.specs.Answer.{answer, packed, EncodeIs, ReceiveIs, RecordWriteIs, RecordReadIs};
 
 // A refusal as the host reads it: minus its number.
@@ -60,8 +59,8 @@ pub extern "C" fn kyte_receive(
     repair: &mut [u8],
     places: &mut [u8],
 ) -> i32
-    ensures { λ r. ⌜ ReceiveIs width e (now (received .entry)) (lending (now (repair .entry)) (now (places .entry))) r
-        (lending (now (repair .exit)) (now (places .exit))) ⌝ }
+    ensures { λ r. ⌜ ReceiveIs width e (now (received .entry)) (record { repair = now (repair .entry); places = now (places .entry) }) r
+        (record { repair = now (repair .exit); places = now (places .exit) }) ⌝ }
 {
     match al1m::receive(received, width, e, repair, places) {
         Received::Unit(j) => pack(j),
