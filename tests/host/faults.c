@@ -55,6 +55,8 @@ static int32_t spoil(int32_t answer, uint32_t e)
         return answer - KYTE_OUT_OF_REACH + KYTE_CORRECTED;
     if (is_fault("count") && badge == KYTE_CORRECTED)
         return answer + 256;
+    if (is_fault("count-of-failed") && badge == KYTE_CHECK_FAILED)
+        return answer - 256 * (int32_t)kyte_changed(answer);
     if (is_fault("unit-length") && badge >= 0)
         return answer + 65536;
     return answer;
@@ -155,7 +157,7 @@ static void touch_list(int32_t answer, uint32_t e, uint8_t *places, size_t place
         places[-1] ^= 1;
     if (is_fault("after-list") && badge >= 0)
         places[places_len] ^= 1;
-    if (is_fault("refused-list") && answer == -KYTE_REFUSED_ROOM && places_len > 0)
+    if (is_fault("refused-list") && answer < 0 && places_len > 0)
         places[places_len - 1] ^= 1;
 }
 
@@ -181,7 +183,11 @@ static int32_t receive(const uint8_t *received, size_t received_len, uint32_t wi
         places_len = (uint16_t)places_len;
     if (is_fault("list-strict") && places_len > 0)
         places_len--;
+    if (is_fault("buffers-exchanged"))
+        return __real_kyte_receive(received, received_len, width, e, places, places_len, repair, repair_len);
     int32_t answer = __real_kyte_receive(received, received_len, width, e, repair, repair_len, places, places_len);
+    if (is_fault("list-of-most") && answer >= 0 && places_len < KYTE_MOST_REPAIRS)
+        return -KYTE_REFUSED_ROOM;
     if (places_len >= e)
         return answer;
     if (answer == -KYTE_REFUSED_ROOM)

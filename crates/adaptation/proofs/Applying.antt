@@ -28,7 +28,7 @@ use lib.Seq.{take-at, drop-at}
 use Rattle.octets.specs.Exact.{chain, both-of, is-true, is-false, denied, less, two-at-most, either-over, equal}
 use Rattle.octets.specs.Same.{same, same-self, same-equal}
 use Rattle.octets.specs.Tests.{both-true, never}
-use Rattle.codeword.specs.Repair.{RepairLent, hasRoom}
+use Rattle.codeword.specs.Repair.{RepairLent, hasRepairRoom}
 use Rattle.calls.specs.Refusal.{told, _when_, refusal, Gives}
 use Rattle.calls.proofs.Laws.{given-exactly}
 use Rattle.adaptation.specs.Bits.{octetsOf}
@@ -148,9 +148,9 @@ of-al1m t n b e k lent =
       encode1 = first s r x;
       encode2 = second s r x;
       encode3 = third s r x (less k (sentOctets t b e));
-      receive1 = first s w (not (hasRoom n e lent));
-      receive2 = second s w (not (hasRoom n e lent));
-      receive3 = third s w (not (hasRoom n e lent)) (either-over n (length (lent .repair)) e (length (lent .places)));
+      receive1 = first s w (not (hasRepairRoom n e lent));
+      receive2 = second s w (not (hasRepairRoom n e lent));
+      receive3 = third s w (not (hasRepairRoom n e lent)) (either-over n (length (lent .repair)) e (length (lent .places)));
     }
 
 pub enough-lent : (n b e : ℕ) (lent : RepairLent) → 255 ≤ length (lent .repair) → 127 ≤ length (lent .places) → Gives (receiveTests n b e lent) 3 → ⊥

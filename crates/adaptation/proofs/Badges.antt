@@ -1,12 +1,11 @@
 -- What each badge of AL1M is given for.
 --
 --   passed, word-is       what is known of a word that is not refused
---   changed-found         where a code word lies within e octets: how many octets differ
---   places-found          .. and which
+--   shown-found           where a code word lies within e octets: it, the places at which it differs and their number
 --   badge-sent            .. the badge, where its check agrees
 --   unit-found            .. and the unit that is handed up
 --   badge-exactly         each badge is given exactly for what it is to be given for
---   faultlessIsCodeWord, cleanExactly, correctedExactly, outOfReachExactly, checkFailedExactly, uncheckedExactly, outOfReachLeaves,
+--   foundIsShown, faultlessIsCodeWord, cleanExactly, correctedExactly, outOfReachExactly, checkFailedExactly, uncheckedExactly, outOfReachLeaves,
 --   noCheckAgrees         the claims of specs/Claims.antt on badges
 --
 -- Assumes nothing.
@@ -22,9 +21,8 @@ use lib.Seq.{take-take}
 use Rattle.octets.specs.Exact.{is-true}
 use Rattle.octets.specs.Tests.{both-true, never}
 use Rattle.codeword.specs.CodeWord.{CodeWord, distance, Within, longestWord}
-use Rattle.codeword.specs.Changed.{changedPlaces}
-use Rattle.codeword.specs.Claims.{Shows}
-use Rattle.codeword.specs.Repair.{RepairLent, hasRoom, reads, Repaired, FoundIs, OutOfReachIs}
+use Rattle.codeword.specs.Claims.{RepairShows}
+use Rattle.codeword.specs.Repair.{RepairLent, hasRepairRoom, reads, Repaired, FoundIs, OutOfReachIs}
 use Rattle.codeword.specs.declared.Reach.{Reach}
 use Rattle.codeword.specs.declared.Reach.the-variants as reach
 use Rattle.codeword.proofs.Laws.{distance-self, distance-zero, reads-true, foundIsIt, withoutParity}
@@ -33,7 +31,7 @@ use Rattle.adaptation.specs.Check.{none, agrees}
 use Rattle.adaptation.specs.Width.{kindAt}
 use Rattle.adaptation.specs.AL1M.{isSetting}
 use Rattle.adaptation.specs.Receiving.{isWord, receiveTests, isBare, badgeOf, changedOf, handedUnit, HandedIs}
-use Rattle.adaptation.specs.Claims.{isFaulty, badgeOfSent, isAgreeing, FaultlessIsCodeWord, Earns, Exactly, CleanExactly, CorrectedExactly}
+use Rattle.adaptation.specs.Claims.{isFaulty, badgeOfSent, isAgreeing, FoundIsShown, FaultlessIsCodeWord, Earns, Exactly, CleanExactly, CorrectedExactly}
 use Rattle.adaptation.specs.Claims.{OutOfReachExactly, CheckFailedExactly, UncheckedExactly, OutOfReachLeaves, NoCheckAgrees}
 use Rattle.adaptation.specs.declared.Badge.{Badge}
 use Rattle.adaptation.specs.declared.Badge.the-variants.{Clean, Corrected, OutOfReach, CheckFailed, Unchecked}
@@ -45,10 +43,10 @@ use Rattle.adaptation.proofs.Settings.{word-all}
 -- ---- what is known of a word that is not refused
 
 module _ (n e : ℕ) (w : List ℕ) (before : RepairLent) (allowed : refusal (receiveTests (length w) n e before) ≡ told tt) where
-  pub passed : (isSetting n e ≡ true) × (isWord (length w) n e ≡ true) × (hasRoom (length w) e before ≡ true)
+  pub passed : (isSetting n e ≡ true) × (isWord (length w) n e ≡ true) × (hasRepairRoom (length w) e before ≡ true)
   passed =
-      let p = refused-none (isSetting n e) (isWord (length w) n e) (not (hasRoom (length w) e before)) allowed in
-      (p .0, p .1, is-true (hasRoom (length w) e before) .0 (p .2))
+      let p = refused-none (isSetting n e) (isWord (length w) n e) (not (hasRepairRoom (length w) e before)) allowed in
+      (p .0, p .1, is-true (hasRepairRoom (length w) e before) .0 (p .2))
 
   rooms : (leb (length w) (length (before .repair)) ≡ true) × (leb e (length (before .places)) ≡ true)
   rooms = both-true (leb (length w) (length (before .repair))) (leb e (length (before .places))) (passed .2)
@@ -65,7 +63,7 @@ module _ (n e : ℕ) (w : List ℕ) (before : RepairLent) (allowed : refusal (re
 -- ---- what was found, by what it is within
 
 module _ (e : ℕ) (w : List ℕ) (before after : RepairLent) (c : List ℕ) (k : ℕ) (f : FoundIs e w before k after) (h : Within e w c) where
-  shown : Shows w c before k after
+  shown : RepairShows w c before k after
   shown = foundIsIt e w before after k f c h
 
   found-front : (i : ℕ) → i ≤ length w → take i (after .repair) ≡ take i c
@@ -143,14 +141,9 @@ module _ (n e : ℕ) (w : List ℕ) (before after : RepairLent) (j : Judgement) 
     unfolding count
     badge-found a g = h .badge-is ∙ ap₂ (badgeOf bare) (has-found c near .1 ∙ ap reach.Found changed-is) (good-is ∙ g)
 
-    pub changed-found : j .changed ≡ distance w c
+    pub shown-found : RepairShows w c before (j .changed) after
     unfolding count
-    changed-found = h .changed-is ∙ ap changedOf (has-found c near .1) ∙ changed-is
-
-    pub places-found : take (j .changed) (after .places) ≡ changedPlaces w c
-    unfolding count
-    places-found =
-        ap (λ (i : ℕ). take i (after .places)) (h .changed-is ∙ ap changedOf (has-found c near .1)) ∙ shown e w before after c count f near .places
+    shown-found = rw (h .changed-is, has-found c near .1) (shown e w before after c count f near)
 
     module _ (a : isAgreeing n e c ≡ true) where
       pub badge-sent : j .badge ≡ badgeOfSent (kindAt n) e (distance w c)
@@ -249,6 +242,9 @@ uncheckedExactly = badge-exactly Unchecked
 pub outOfReachLeaves : OutOfReachLeaves
 outOfReachLeaves n e w before after j (allowed, h) = lost-leaves n e w before after j allowed h
 
+pub foundIsShown : FoundIsShown
+foundIsShown n e w before after j (allowed, h) = shown-found n e w before after j allowed h
+
 pub faultlessIsCodeWord : FaultlessIsCodeWord
 faultlessIsCodeWord n e w before after j (allowed, h) q =
     let a = faultless (isBare (kindAt n) e) (h .reach) (agrees (kindAt n) (take (length w - 2 * e) (after .repair))) (ap isFaulty (sym (h .badge-is)) ∙ q) in
@@ -259,8 +255,8 @@ faultlessIsCodeWord n e w before after j (allowed, h) q =
       record {
         within = f .within;
         agreeing = agreeing;
-        changed = changed-found n e w before after j allowed h c (f .within);
-        places = places-found n e w before after j allowed h c (f .within);
+        changed = shown-found n e w before after j allowed h c (f .within) .count;
+        places = shown-found n e w before after j allowed h c (f .within) .places;
         unit = unit-found n e w before after j allowed h c (f .within) agreeing;
       },
     )

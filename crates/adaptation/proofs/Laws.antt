@@ -9,6 +9,7 @@
 --   coding-all                           what the length question answers is a unit that may be sent (Coding)
 --   sent-small, handed-small             how large the numbers are that AL1M answers (Theorems)
 --   sentIsHandedUp                       a sent unit with at most e octets changed is handed up as sent (Theorems)
+--   foundIsShown                         what is shown where a code word lies within e octets (Badges)
 --   badge-exactly, outOfReachExactly, outOfReachLeaves, faultlessIsCodeWord   what each badge of AL1M is given for (Badges)
 --   encodedUnique, receivedUnique        one answer of AL1M (Theorems)
 --   sentIsWhole, readBack, readIsWhole, nextInOrder, plainReceived   AL2's sending and receiving undo each other (InStep)
@@ -23,7 +24,7 @@ pub use Rattle.adaptation.proofs.Applying.{whole-length, unit-not, adap
 pub use Rattle.adaptation.proofs.Assembled.{adaptation-exactly}
 pub use Rattle.adaptation.proofs.Refusals.{sent-leaves, refused-not, refused-none}
 pub use Rattle.adaptation.proofs.Coding.{coding-all}
-pub use Rattle.adaptation.proofs.Badges.{badge-exactly, outOfReachExactly, outOfReachLeaves, faultlessIsCodeWord}
+pub use Rattle.adaptation.proofs.Badges.{foundIsShown, badge-exactly, outOfReachExactly, outOfReachLeaves, faultlessIsCodeWord}
 pub use Rattle.adaptation.proofs.Theorems.{sent-small, handed-small, sentIsHandedUp, encodedUnique, receivedUnique}
 pub use Rattle.adaptation.proofs.InStep.{sentIsWhole, readBack, readIsWhole, nextInOrder, plainReceived, inStep}
 pub use Rattle.adaptation.proofs.InStep.{wholesFrom-append, numberAfter-append, expectedAfter-append, numberAfter-lt}

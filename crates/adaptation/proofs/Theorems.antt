@@ -17,7 +17,7 @@ use Rattle.octets.specs.Tests.{both-true}
 use Rattle.octets.specs.Written.{written}
 use Rattle.codeword.specs.CodeWord.{distance, Within, longestWord}
 use Rattle.codeword.specs.Changed.{changedPlaces}
-use Rattle.codeword.specs.Repair.{RepairLent, hasRoom, Repaired}
+use Rattle.codeword.specs.Repair.{RepairLent, hasRepairRoom, Repaired}
 use Rattle.codeword.specs.declared.Reach.{Reach}
 use Rattle.codeword.specs.declared.Reach.the-variants as reach
 use Rattle.codeword.proofs.Laws.{codeWord-only, repairedUnique}
@@ -35,7 +35,7 @@ use Rattle.adaptation.specs.declared.al1m.Judgement.{Judgement}
 use Rattle.adaptation.specs.declared.al1m.Received.{Received}
 use Rattle.adaptation.specs.declared.al1m.Received.the-variants as receive
 use Rattle.adaptation.proofs.Assembled.{sendable, long, word, unit-sent}
-use Rattle.adaptation.proofs.Badges.{passed, word-is, changed-found, places-found, badge-sent, unit-found}
+use Rattle.adaptation.proofs.Badges.{passed, word-is, shown-found, badge-sent, unit-found}
 use Rattle.adaptation.proofs.Behind.{agrees-own}
 use Rattle.adaptation.proofs.Refusals.{refused-not}
 use Rattle.adaptation.proofs.Settings.{word-true}
@@ -81,7 +81,7 @@ module _ (n e m : ℕ) (u room sent : List ℕ) (s : Sends n e u room (sends.Oct
 
     allowed : refusal (receiveTests (length w) n e before) ≡ told tt
     allowed =
-        refused-not (isSetting n e) (isWord (length w) n e) (not (hasRoom (length w) e before)) (sendable n e m u room sent s .0)
+        refused-not (isSetting n e) (isWord (length w) n e) (not (hasRepairRoom (length w) e before)) (sendable n e m u room sent s .0)
         (word-true (length w) n e (omega (arith, sizes)) (omega (arith, sizes, sent-long)))
         (rw (le-leb (length w) (length (before .repair)) (omega arith), le-leb e (length (before .places)) lists))
 
@@ -95,13 +95,13 @@ module _ (n e m : ℕ) (u room sent : List ℕ) (s : Sends n e u room (sends.Oct
     handed (receive.Unit j) (a, h) =
         let c = s .1 .sent in
         let t : j .length ≡ length u = h .length-is ∙ omega (arith, l, sent-long) in
-        let d : j .changed ≡ distance w (take m sent) = changed-found n e w before after j a h c within ∙ ap (distance w) (sym sent-front) in
+        let d : j .changed ≡ distance w (take m sent) = shown-found n e w before after j a h c within .count ∙ ap (distance w) (sym sent-front) in
         let b : j .badge ≡ badge =
         badge-sent n e w before after j a h c within agrees-sent ∙ ap (λ (x : List ℕ). badgeOfSent (kindAt n) e (distance w x)) (sym sent-front) in (
           ap receive.Unit (judgement-same j badge (distance w (take m sent)) (length u) b d t),
           ap₂ (λ (x : Badge) (i : ℕ). handedUnit x w (after .repair) i) (sym b) (sym t) ∙ unit-found n e w before after j a h c within agrees-sent
               ∙ ap (λ (i : ℕ). take i c) t ∙ unit-sent n e m u room sent s,
-          ap (λ (i : ℕ). take i (after .places)) (sym d) ∙ places-found n e w before after j a h c within ∙ ap (changedPlaces w) (sym sent-front),
+          ap (λ (i : ℕ). take i (after .places)) (sym d) ∙ shown-found n e w before after j a h c within .places ∙ ap (changedPlaces w) (sym sent-front),
         )
 
 pub sentIsHandedUp : SentIsHandedUp

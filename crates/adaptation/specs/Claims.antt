@@ -6,6 +6,8 @@
 --   SentIsHandedUp        a sent unit of which at most e octets changed, length and settings unchanged, is handed up as sent, with the
 --                         true number of changed octets and their places, and with that badge
 --   isAgreeing b e c      the check of b bits in the code word c agrees
+--   FoundIsShown          where a code word lies within e octets, whatever its check says: it, the places at which it differs and their number are
+--                         shown, and the rest is as it was
 --   Faultless             what a badge that is not at fault is given to
 --   FaultlessIsCodeWord   another badge is given to nothing but the one code word within e octets whose check agrees: its unit is handed
 --                         up, its distance told, and the places at which it differs are listed
@@ -30,6 +32,7 @@ use mathlib.Core.List.{List}
 use Prim.Native.Nat.{ℕ, zero, suc, _-_, _*_, _≤_}
 use lib.ListN.{length, take}
 use Rattle.codeword.specs.Changed.{changedPlaces}
+use Rattle.codeword.specs.Claims.{RepairShows}
 use Rattle.codeword.specs.CodeWord.{Octets, CodeWord, distance, Within}
 use Rattle.codeword.specs.Repair.{RepairLent}
 use Rattle.adaptation.specs.Check.{Kind, none, agrees}
@@ -65,6 +68,11 @@ SentIsHandedUp =
 
 abbrev pub isAgreeing : ℕ → ℕ → List ℕ → Bool
 isAgreeing b e c = agrees (kindAt b) (take (length c - 2 * e) c)
+
+abbrev pub FoundIsShown : Type 0
+FoundIsShown =
+    (b e : ℕ) (w : List ℕ) (before after : RepairLent) (j : Judgement) → Receives b e w before (Unit j) after
+    → (c : List ℕ) → Within e w c → RepairShows w c before (j .changed) after
 
 pub record Faultless (b e : ℕ) (w : List ℕ) (after : RepairLent) (c : List ℕ) (j : Judgement) : Type 0 where
   pub within : Within e w c

@@ -1,4 +1,4 @@
--- What document 01 says of the adaptation layers with "exactly when", where a definition changed together with its code would get past
+-- What document 01, and ticket 2 of document 02, say of the adaptation layers with "exactly when", where a definition changed together with its code would get past
 -- every other claim: the table of refusals, number by number, each where the tests before it do not hold; when a check agrees and when
 -- there is none; what becomes of a unit of AL2 whose check disagrees; and what AL1M's sending leaves. The settings and lengths themselves
 -- are said in specs/Limits.antt, and the numbers in their order in crate `demands`.

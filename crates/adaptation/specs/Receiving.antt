@@ -1,6 +1,6 @@
 -- AL1M's receiving (document 01, "AL1M units"; document 02, ticket 2; 003, D.4.1.9).
 --
---   RepairLent, lending, hasRoom     what is lent for a repair, octets and a list, and whether it has the room: passed on from the code word's
+--   RepairLent, lending, hasRepairRoom     what is lent for a repair, octets and a list, and whether it has the room: passed on from the code word's
 --   isWord n b e                     n octets may be a sent unit with a check of b bits and e repairs
 --   receiveTests n b e lent          what refuses to receive n octets, with octets and a list lent for the repair, in this order
 --   isBare κ e                       there is neither a check nor a code
@@ -25,7 +25,7 @@ use lib.Dec.{eqb, leb}
 use lib.ListN.{length, take}
 use Rattle.codeword.specs.CodeWord.{longestWord}
 use Rattle.codeword.specs.Repair.{Repaired}
-pub use Rattle.codeword.specs.Repair.{RepairLent, lending, hasRoom}
+pub use Rattle.codeword.specs.Repair.{RepairLent, lending, hasRepairRoom}
 use Rattle.codeword.specs.declared.Reach.{Reach}
 use Rattle.codeword.specs.declared.Reach.the-variants as reach
 use Rattle.calls.specs.Refusal.{told, Test, refusal, RefusedIs}
@@ -42,7 +42,7 @@ unfoldable pub isWord : ℕ → ℕ → ℕ → Bool
 isWord n b e = leb n longestWord && leb (1 + kindAt b .octets + 2 * e) n
 
 abbrev pub receiveTests : ℕ → ℕ → ℕ → RepairLent → List Test
-receiveTests n b e lent = al1mTests (isSetting b e) (isWord n b e) (not (hasRoom n e lent))
+receiveTests n b e lent = al1mTests (isSetting b e) (isWord n b e) (not (hasRepairRoom n e lent))
 
 abbrev pub isBare : Kind → ℕ → Bool
 isBare κ e = eqb e 0 && eqb (κ .octets) 0

@@ -26,6 +26,7 @@ use Rattle.algebra.specs.Derivative.{deriv}
 use Rattle.algebra.specs.Support.{Support, pick, weight, one-if}
 use Rattle.algebra.specs.Lists.{Lists}
 use Rattle.algebra.specs.Search.{Search}
+use Rattle.algebra.proofs.Listing.{lists-as}
 use Rattle.algebra.proofs.Ring.{ring, mul-ne, 𝟘-⊙, 𝟙-⊙}
 use Rattle.algebra.proofs.Product.{⊛-local, tl-at}
 use Rattle.algebra.proofs.PowerSum.{psum-zero, psum-suc}
@@ -190,12 +191,7 @@ module _ (𝓕 : Field) where
 
       pub search-complete : (v : ℕ) (bt : ℕ → ℕ) → Search 𝓕 n v L C Z bt → v ≡ L
       search-complete v bt found =
-          support-of 𝓕 n v E bt (record {
-            inside = found .inside;
-            rises = found .rises;
-            each = λ j l. root-error (bt j) (found .inside j l) (found .each j l);
-            all = λ p l h. found .all p l (error-root p l h);
-          }) .0 ∙ sym (located .0)
+          support-of 𝓕 n v E bt (lists-as n v _ _ bt bt root-error error-root (λ j l. refl) found) .0 ∙ sym (located .0)
 
     -- ---- if L roots are found, C is their locator
 
@@ -226,12 +222,7 @@ module _ (𝓕 : Field) where
 
         marks : Lists n L (λ p. root-mark p ≢ 𝟘) at
         unfolding root-mark
-        marks = record {
-          inside = found .inside;
-          rises = found .rises;
-          each = λ j l. mark-ne (𝓕 .decide (ev 𝓕 (suc L) C (Z (at j))) 𝟘) (found .each j l);
-          all = λ p l h. found .all p l (mark-of (𝓕 .decide (ev 𝓕 (suc L) C (Z p)) 𝟘) h);
-        }
+        marks = lists-as n L _ _ at at (λ p l. mark-ne (𝓕 .decide (ev 𝓕 (suc L) C (Z p)) 𝟘)) (λ p l. mark-of (𝓕 .decide (ev 𝓕 (suc L) C (Z p)) 𝟘)) (λ j l. refl) found
 
         kept : (p : ℕ) → root-mark p ⊙ E p ≡ E p
         unfolding root-mark
@@ -255,9 +246,6 @@ module _ (𝓕 : Field) where
 
         -- a listed place at which it were zero would leave a weight below the least
         pub search-lists : Lists n L (λ p. E p ≢ 𝟘) at
-        search-lists = record {
-          inside = found .inside;
-          rises = found .rises;
-          each = λ j l z. omega (arith, least, support-of 𝓕 n L root-mark at marks .0, weight-lt n E root-mark marked (at j) (found .inside j l) z (marks .each j l));
-          all = λ p l h. elim (𝓕 .decide (ev 𝓕 (suc L) C (Z p)) 𝟘) [ yes r ↦ found .all p l r | no r ↦ absurd (h (elsewhere p r)) ];
-        }
+        search-lists = lists-as n L _ _ at at
+            (λ p l h z. omega (arith, least, support-of 𝓕 n L root-mark at marks .0, weight-lt n E root-mark marked p l z h))
+            (λ p l h. elim (𝓕 .decide (root-mark p) 𝟘) [ yes r ↦ absurd (h (marked p l r)) | no r ↦ r ]) (λ j l. refl) marks

@@ -5,14 +5,14 @@
 --   placesExactly   the places are those at which they differ, ascending
 --   changed-none    a word differs from itself at no place
 --
--- It takes nothing from the other proofs: a distance that counts otherwise, or another list of places, is refused here, before a lemma that it
+-- It takes nothing from the other proofs of this crate: a distance that counts otherwise, or another list of places, is refused here, before a lemma that it
 -- breaks besides.
 --
 -- Assumes nothing.
-use mathlib.Core.Path.{_≡_, refl, sym, ap, _∙_}
+use mathlib.Core.Path.{_≡_, refl, ap, _∙_}
 use mathlib.Core.Logic.{_≢_}
 use mathlib.Core.List.{List, [], _∷_, map}
-use Prim.Native.Nat.{ℕ, zero, suc, _+_, _<_}
+use Prim.Native.Nat.{ℕ, zero, suc, _<_}
 use native.Mathlib.Nat.{zero-add}
 use native.Mathlib.Decide.{ℕ-discrete}
 use native.Mathlib.Omega.{arith}
@@ -65,9 +65,6 @@ changed-lists [] (b ∷ c) e = absurd (omega arith)
 changed-lists (a ∷ w) [] e = absurd (omega arith)
 changed-lists (a ∷ w) (b ∷ c) e = go (ℕ-discrete a b) (changed-lists w c (omega arith))
   where
-    l : List ℕ
-    l = changedPlaces w c
-
     go : Dec (a ≡ b) → Lists (length w) (length (changedPlaces w c)) (Differ w c) (λ j. getD (changedPlaces w c) j 0)
         → Lists (suc (length w)) (length (changedPlaces (a ∷ w) (b ∷ c))) (Differ (a ∷ w) (b ∷ c)) (λ j. getD (changedPlaces (a ∷ w) (b ∷ c)) j 0)
     go (yes p) s = rw (eq-eqb a b p, length-map) (lists-as _ _ _ (Differ (a ∷ w) (b ∷ c)) _ _ (λ q h d. d) (λ q h d. d) (moved-at (changedPlaces w c))

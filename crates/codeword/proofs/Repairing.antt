@@ -43,7 +43,7 @@ use Rattle.codeword.specs.Syndromes.{SyndromesAre, allZero}
 use Rattle.codeword.specs.Locator.{LocatorIs}
 use Rattle.codeword.specs.Search.{valueOf, SearchIs}
 use Rattle.codeword.specs.Values.{EvaluatorIs, DerivativeIs, errorOf, Corrected}
-use Rattle.codeword.specs.Repair.{RepairLent, lending, hasRoom, reads, FoundIs, OutOfReachIs}
+use Rattle.codeword.specs.Repair.{RepairLent, lending, hasRepairRoom, reads, FoundIs, OutOfReachIs}
 use Rattle.codeword.proofs.Word.{places-at, locators-distinct, locators-inverse}
 use Rattle.codeword.proofs.Criterion.{codeWord-zero, zero-codeWord}
 use Rattle.codeword.proofs.Counting.{placesExactly, changed-none}
@@ -255,7 +255,7 @@ reads-true n e lent a b c d = rw (le-leb n longestWord a, lt-ltb (2 * e) n b, le
 pub reads-all : (n e : ℕ) (lent : RepairLent) → reads n e lent ≡ true
     → (n ≤ longestWord) × (2 * e < n) × (n ≤ length (lent .repair)) × (e ≤ length (lent .places))
 reads-all n e lent h =
-    let t = three-true (leb n longestWord) (ltb (2 * e) n) (hasRoom n e lent) h in
+    let t = three-true (leb n longestWord) (ltb (2 * e) n) (hasRepairRoom n e lent) h in
     let r = both-true (leb n (length (lent .repair))) (leb e (length (lent .places))) (t .2) in
     (leb-true n longestWord (t .0), ltb-true (2 * e) n (t .1), leb-true n (length (lent .repair)) (r .0), leb-true e (length (lent .places)) (r .1))
 

@@ -2,7 +2,7 @@
 --
 --   encodedIsCodeWord, encodedIsOnly, encodedUnique                      of encoding
 --   codeWordsApart, withoutParity, zeroSyndromes, neverSecond            of code words
---   foundExactly, foundIsIt, lostUntouched, unusedZero, repairedUnique   of the repair
+--   readsExactly, foundExactly, foundIsIt, lostUntouched, unusedZero, repairedUnique   of the repair
 --
 -- Assumes nothing.
 use mathlib.Core.Path.{_≡_, refl, sym, ap, ap₂, _∙_}
@@ -22,14 +22,14 @@ use Rattle.codeword.specs.CodeWord.{distance}
 use Rattle.codeword.specs.Encoding.{encodes, Done, Encoded}
 use Rattle.codeword.specs.Repair.{RepairLent, filled}
 use Rattle.codeword.specs.Claims.{EncodedIsCodeWord, EncodedIsOnly, CodeWordsApart, WithoutParity, ZeroSyndromes}
-use Rattle.codeword.specs.Claims.{FoundExactly, FoundIsIt, NeverSecond, LostUntouched, UnusedZero, EncodedUnique, RepairedUnique}
+use Rattle.codeword.specs.Claims.{ReadsExactly, FoundExactly, FoundIsIt, NeverSecond, LostUntouched, UnusedZero, EncodedUnique, RepairedUnique}
 use Rattle.codeword.specs.declared.Reach.the-variants.{Found, OutOfReach}
 use Rattle.codeword.proofs.Word.{places-at}
 use Rattle.codeword.proofs.Counting.{placesCounted}
 use Rattle.codeword.proofs.Criterion.{codeWord-zero, zero-codeWord}
 use Rattle.codeword.proofs.Distance.{codeWords-apart, within-unique}
 use Rattle.codeword.proofs.Systematic.{parity-codeWord, codeWord-begins, parity-unique, encoded-unique, encoded-is, encodes-all}
-use Rattle.codeword.proofs.Repairing.{reads-all}
+use Rattle.codeword.proofs.Repairing.{reads-true, reads-all}
 
 -- ---- what was written at the front
 
@@ -89,6 +89,9 @@ pub neverSecond : NeverSecond
 neverSecond = within-unique
 
 -- ---- the repair
+
+pub readsExactly : ReadsExactly
+readsExactly n e lent = (reads-all n e lent, λ h. reads-true n e lent (h .0) (h .1) (h .2) (h .3))
 
 pub foundExactly : FoundExactly
 foundExactly e w before after (Found k) fits p = (λ t. (p .found, p .within), λ c. refl)

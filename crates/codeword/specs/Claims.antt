@@ -1,6 +1,6 @@
 -- What is claimed of encoding and repair, over every word and every setting; proofs/Counting.antt proves `DistanceIs`, `PlacesExactly` and
--- `PlacesCounted`, and proofs/Theorems.antt each other claim. `encodes` and `reads` hold exactly of words of at least one octet and at most
--- `longestWord` with 2e below their length, where there is room.
+-- `PlacesCounted`, and proofs/Theorems.antt each other claim. `encodes` holds exactly of messages of at least one octet that have with their
+-- parity at most `longestWord`, where there is room.
 --
 --   isFound r            whether a repair's answer is that it found a code word
 --   DistanceIs           the distance of two words is the number of octets in which they differ
@@ -12,8 +12,9 @@
 --   CodeWordsApart       two code words of one length that differ in at most 2e octets are equal
 --   WithoutParity        with e = 0 every word of octets is a code word
 --   ZeroSyndromes        a word is a code word exactly when the values of its polynomial at α, α², .., α^2e are zero
+--   ReadsExactly         a repair is tried exactly of a word of at most 255 octets and more than 2e, with room for it and for e places
 --   FoundExactly         a repair finds a code word exactly when one of that length differs from the word in at most e octets
---   Shows w c before k after   after a repair of w the code word c, and the places at which it differs from w, stand at the front of what was
+--   RepairShows w c before k after   after a repair of w the code word c, and the places at which it differs from w, stand at the front of what was
 --                        lent, the rest is as it was, and k is the number of those places and of the octets that differ
 --   FoundIsIt            .. what is found is that code word: it, its places and their number are shown
 --   NeverSecond          .. and there is never a second one
@@ -79,24 +80,29 @@ WithoutParity = (w : List ℕ) → Octets w → CodeWord 0 w
 abbrev pub ZeroSyndromes : Type 0
 ZeroSyndromes = (e : ℕ) (w : List ℕ) → 2 * e < order → Octets w → CodeWord e w ↔ ((i : ℕ) → i < 2 * e → value w (pow elements α (suc i)) ≡ elements .nil)
 
+abbrev pub ReadsExactly : Type 0
+ReadsExactly =
+    (n e : ℕ) (lent : RepairLent)
+    → reads n e lent ≡ true ↔ ((n ≤ 255) × (2 * e < n) × (n ≤ length (lent .repair)) × (e ≤ length (lent .places)))
+
 abbrev pub FoundExactly : Type 0
 FoundExactly =
     (e : ℕ) (w : List ℕ) (before after : RepairLent) (r : Reach) → reads (length w) e before ≡ true → Repaired e w before r after
     → isFound r ≡ true ↔ ((c : List ℕ) × Within e w c)
 
-pub record Shows (w c : List ℕ) (before : RepairLent) (changed : ℕ) (after : RepairLent) : Type 0 where
+pub record RepairShows (w c : List ℕ) (before : RepairLent) (changed : ℕ) (after : RepairLent) : Type 0 where
   pub word : take (length w) (after .repair) ≡ c
   pub behind : drop (length w) (after .repair) ≡ drop (length w) (before .repair)
-  -- "the changed count is the number of places"
   pub places : take changed (after .places) ≡ changedPlaces w c
   pub past : drop changed (after .places) ≡ drop changed (before .places)
+  -- "the changed count is the number of places"
   pub number : changed ≡ length (changedPlaces w c)
   pub count : changed ≡ distance w c
 
 abbrev pub FoundIsIt : Type 0
 FoundIsIt =
     (e : ℕ) (w : List ℕ) (before after : RepairLent) (changed : ℕ) → Repaired e w before (Found changed) after
-    → (c : List ℕ) → Within e w c → Shows w c before changed after
+    → (c : List ℕ) → Within e w c → RepairShows w c before changed after
 
 abbrev pub NeverSecond : Type 0
 NeverSecond = (e : ℕ) (w c d : List ℕ) → length w ≤ longestWord → Within e w c → Within e w d → c ≡ d

@@ -2,8 +2,8 @@
 --
 --   RepairLent                     what is lent for a repair: octets for the repaired word, and a list for the changed places
 --   lending o l                    the octets o and the list l, lent: for the proofs, since each promise writes the record out
---   hasRoom n e lent               they have room for a word of n octets and for e places
---   reads n e lent                 a word of n octets is one of the code, and they have room for it
+--   hasRepairRoom n e lent               they have room for a word of n octets and for e places
+--   reads n e lent                 a word of n octets is one of the code, and they have room for it and for e places
 --   filled lent c l                c is written at the front of the lent octets, and l at the front of the lent list; the rest stays
 --   FoundIs e w before k after     found, with k octets changed: a code word of that length within e octets of w is written at the front, and
 --                                  so are the places at which it differs from w; k is the number of octets in which it does
@@ -30,12 +30,12 @@ pub record RepairLent : Type 0 where
 abbrev pub lending : List ℕ → List ℕ → RepairLent
 lending o l = record { repair = o; places = l }
 
-abbrev pub hasRoom : ℕ → ℕ → RepairLent → Bool
-hasRoom n e lent = leb n (length (lent .repair)) && leb e (length (lent .places))
+abbrev pub hasRepairRoom : ℕ → ℕ → RepairLent → Bool
+hasRepairRoom n e lent = leb n (length (lent .repair)) && leb e (length (lent .places))
 
 -- no more octets than the longest word has, more than the 2e of the parity, and the room
 abbrev pub reads : ℕ → ℕ → RepairLent → Bool
-reads n e lent = leb n longestWord && ltb (2 * e) n && hasRoom n e lent
+reads n e lent = leb n longestWord && ltb (2 * e) n && hasRepairRoom n e lent
 
 abbrev pub filled : RepairLent → List ℕ → List ℕ → RepairLent
 filled lent c l = record { repair = written (lent .repair) 0 c; places = written (lent .places) 0 l }

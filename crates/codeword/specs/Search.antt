@@ -1,7 +1,7 @@
 -- What the search for the roots of the locator answers.
 --
 --   valueOf c n x              c₀ + c₁ x + .. + c₍ₙ₋₁₎ x^(n-1), on octets
---   SearchIs n l c at count    the first `count` numbers of `at` are, rising, all the places of n at the inverse of whose locator the
+--   SearchIs n p l c at count  the first `count` numbers of `at` are, rising, all the first p places of n at the inverse of whose locator the
 --                              polynomial c of degree at most l is zero
 --
 -- Assumes nothing.

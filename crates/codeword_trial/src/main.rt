@@ -71,7 +71,7 @@ fn write_place(p: u8) {
     io::print_decimal(1, p as u64);
 }
 
-// Writes places behind one another.
+// Writes places behind one another, between ` at` and a colon.
 fn write_places(places: &[u8]) {
     io::write_all(1, b" at");
     let mut i = 0;

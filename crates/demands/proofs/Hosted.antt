@@ -132,11 +132,7 @@ module _ (b e : ℕ) (w : List ℕ) (before after : RepairLent) (r : ℤ) (j : J
     found-told : FoundTold b e w before after r c
     unfolding agreeing
     found-told = record {
-      front = known .repaired c near .word;
-      rest = known .repaired c near .behind;
-      places = rw (q .changed-is) (known .repaired c near .places);
-      others = rw (q .changed-is) (known .repaired c near .past);
-      changed = q .changed-is ∙ known .repaired c near .count;
+      shown = rw (q .changed-is) (known .repaired c near);
       badge = q .badge-is ∙ ap pos badge-told;
       trusted = trusted-by _ badge-told ∙ trusted-number b e (distance w c) agreeing;
       unit = λ a. q .unit-is ∙ unit-told a ∙ ap (λ (t : ℕ). take t c) (sym (q .length-is));

@@ -22,7 +22,7 @@ use Rattle.codeword.specs.declared.Reach.the-variants as reach
 use Rattle.adaptation.specs.Check.{agrees}
 use Rattle.adaptation.specs.Width.{kindAt}
 use Rattle.adaptation.specs.AL1M.{isSetting}
-use Rattle.adaptation.specs.Receiving.{RepairLent, hasRoom, isWord, receiveTests, isBare, badgeOf, unitLength, Receives}
+use Rattle.adaptation.specs.Receiving.{RepairLent, hasRepairRoom, isWord, receiveTests, isBare, badgeOf, unitLength, Receives}
 use Rattle.adaptation.specs.declared.Badge.the-variants.{OutOfReach}
 use Rattle.adaptation.specs.declared.al1m.Received.{Received}
 use Rattle.adaptation.specs.declared.al1m.Received.the-variants as al1m
@@ -69,8 +69,8 @@ module _ (b e : ℕ) (w : List ℕ) (before : RepairLent) where
       by : (t : Told (Unit {0})) → refusal (receiveTests (length w) b e before) ≡ t → Allowed
       by (refused k) h = (al1m.Refused k, before, record { first = h; same = refl })
       by (told u) h =
-          let p = refused-none (isSetting b e) (isWord (length w) b e) (not (hasRoom (length w) e before)) h in
-          let q = two-at-most (length w) (length (before .repair)) e (length (before .places)) .0 (is-true (hasRoom (length w) e before) .0 (p .2)) in
+          let p = refused-none (isSetting b e) (isWord (length w) b e) (not (hasRepairRoom (length w) e before)) h in
+          let q = two-at-most (length w) (length (before .repair)) e (length (before .places)) .0 (is-true (hasRepairRoom (length w) e before) .0 (p .2)) in
           tried (p .0) (p .1) (q .0) (q .1)
 
 pub someKeeps : SomeKeeps

@@ -11,29 +11,28 @@ use borrow.Author.Tests.{leb-true}
 use lib.Dec.{leb}
 use lib.ListN.{length, take}
 use Rattle.octets.specs.Tests.{both-true}
-use Rattle.codeword.specs.Claims.{Shows}
 use Rattle.codeword.specs.CodeWord.{Within, longestWord}
 use Rattle.codeword.specs.Repair.{Repaired}
 use Rattle.codeword.specs.declared.Reach.{Reach}
 use Rattle.codeword.specs.declared.Reach.the-variants as reach
-use Rattle.codeword.proofs.Laws.{placesExactly, placesCounted, foundIsIt, neverSecond}
+use Rattle.codeword.proofs.Laws.{placesExactly, placesCounted, neverSecond}
 use Rattle.adaptation.specs.Check.{agrees}
 use Rattle.adaptation.specs.Width.{kindAt}
 use Rattle.calls.specs.Refusal.{told, refusal}
 use Rattle.adaptation.specs.AL1M.{isSetting}
-use Rattle.adaptation.specs.Receiving.{RepairLent, hasRoom, isWord, receiveTests, isBare, badgeOf, changedOf, handedUnit, Receives}
+use Rattle.adaptation.specs.Receiving.{RepairLent, hasRepairRoom, isWord, receiveTests, isBare, badgeOf, handedUnit, Receives}
 use Rattle.adaptation.specs.declared.Badge.{Badge}
 use Rattle.adaptation.specs.declared.Badge.the-variants.{Clean, Corrected, OutOfReach, CheckFailed, Unchecked}
 use Rattle.adaptation.specs.declared.al1m.Judgement.{Judgement}
 use Rattle.adaptation.specs.declared.al1m.Received.the-variants as al1m
 use Rattle.adaptation.proofs.Laws.{refused-none}
-use Rattle.adaptation.proofs.Laws.{sentIsHandedUp, badge-exactly, outOfReachExactly, outOfReachLeaves, faultlessIsCodeWord}
+use Rattle.adaptation.proofs.Laws.{sentIsHandedUp, foundIsShown, badge-exactly, outOfReachExactly, outOfReachLeaves, faultlessIsCodeWord}
 use Rattle.demands.specs.Repairs.{Repairs, Demand3}
 
 short : (n e : ℕ) (w : List ℕ) (before : RepairLent) → refusal (receiveTests (length w) n e before) ≡ told tt → length w ≤ longestWord
 unfolding isWord
 short n e w before a =
-    let b = refused-none (isSetting n e) (isWord (length w) n e) (not (hasRoom (length w) e before)) a .1 in
+    let b = refused-none (isSetting n e) (isWord (length w) n e) (not (hasRepairRoom (length w) e before)) a .1 in
     leb-true (length w) longestWord (both-true (leb (length w) longestWord) (leb (1 + kindAt n .octets + 2 * e) (length w)) b .0)
 
 as-received : (x : Badge) (w after : List ℕ) (t : ℕ) → (x ≡ Corrected → ⊥) → handedUnit x w after t ≡ take t w
@@ -49,16 +48,10 @@ module _ (n e : ℕ) (w : List ℕ) (before after : RepairLent) (j : Judgement) 
   found (reach.Found k) p b h = (p .found, p .within)
   found reach.OutOfReach p b h = absurd (h b)
 
-  repaired : (x : Reach) → Repaired e w before x after → j .badge ≡ badgeOf (isBare (kindAt n) e) x (agrees (kindAt n) (take (length w - 2 * e) (after .repair)))
-      → j .changed ≡ changedOf x
-      → (c : List ℕ) → Within e w c → Shows w c before (j .changed) after
-  repaired (reach.Found k) p b q c i = rw q (foundIsIt e w before after k p c i)
-  repaired reach.OutOfReach p b q c i = absurd (outOfReachExactly n e w before after j a .0 b c i)
-
   repairs : Repairs n e w before after j
   repairs = record {
     found = (found (a .1 .reach) (a .1 .repaired) (a .1 .badge-is), λ c b. outOfReachExactly n e w before after j a .0 b (c .0) (c .1));
-    repaired = repaired (a .1 .reach) (a .1 .repaired) (a .1 .badge-is) (a .1 .changed-is);
+    repaired = foundIsShown n e w before after j a;
     once = λ c d p q. neverSecond e w c d (short n e w before (a .0)) p q;
     badge = λ x. badge-exactly x n e w before after j a;
     faultless = faultlessIsCodeWord n e w before after j a;

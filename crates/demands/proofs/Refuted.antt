@@ -10,7 +10,7 @@ use native.Mathlib.Nat.{le-refl}
 use native.Mathlib.Omega.{arith}
 use lib.ListN.{length, take}
 use Rattle.octets.specs.Tests.{never}
-use Rattle.codeword.specs.Claims.{Shows}
+use Rattle.codeword.specs.Claims.{RepairShows}
 use Rattle.codeword.specs.CodeWord.{Octets}
 use Rattle.adaptation.specs.Receiving.{RepairLent, lending, Receives, handedUnit}
 use Rattle.adaptation.specs.declared.Badge.{Badge}
@@ -73,7 +73,7 @@ module _ (R : Receiver) (keeps : Keeps R) where
 
   -- what a word that is handed up shows of the code word within reach
   shows : {P : (word found : List ℕ) → (after : RepairLent) → Judgement → Type 0} (m : Somewhere R P)
-      → Shows (m .word) (m .found) (m .lent) (m .told .changed) (R .leaves (m .width) (m .e) (m .word) (m .lent))
+      → RepairShows (m .word) (m .found) (m .lent) (m .told .changed) (R .leaves (m .width) (m .e) (m .word) (m .lent))
   shows m =
       demand3 .repairs (m .width) (m .e) (m .word) (m .lent) (R .leaves (m .width) (m .e) (m .word) (m .lent)) (m .told)
       (subst (λ r. Receives (m .width) (m .e) (m .word) (m .lent) r (R .leaves (m .width) (m .e) (m .word) (m .lent))) (m .answers)

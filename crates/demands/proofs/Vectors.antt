@@ -36,7 +36,7 @@ use Rattle.adaptation.specs.Check as check
 use Rattle.adaptation.specs.Check.{plain, preset, checkBits, checkOf, agrees, none, eight, sixteen}
 use Rattle.adaptation.specs.Width.{widthOf, kindAt}
 use Rattle.adaptation.specs.AL1M.{isSetting, isSendable, sentLength}
-use Rattle.adaptation.specs.Receiving.{RepairLent, hasRoom, isWord, receiveTests, isBare, badgeOf, isCorrected, unitLength, Receives}
+use Rattle.adaptation.specs.Receiving.{RepairLent, hasRepairRoom, isWord, receiveTests, isBare, badgeOf, isCorrected, unitLength, Receives}
 use Rattle.adaptation.specs.declared.Badge.{Badge}
 use Rattle.adaptation.specs.declared.Badge.the-variants.{Clean, Corrected, OutOfReach, CheckFailed}
 use Rattle.adaptation.specs.declared.al1m.Received.the-variants as al1m
@@ -56,11 +56,11 @@ use Rattle.demands.proofs.Generating.{coefficient, ofList, rooted-worke
 module _ (n e : ℕ) (w : List ℕ) (setting : isSetting n e ≡ true) (isOne : isWord (length w) n e ≡ true) (short : leb (length w) longestWord ≡ true)
     (long : ltb (2 * e) (length w) ≡ true) where
   module _ (before : RepairLent) (room : length w ≤ length (before .repair)) (list : e ≤ length (before .places)) where
-    enough : hasRoom (length w) e before ≡ true
+    enough : hasRepairRoom (length w) e before ≡ true
     enough = rw (le-leb (length w) (length (before .repair)) room, le-leb e (length (before .places)) list)
 
     allowed : refusal (receiveTests (length w) n e before) ≡ told tt
-    allowed = refused-not (isSetting n e) (isWord (length w) n e) (not (hasRoom (length w) e before)) setting isOne (ap not enough)
+    allowed = refused-not (isSetting n e) (isWord (length w) n e) (not (hasRepairRoom (length w) e before)) setting isOne (ap not enough)
 
     fits : reads (length w) e before ≡ true
     fits = rw (short, long) enough

@@ -9,7 +9,8 @@
 --   2  `Demand2` in the specs/Demand.antt of `runs`: both ends fresh, the same table changes and openings at the same points, both sending and
 --      receiving, each payload given once, in order, with enough room: no payload is refused, and each end delivers on each channel
 --      exactly the units wholly sent at the other, in order. `UnitToUnit` in its specs/Carried.antt: from the unit handed in to the unit handed up
---   3  specs/Repairs.antt, `Demand3`: a repaired word is found exactly when a code word lies within e octets, never a second one
+--   3  specs/Repairs.antt, `Demand3`: a repaired word is found exactly when a code word lies within e octets, never a second one, and the places of
+--      what was repaired are told (document 02, ticket 2)
 --   1 and 3 of what the C host calls: specs/Host.antt, `Host`
 -- and of the call record (document 02, ticket 1): `Recording` in the specs/Claims.antt of `record`, with its form in specs/Form.antt there.
 --

@@ -15,8 +15,9 @@ use mathlib.Core.Bool.{Bool, true, false, cond, _&&_}
 use mathlib.Core.List.{List}
 use Prim.Native.Nat.{ℕ, zero, suc, _-_, _*_, _≤_}
 use lib.IntN.{ℤ, pos}
-use lib.ListN.{length, take, drop}
+use lib.ListN.{length, take}
 use Rattle.codeword.specs.Changed.{changedPlaces}
+use Rattle.codeword.specs.Claims.{RepairShows}
 use Rattle.codeword.specs.CodeWord.{distance, Within}
 use Rattle.adaptation.specs.Check.{agrees}
 use Rattle.adaptation.specs.Width.{kindAt}
@@ -33,14 +34,10 @@ foundBadge x (suc d) true = 1
 -- a check of b bits and e repairs, the word w, what was lent for the repair before and after, and the answer
 module _ (b e : ℕ) (w : List ℕ) (before after : RepairLent) (r : ℤ) where
   pub record FoundTold (c : List ℕ) : Type 0 where
-    -- it stands in the repair buffer, and nothing behind it has changed
-    pub front : take (length w) (after .repair) ≡ c
-    pub rest : drop (length w) (after .repair) ≡ drop (length w) (before .repair)
-    -- kyte_changed entries of the list are the places at which it differs, and none behind them has changed
-    pub places : take (toldChanged r) (after .places) ≡ changedPlaces w c
-    pub others : drop (toldChanged r) (after .places) ≡ drop (toldChanged r) (before .places)
-    -- kyte_changed, kyte_badge and kyte_trusted
-    pub changed : toldChanged r ≡ distance w c
+    -- it stands in the repair buffer, the places at which it differs stand in the list, kyte_changed is their number, and nothing behind them has
+    -- changed
+    pub shown : RepairShows w c before (toldChanged r) after
+    -- kyte_badge and kyte_trusted
     pub badge : toldBadge r ≡ pos (foundBadge (isBare (kindAt b) e) (distance w c) (agrees (kindAt b) (take (length w - 2 * e) c)))
     pub trusted : isTrusted r b ≡ (isChecked b && agrees (kindAt b) (take (length w - 2 * e) c))
     -- kyte_unit, where its check agrees, or there is none

@@ -14,7 +14,7 @@ use mathlib.Core.Bool.{false}
 use mathlib.Core.List.{List}
 use Prim.Native.Nat.{ℕ}
 use lib.ListN.{take}
-use Rattle.codeword.specs.Claims.{PlacesExactly, PlacesCounted, Shows}
+use Rattle.codeword.specs.Claims.{PlacesExactly, PlacesCounted, RepairShows}
 use Rattle.codeword.specs.CodeWord.{Within}
 use Rattle.adaptation.specs.Receiving.{RepairLent, Receives, handedUnit}
 use Rattle.adaptation.specs.Claims.{isFaulty, Faultless, Earns, SentIsHandedUp}
@@ -29,7 +29,7 @@ module _ (b e : ℕ) (w : List ℕ) (before after : RepairLent) (j : Judgement) 
     -- a repaired word is found exactly when some code word of that length differs from it in at most e octets
     pub found : (j .badge ≡ OutOfReach → ⊥) ↔ ((c : List ℕ) × Within e w c)
     -- .. it stands in the repair buffer, the places at which it differs stand in the list, and the count is their number
-    pub repaired : (c : List ℕ) → Within e w c → Shows w c before (j .changed) after
+    pub repaired : (c : List ℕ) → Within e w c → RepairShows w c before (j .changed) after
     -- never a second one
     pub once : (c d : List ℕ) → Within e w c → Within e w d → c ≡ d
     -- each badge is given exactly for what document 01 says

@@ -1,4 +1,4 @@
--- The small set of document 01, as one table. All octets are in hex.
+-- The small set of document 01, as one table, with the changed places (document 02, ticket 2). All octets are in hex.
 --
 --   Vector       one line of it
 --   ReceivedAs   what receiving a word comes to, whatever is lent for the repair, if it is enough

@@ -45,11 +45,9 @@ fn put_marks(out: &mut [u8; BUFFER], from: usize, places: &[u8]) -> usize {
 // Writes the received word, the repaired one and the marks.
 fn write(received: &[u8], repaired: &[u8], places: &[u8]) {
     let mut out = [0u8; BUFFER];
-    let mut n = print::put(
-        &mut out,
-        0,
-        b"A damaged unit of channel 1: the octets at places ",
-    );
+    let mut n = print::put(&mut out, 0, b"A damaged unit of channel ");
+    n = print::number(&mut out, n, CHANNEL as u64, 0);
+    n = print::put(&mut out, n, b": the octets at places ");
     n = print::list(&mut out, n, places);
     n = print::put(&mut out, n, b", counted from 0, were repaired.\n\n");
     n = put_octets(&mut out, n, b"  received", received);

@@ -22,7 +22,7 @@ use Rattle.adaptation.specs.Check.{checkOf, none, eight, sixteen}
 use Rattle.adaptation.specs.Width.{widthOf, kindAt}
 use Rattle.adaptation.specs.AL1M.{al1mTests, lengthTests, isSetting, isSendable, sentOctets, sentLength}
 use Rattle.adaptation.specs.Sending.{encodeTests, Sends}
-use Rattle.adaptation.specs.Receiving.{RepairLent, hasRoom, isWord, receiveTests, isCorrected, Receives}
+use Rattle.adaptation.specs.Receiving.{RepairLent, hasRepairRoom, isWord, receiveTests, isCorrected, Receives}
 use Rattle.adaptation.specs.declared.Badge.{Badge}
 use Rattle.adaptation.specs.declared.Badge.the-variants.{Clean, Corrected, OutOfReach, CheckFailed, Unchecked}
 use Rattle.adaptation.specs.declared.al1m.Judgement.{Judgement}
@@ -140,7 +140,7 @@ module _ (b e : ℕ) (w : List ℕ) (before after : RepairLent) where
 
 pub receiveAnswered : ReceiveAnswered
 receiveAnswered b e w before after r a =
-    let is = answered _ (positive (isSetting b e) (isWord (length w) b e) (not (hasRoom (length w) e before))) before after r
+    let is = answered _ (positive (isSetting b e) (isWord (length w) b e) (not (hasRepairRoom (length w) e before))) before after r
     (receiveSays (a .outcome)) (a .number ∙ receive-answer (a .outcome)) (receives-refuses b e w before after (a .outcome) (a .received)) in
     (is, λ h. handed-parts b e w before after (not-below _ before after r is h) r (a .outcome) (a .received) (a .number))
 

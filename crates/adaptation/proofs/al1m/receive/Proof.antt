@@ -9,7 +9,7 @@ use borrow.Author.Tests.{le-leb}
 use mathlib.Core.Logic.{_↔_, _⊎_, inl, inr}
 use mathlib.Core.Bool.{Bool, true, not}
 use Rattle.octets.specs.Exact.{either-over}
-use Rattle.codeword.specs.Repair.{RepairLent, lending, hasRoom}
+use Rattle.codeword.specs.Repair.{RepairLent, lending, hasRepairRoom}
 use Rattle.adaptation.proofs.Sendable.{octets-most}
 use Rattle.adaptation.proofs.Settings.{setting-unknown, setting-known, kind-asked, word-long, word-short, word-true}
 use Rattle.adaptation.proofs.Refusals.{refused-setting, refused-length, refused-room, refused-not}
@@ -44,7 +44,7 @@ module _ (c : tie.After-octets-of) where
   lent = lending (now (from .args .repair)) (now (from .args .places))
 
   abbrev room : Bool
-  room = hasRoom (length (now (from .args .received))) (from .args .e) lent
+  room = hasRepairRoom (length (now (from .args .received))) (from .args .e) lent
 
   lacks : not room ≡ true ↔ ((length (now (from .args .repair)) < length (now (from .args .received))) ⊎ (length (now (from .args .places)) < from .args .e))
   lacks = either-over (length (now (from .args .received))) (length (now (from .args .repair))) (from .args .e) (length (now (from .args .places)))
@@ -59,7 +59,7 @@ returns c =
     let n = length (now (a .received)) in
     let unknown = setting-unknown _ _ (sym (c .before .before .setting-of .ensures) ∙ c .enum-told .given .1) in
     record {
-      first = refused-setting _ (isWord n (a .width) (a .e)) (not (hasRoom n (a .e) (lending (now (a .repair)) (now (a .places))))) unknown;
+      first = refused-setting _ (isWord n (a .width) (a .e)) (not (hasRepairRoom n (a .e) (lending (now (a .repair)) (now (a .places))))) unknown;
       same = refl;
     }
 
@@ -68,7 +68,7 @@ returns-2 c =
     let w = c .before .before in
     let a = w .before .before .before .before .before .before .args in
     record {
-      first = refused-length _ _ (not (hasRoom (length (now (a .received))) (a .e) (lending (now (a .repair)) (now (a .places))))) (known w .0)
+      first = refused-length _ _ (not (hasRepairRoom (length (now (a .received))) (a .e) (lending (now (a .repair)) (now (a .places))))) (known w .0)
           (word-long _ _ _ (c .if1 .taken));
       same = refl;
     }
