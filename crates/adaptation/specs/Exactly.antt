@@ -1,7 +1,7 @@
--- What document 01, and ticket 2 of document 02, say of the adaptation layers with "exactly when", where a definition changed together with its code would get past
--- every other claim: the table of refusals, number by number, each where the tests before it do not hold; when a check agrees and when
--- there is none; what becomes of a unit of AL2 whose check disagrees; and what AL1M's sending leaves. The settings and lengths themselves
--- are said in specs/Limits.antt, and the numbers in their order in crate `demands`.
+-- What document 01, and ticket 2 of document 02, say of the adaptation layers with "exactly when", where a definition changed together with
+-- its code would get past every other claim: the table of refusals, number by number, each where the tests before it do not hold; what is never
+-- too small; when a check agrees and when there is none; what becomes of a unit of AL2 whose check disagrees; and what AL1M's sending leaves.
+-- The settings and lengths themselves are said in specs/Limits.antt, and the numbers in their order in crate `demands`.
 --
 --   OfAL1M t n b e k lent    refusals 1, 2 and 3 of AL1M, with a check of b bits and e repairs: of the length question for t octets, of t
 --                            octets sent into k lent ones, and of n octets received, with octets and a list lent for the repair

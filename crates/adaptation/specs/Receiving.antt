@@ -1,6 +1,7 @@
 -- AL1M's receiving (document 01, "AL1M units"; document 02, ticket 2; 003, D.4.1.9).
 --
---   RepairLent, lending, hasRepairRoom     what is lent for a repair, octets and a list, and whether it has the room: passed on from the code word's
+--   RepairLent, lending, hasRepairRoom   what is lent for a repair, octets and a list, and whether it has the room: passed on from the code
+--                                    word's
 --   isWord n b e                     n octets may be a sent unit with a check of b bits and e repairs
 --   receiveTests n b e lent          what refuses to receive n octets, with octets and a list lent for the repair, in this order
 --   isBare κ e                       there is neither a check nor a code

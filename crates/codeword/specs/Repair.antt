@@ -2,7 +2,7 @@
 --
 --   RepairLent                     what is lent for a repair: octets for the repaired word, and a list for the changed places
 --   lending o l                    the octets o and the list l, lent: for the proofs, since each promise writes the record out
---   hasRepairRoom n e lent               they have room for a word of n octets and for e places
+--   hasRepairRoom n e lent         they have room for a word of n octets and for e places
 --   reads n e lent                 a word of n octets is one of the code, and they have room for it and for e places
 --   filled lent c l                c is written at the front of the lent octets, and l at the front of the lent list; the rest stays
 --   FoundIs e w before k after     found, with k octets changed: a code word of that length within e octets of w is written at the front, and
