@@ -21,10 +21,18 @@ enum { ENCODE, CLEAN, WRONG, UNREACHED, CASES };
 
 static const char *const names[CASES] = { "encode", "receive, clean", "receive, e wrong", "receive, out of reach" };
 
+/* What a product costs was counted on x86-64 by valgrind's callgrind: the instructions of a syndrome for each octet of the word. */
+#define ALONE \
+    "A product by shifting and adding takes some 75 instructions alone, and some 7 where 16 are worked out side by side, as those of the " \
+    "syndromes are from e = 8 on."
+
 /* Why the library takes longer in a case, as far as it is known. */
 static const char *const reasons[CASES] = {
-    [ENCODE] = "The library keeps no state, so each call makes the generator polynomial of 2e + 1 coefficients anew; libfec has it from "
-               "init_rs_char. The fewer message octets there are, the more of the time that is.",
+    [ENCODE] = "The library keeps no state, so each call makes the generator polynomial of 2e + 1 coefficients anew, with an inverse of 13 "
+               "products for each; libfec has it from init_rs_char. The fewer message octets there are, the more of the time that is.",
+    [CLEAN] = ALONE,
+    [WRONG] = ALONE " Those of the search wait for each other, and each of its places asks for a power of its own.",
+    [UNREACHED] = ALONE " Those of the search wait for each other, and each of its places asks for a power of its own.",
 };
 
 /* A code, libfec's tables for it, and words to be timed by turns; `out` is where both write, and each has a list of places. */

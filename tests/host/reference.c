@@ -6,30 +6,16 @@
 
 static uint8_t product[256][256], inverse[256], alpha[255];
 
-static uint8_t shift_and_add(unsigned a, unsigned b)
-{
-    unsigned p = 0;
-    for (; b; b >>= 1) {
-        if (b & 1)
-            p ^= a;
-        a <<= 1;
-        if (a & 256)
-            a ^= 0x11D;
-    }
-    return (uint8_t)p;
-}
-
+/* By way of the powers of alpha, whose exponents add: the library shifts and adds. */
 void ref_init(void)
 {
-    for (int a = 0; a < 256; a++)
-        for (int b = 0; b < 256; b++) {
-            product[a][b] = shift_and_add((unsigned)a, (unsigned)b);
-            if (product[a][b] == 1)
-                inverse[a] = (uint8_t)b;
-        }
-    alpha[0] = 1;
-    for (int i = 1; i < 255; i++)
-        alpha[i] = product[alpha[i - 1]][2];
+    for (int i = 0, x = 1; i < 255; i++, x = x < 128 ? 2 * x : (2 * x) ^ 0x11D)
+        alpha[i] = (uint8_t)x;
+    for (int i = 0; i < 255; i++) {
+        for (int j = 0; j < 255; j++)
+            product[alpha[i]][alpha[j]] = alpha[(i + j) % 255];
+        inverse[alpha[i]] = alpha[(255 - i) % 255];
+    }
 }
 
 /* ---- polynomials: coefficient i at place i */

@@ -1,6 +1,6 @@
 /*
- * AL1M (document 01, "AL1M units") once more, written from the documents and not from the library: in C, the field by shifts, the
- * checks bit by bit, the repair by Euclid's algorithm. What it finds it tests: a repaired word is a code word, by all its syndromes,
+ * AL1M (document 01, "AL1M units") once more, written from the documents and not from the library: in C, the field by sums of exponents,
+ * the checks bit by bit, the repair by Euclid's algorithm. What it finds it tests: a repaired word is a code word, by all its syndromes,
  * and differs in at most e octets.
  */
 #ifndef REFERENCE_H

@@ -1,7 +1,7 @@
 #!/usr/bin/env python3
 """A second gateway, written from document 01 and from nothing else: gateway.py FILE answers FILE's calls.
 
-It shares no code and no method with the crates. Products are made by shifts, the checks go bit by bit, the repair is Sugiyama's
+It shares no code and no method with the crates. Products go by sums of exponents, the checks go bit by bit, the repair is Sugiyama's
 (Euclid's algorithm on x^2e and the syndromes) and a candidate counts only if it is a code word within e; an entry is a tree, its
 expansion a generator, and a channel's octets are lists of their own.
 """
@@ -27,30 +27,18 @@ def refuse_if(test, number):
 
 # The field, by x^8 + x^4 + x^3 + x^2 + 1
 
+ALPHA = [1]
+while len(ALPHA) < 255:
+    ALPHA.append(2 * ALPHA[-1] if ALPHA[-1] < 0x80 else 2 * ALPHA[-1] ^ 0x11D)
+EXPONENT = {a: i for i, a in enumerate(ALPHA)}
+
+
 def product(a, b):
-    r = 0
-    while b:
-        if b & 1:
-            r ^= a
-        a <<= 1
-        if a & 0x100:
-            a ^= 0x11D
-        b >>= 1
-    return r
-
-
-def power(a, n):
-    r = 1
-    for _ in range(n):
-        r = product(r, a)
-    return r
+    return ALPHA[(EXPONENT[a] + EXPONENT[b]) % 255] if a and b else 0
 
 
 def inverse(a):
-    return power(a, 254)
-
-
-ALPHA = [power(2, i) for i in range(255)]
+    return ALPHA[-EXPONENT[a] % 255] if a else 0
 
 
 # Polynomials, lowest coefficient first

@@ -16,7 +16,7 @@ use lib.ListN.{length, getD, set, length-set}
 use lib.Seq.{getD-set-same, getD-set-other}
 use Rattle.algebra.specs.Field.{Field}
 use Rattle.algebra.specs.Value.{ev, from}
-use Rattle.algebra.proofs.Laws.{⊕-comm, ⊙-comm, ev-zero, from-zero, horner, lists-none}
+use Rattle.algebra.proofs.Laws.{⊕-comm, ev-zero, from-zero, horner, lists-none}
 use Rattle.field.specs.Octet as Octet
 use Rattle.codeword.specs.Element.{elements, element, octet}
 use Rattle.codeword.specs.Element.Laws.{octet-element, octet-same, octet-nil, element-sum, element-product, element-zero}
@@ -40,13 +40,13 @@ pub record HornerFrom (c : List ℕ) (n x i v : ℕ) : Type 0 where
 pub horner-start : {c : List ℕ} {n x : ℕ} → HornerFrom c n x n 0
 horner-start {c} {n} {x} = let e : n - n ≡ 0 = omega arith in record { small = lit< tt; is = element-zero ∙ (rw (e, ev-zero)) }
 
-pub horner-next : {c : List ℕ} {n x i u v : ℕ} → i < n → v < Octet.size → v ≡ Octet.sum (Octet.product u x) (getD c i 0)
+pub horner-next : {c : List ℕ} {n x i u v : ℕ} → i < n → v < Octet.size → v ≡ Octet.sum (Octet.product x u) (getD c i 0)
     → HornerFrom c n x (i + 1) u → HornerFrom c n x i v
 horner-next {c} {n} {x} {i} {u} {v} l small e h = record {
   small = small;
   is = ap element e ∙ element-sum _ _
-      ∙ ap₂ (λ (y z : F). y ⊕ z) (element-product u x ∙ ap (λ (y : F). y ⊙ element x) (rw (add-one i) at (h .is))) (sym (places-at c i))
-      ∙ sym (horner elements n i (places c) (element x) l ∙ ⊕-comm elements _ _ ∙ ap (λ (y : F). y ⊕ places c i) (⊙-comm elements _ _));
+      ∙ ap₂ (λ (y z : F). y ⊕ z) (element-product x u ∙ ap (λ (y : F). element x ⊙ y) (rw (add-one i) at (h .is))) (sym (places-at c i))
+      ∙ sym (horner elements n i (places c) (element x) l ∙ ⊕-comm elements _ _);
 }
 
 pub horner-done : {c : List ℕ} {n x v : ℕ} → HornerFrom c n x 0 v → v ≡ valueOf c n x

@@ -5,8 +5,6 @@ mod search;
 mod syndromes;
 mod values;
 
-use field::TABLES;
-ghost use Rattle.field.specs.Octet.Table.{Tables};
 ghost use Rattle.codeword.specs.Encoding.{Encoded};
 ghost use Rattle.codeword.specs.Syndromes.{Decodable};
 ghost use Rattle.codeword.specs.Repair.{Repaired};
@@ -39,8 +37,7 @@ pub fn encode(message: &[u8], e: usize, sent: &mut [u8]) -> usize
     if sent.len() < k + m {
         return 0;
     }
-    let t = field::tables();
-    let p = encoding::parity(message, m, &t);
+    let p = encoding::parity(message, m);
     octets::write(sent, 0, message);
     octets::write(sent, k, &p[..m]);
     k + m
@@ -53,30 +50,28 @@ fn decode(
     e: usize,
     repaired: &mut [u8],
     places: &mut [u8],
-    t: &[u8; TABLES],
 ) -> Reach
     requires { ⌜ Decodable e (now received) (record { repair = now repaired; places = now places }) (now s) ⌝ }
-    requires { ⌜ Tables (now t) ⌝ }
     ensures { λ r. ⌜ Repaired e (now (received .entry)) (record { repair = now (repaired .entry); places = now (places .entry) }) r
         (record { repair = now (repaired .exit); places = now (places .exit) }) ⌝ }
 {
     let n = received.len();
-    let recurrence = locator::locator(s, 2 * e, t);
+    let recurrence = locator::locator(s, 2 * e);
     let l = recurrence.degree;
     if e < l {
         return Reach::OutOfReach;
     }
     let c = recurrence.coefficients;
-    let roots = search::search(&c, l, n, t);
+    let roots = search::search(&c, l, n);
     let count = roots.count;
     if count != l {
         return Reach::OutOfReach;
     }
     let at = roots.at;
-    let o = values::evaluator(&c, s, l, t);
+    let o = values::evaluator(&c, s, l);
     let d = values::derivative(&c, l);
     octets::write(repaired, 0, received);
-    values::correct(repaired, n, &at, l, &o, &d, t);
+    values::correct(repaired, n, &at, l, &o, &d);
     octets::write(places, 0, &at[..l]);
     Reach::Found(l)
 }
@@ -104,11 +99,10 @@ pub fn repair(received: &[u8], e: usize, repaired: &mut [u8], places: &mut [u8])
     if places.len() < e {
         return Reach::OutOfReach;
     }
-    let t = field::tables();
-    let s = syndromes::syndromes(received, 2 * e, &t);
+    let s = syndromes::syndromes(received, 2 * e);
     if syndromes::clean(&s, 2 * e) {
         octets::write(repaired, 0, received);
         return Reach::Found(0);
     }
-    decode(received, &s, e, repaired, places, &t)
+    decode(received, &s, e, repaired, places)
 }

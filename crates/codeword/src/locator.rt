@@ -1,9 +1,7 @@
 // Find the error locator: the algorithm of Berlekamp and Massey, for the shortest recurrence that the syndromes obey.
 use crate::LONGEST_WORD;
-use field::TABLES;
 ghost use mathlib.Core.Path.{_≡_};
 ghost use Prim.Native.Nat.{_+_, _<_, _≤_};
-ghost use Rattle.field.specs.Octet.Table.{Tables};
 ghost use Rattle.codeword.specs.CodeWord.{longestWord};
 ghost use Rattle.codeword.specs.Locator.{MasseyStateIs, Mended, LocatorIs, discrepancyOf};
 
@@ -22,43 +20,28 @@ pub struct Recurrence {
 }
 
 // c[0] s[r] + c[1] s[r - 1] + .. + c[l] s[r - l]: what the recurrence c of length l fails by at r.
-pub(crate) fn discrepancy(
-    c: &[u8; LONGEST_WORD],
-    s: &[u8; LONGEST_WORD],
-    r: usize,
-    l: usize,
-    t: &[u8; TABLES],
-) -> u8
+pub(crate) fn discrepancy(c: &[u8; LONGEST_WORD], s: &[u8; LONGEST_WORD], r: usize, l: usize) -> u8
     requires { ⌜ (l ≤ r) × (r < longestWord) ⌝ }
-    requires { ⌜ Tables (now t) ⌝ }
     ensures { λ d. ⌜ d ≡ discrepancyOf (now (c .entry)) (now (s .entry)) r l ⌝ }
 {
     let mut d: u8 = 0;
     let mut j = 0;
     while j <= l {
-        d = field::sum(d, field::product_by(c[j], s[r - j], t));
+        d = field::sum(d, field::product(c[j], s[r - j]));
         j += 1;
     }
     d
 }
 
 // Adds q x^shift b to c, as far as the coefficients below top go.
-fn mend(
-    c: &mut [u8; LONGEST_WORD],
-    b: &[u8; LONGEST_WORD],
-    q: u8,
-    shift: usize,
-    top: usize,
-    t: &[u8; TABLES],
-)
+fn mend(c: &mut [u8; LONGEST_WORD], b: &[u8; LONGEST_WORD], q: u8, shift: usize, top: usize)
     requires { ⌜ (shift ≤ top) × (top ≤ longestWord) ⌝ }
-    requires { ⌜ Tables (now t) ⌝ }
     ensures { λ _. ⌜ Mended top q shift (now (c .entry)) (now (b .entry)) (now (c .exit)) ⌝ }
 {
     let c = &mut c[..];
     let mut j = shift;
     while j < top {
-        c[j] = field::sum(c[j], field::product_by(q, b[j - shift], t));
+        c[j] = field::sum(c[j], field::product(q, b[j - shift]));
         j += 1;
     }
 }
@@ -71,16 +54,14 @@ fn step(
     r: usize,
     top: usize,
     g: Progress,
-    t: &[u8; TABLES],
 ) -> Progress
     requires { ⌜ (r + 1 < top) × (top ≤ longestWord) × MasseyStateIs (now s) (now c) (now b) r (g .long) (g .shift) (g .failed) ⌝ }
-    requires { ⌜ Tables (now t) ⌝ }
     ensures { λ o. ⌜ MasseyStateIs (now (s .entry)) (now (c .exit)) (now (b .exit)) (r + 1) (o .long) (o .shift) (o .failed) ⌝ }
 {
     let l = g.long;
     let shift = g.shift;
     let failed = g.failed;
-    let d = discrepancy(c, s, r, l, t);
+    let d = discrepancy(c, s, r, l);
     if d == 0 {
         return Progress {
             long: l,
@@ -88,10 +69,10 @@ fn step(
             failed,
         };
     }
-    let q = field::product_by(d, field::inverse_by(failed, t), t);
+    let q = field::product(d, field::inverse(failed));
     if l + l <= r {
         let old = *c;
-        mend(c, b, q, shift, top, t);
+        mend(c, b, q, shift, top);
         *b = old;
         return Progress {
             long: r + 1 - l,
@@ -99,7 +80,7 @@ fn step(
             failed: d,
         };
     }
-    mend(c, b, q, shift, top, t);
+    mend(c, b, q, shift, top);
     Progress {
         long: l,
         shift: shift + 1,
@@ -108,9 +89,8 @@ fn step(
 }
 
 // The shortest recurrence for the first m syndromes.
-pub(crate) fn locator(s: &[u8; LONGEST_WORD], m: usize, t: &[u8; TABLES]) -> Recurrence
+pub(crate) fn locator(s: &[u8; LONGEST_WORD], m: usize) -> Recurrence
     requires { ⌜ m < longestWord ⌝ }
-    requires { ⌜ Tables (now t) ⌝ }
     ensures { λ r. ⌜ LocatorIs m (now (s .entry)) (r .coefficients) (r .degree) ⌝ }
 {
     let mut c = [0u8; LONGEST_WORD];
@@ -124,7 +104,7 @@ pub(crate) fn locator(s: &[u8; LONGEST_WORD], m: usize, t: &[u8; TABLES]) -> Rec
     };
     let mut r = 0;
     while r < m {
-        g = step(s, &mut c, &mut b, r, m + 1, g, t);
+        g = step(s, &mut c, &mut b, r, m + 1, g);
         r += 1;
     }
     let degree = g.long;

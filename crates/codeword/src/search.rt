@@ -1,10 +1,8 @@
 // Search for the roots of the error locator among the inverses of the places' locators.
 use crate::LONGEST_WORD;
 use field::ORDER;
-use field::TABLES;
 ghost use mathlib.Core.Path.{_≡_};
 ghost use Prim.Native.Nat.{_<_, _≤_};
-ghost use Rattle.field.specs.Octet.Table.{Tables};
 ghost use Rattle.codeword.specs.CodeWord.{longestWord};
 ghost use Rattle.codeword.specs.Element.{octet};
 ghost use Rattle.codeword.specs.Places.{inverses};
@@ -17,40 +15,37 @@ pub struct Places {
 }
 
 // c[0] + c[1] x + .. + c[n - 1] x^(n - 1), by Horner's rule.
-pub(crate) fn horner(c: &[u8; LONGEST_WORD], n: usize, x: u8, t: &[u8; TABLES]) -> u8
+pub(crate) fn horner(c: &[u8; LONGEST_WORD], n: usize, x: u8) -> u8
     requires { ⌜ n ≤ longestWord ⌝ }
-    requires { ⌜ Tables (now t) ⌝ }
     ensures { λ r. ⌜ r ≡ valueOf (now (c .entry)) n x ⌝ }
 {
     let mut v: u8 = 0;
     let mut i = n;
     while 0 < i {
         i -= 1;
-        v = field::sum(field::product_by(v, x, t), c[i]);
+        v = field::sum(field::product(x, v), c[i]);
     }
     v
 }
 
 // The inverse of the locator of place p of n.
-pub(crate) fn inverse_locator(n: usize, p: usize, t: &[u8; TABLES]) -> u8
+pub(crate) fn inverse_locator(n: usize, p: usize) -> u8
     requires { ⌜ (p < n) × (n ≤ longestWord) ⌝ }
-    requires { ⌜ Tables (now t) ⌝ }
     ensures { λ r. ⌜ r ≡ octet (inverses n p) ⌝ }
 {
-    field::power_by(ORDER - (n - 1 - p), t)
+    field::power(ORDER - (n - 1 - p))
 }
 
 // All places of n at the inverse of whose locator the polynomial c, of degree at most l, is zero.
-pub(crate) fn search(c: &[u8; LONGEST_WORD], l: usize, n: usize, t: &[u8; TABLES]) -> Places
+pub(crate) fn search(c: &[u8; LONGEST_WORD], l: usize, n: usize) -> Places
     requires { ⌜ (l < longestWord) × (n ≤ longestWord) ⌝ }
-    requires { ⌜ Tables (now t) ⌝ }
     ensures { λ r. ⌜ SearchIs n n l (now (c .entry)) (r .at) (r .count) ⌝ }
 {
     let mut at = [0u8; LONGEST_WORD];
     let mut count = 0;
     let mut p = 0;
     while p < n {
-        if horner(c, l + 1, inverse_locator(n, p, t), t) == 0 {
+        if horner(c, l + 1, inverse_locator(n, p)) == 0 {
             at[count] = p as u8;
             count += 1;
         }

@@ -2,11 +2,9 @@
 use crate::LONGEST_WORD;
 use crate::locator;
 use crate::search;
-use field::TABLES;
 ghost use mathlib.Core.Path.{_≡_};
 ghost use Prim.Native.Nat.{ℕ, _+_, _<_, _≤_};
 ghost use lib.ListN.{length, getD};
-ghost use Rattle.field.specs.Octet.Table.{Tables};
 ghost use Rattle.codeword.specs.CodeWord.{longestWord};
 ghost use Rattle.codeword.specs.Values.{EvaluatorIs, DerivativeIs, errorOf, Corrected};
 
@@ -15,16 +13,14 @@ pub(crate) fn evaluator(
     c: &[u8; LONGEST_WORD],
     s: &[u8; LONGEST_WORD],
     l: usize,
-    t: &[u8; TABLES],
 ) -> [u8; LONGEST_WORD]
     requires { ⌜ l < longestWord ⌝ }
-    requires { ⌜ Tables (now t) ⌝ }
     ensures { λ r. ⌜ EvaluatorIs l (now (c .entry)) (now (s .entry)) r ⌝ }
 {
     let mut o = [0u8; LONGEST_WORD];
     let mut k = 0;
     while k < l {
-        o[k] = locator::discrepancy(c, s, k, k, t);
+        o[k] = locator::discrepancy(c, s, k, k);
         k += 1;
     }
     o
@@ -45,16 +41,11 @@ pub(crate) fn derivative(c: &[u8; LONGEST_WORD], l: usize) -> [u8; LONGEST_WORD]
 }
 
 // The error value at the point x: the evaluator's value over the derivative's.
-fn error(o: &[u8; LONGEST_WORD], d: &[u8; LONGEST_WORD], l: usize, x: u8, t: &[u8; TABLES]) -> u8
+fn error(o: &[u8; LONGEST_WORD], d: &[u8; LONGEST_WORD], l: usize, x: u8) -> u8
     requires { ⌜ l ≤ longestWord ⌝ }
-    requires { ⌜ Tables (now t) ⌝ }
     ensures { λ r. ⌜ r ≡ errorOf (now (o .entry)) (now (d .entry)) l x ⌝ }
 {
-    field::product_by(
-        search::horner(o, l, x, t),
-        field::inverse_by(search::horner(d, l, x, t), t),
-        t,
-    )
+    field::product(search::horner(o, l, x), field::inverse(search::horner(d, l, x)))
 }
 
 // Adds the error value to the word of n octets at each of the l places.
@@ -65,18 +56,16 @@ pub(crate) fn correct(
     l: usize,
     o: &[u8; LONGEST_WORD],
     d: &[u8; LONGEST_WORD],
-    t: &[u8; TABLES],
 )
     requires { ⌜ (n ≤ longestWord) × (n ≤ length (now w)) × (l ≤ longestWord) ⌝ }
     requires { ⌜ ((j : ℕ) → j < l → getD (now at) j 0 < n) ⌝ }
     requires { ⌜ ((i j : ℕ) → i < j → j < l → getD (now at) i 0 < getD (now at) j 0) ⌝ }
-    requires { ⌜ Tables (now t) ⌝ }
     ensures { λ _. ⌜ Corrected n l l (now (at .entry)) (now (o .entry)) (now (d .entry)) (now (w .entry)) (now (w .exit)) ⌝ }
 {
     let mut j = 0;
     while j < l {
         let p = at[j] as usize;
-        let y = error(o, d, l, search::inverse_locator(n, p, t), t);
+        let y = error(o, d, l, search::inverse_locator(n, p));
         w[p] = field::sum(w[p], y);
         j += 1;
     }

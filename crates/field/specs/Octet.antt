@@ -13,7 +13,8 @@
 --   inverse a     the octet whose product with a is 1, and 0 for 0: a to the order less 1, since a to the order is 1 for each a but 0
 --
 -- The definitions are shut. Only the modules below this one may open them; all others, and every other crate, have `Octet.Laws`, and of
--- `Octet.Table` what the tables are, and a product that can be computed.
+-- `Octet.Table` what the table is, and a product that can be computed. `Octet.Exactly` is a claim: the product in the paper's words.
+-- `Octet.Steps` is for the proofs of this crate's functions alone (`tests/heads`).
 -- Assumes nothing.
 use Prim.Native.Nat.{ℕ, zero, suc, _-_, _*_, _/_, _%_}
 use lib.Bits.{bitXor}
@@ -27,6 +28,8 @@ mod Order
 pub mod Table
 mod Inverse
 pub mod Laws
+pub mod Steps
+pub mod Exactly
 
 abbrev pub size : ℕ
 size = 256

@@ -32,13 +32,13 @@ write-requires-2 : tie.Need-write-requires-2
 write-requires-2 c κs =
     let divided = c .before .before .before .before .before .before in
     let p = divided .parity in
-    rw (length-take-le (2 * divided .before .before .before .before .before .before .before .before .before .args .e) (p .result)
+    rw (length-take-le (2 * divided .before .before .before .before .before .before .before .args .e) (p .result)
     (omega (arith, p .ensures .long))) (search needs)
 
 returns-5 : tie.Need-returns-5
 returns-5 c =
     let divided = c .before .before .before .before .before .before .before .before .before in
-    let a = divided .before .before .before .before .before .before .before .before .before .args in
+    let a = divided .before .before .before .before .before .before .before .args in
     let u = now (a .message) in
     let p = divided .parity in
     let m = 2 * a .e in
@@ -54,5 +54,5 @@ pub encode-spec : {M : Type 1} → statement M
 encode-spec =
     tie.close
     (tie.spec returns returns-2 returns-3 (λ c. search needs) (λ c. search needs) returns-4 (λ c κs. search needs)
-    (λ c κs. search needs) (λ c κs. search needs) (λ c. search needs) slice-aggregate-write write-requires-2 (λ c. search needs)
+    (λ c κs. search needs) (λ c. search needs) slice-aggregate-write write-requires-2 (λ c. search needs)
     (λ c. search needs) returns-5)

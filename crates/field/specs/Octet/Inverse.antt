@@ -1,22 +1,17 @@
 -- Powers of α wrap at its order, and every element but 0 has an inverse.
 --
 --   power-wrap        αᵏ depends on k modulo the order
---   power-less        .. so one turn may be taken off
---   power-order       a to the order is 1
 --   inverse-octet     the inverse is an octet
---   product-inverse   a a⁻¹ = 1
+--   product-inverse   a a⁻¹ = 1, for each a but 0
 --   inverse-zero      what stands for the inverse of 0
---   inverse-power     the inverse of αᵏ
---   product-cancel    a factor that is not 0 cancels
 --
 -- Assumes nothing.
 use mathlib.Core.Path.{_≡_, sym, ap, _∙_}
-use Prim.Native.Nat.{ℕ, zero, suc, _+_, _-_, _*_, _/_, _%_, _≤_, _<_}
+use Prim.Native.Nat.{ℕ, _+_, _-_, _*_, _/_, _%_, _<_}
 use native.Mathlib.Nat.{mul-comm}
 use native.Mathlib.Omega.{arith}
-use Rattle.octets.specs.Tests.{never}
 use Rattle.field.specs.Octet.{product, α, power, inverse, order, size}
-use Rattle.field.specs.Octet.Ring.{product-assoc, product-comm, zero-product, one-product}
+use Rattle.field.specs.Octet.Ring.{zero-product, one-product}
 use Rattle.field.specs.Octet.Power.{power-suc, power-octet, power-add, power-mul, one-power}
 use Rattle.field.specs.Octet.Order.{alpha-around, powers-all}
 
@@ -29,13 +24,8 @@ power-wrap k =
     sym (ap (power α) e ∙ power-add α (order * (k / order)) (k % order)
     ∙ ap (λ (x : ℕ). product x (power α (k % order))) (power-turns (k / order)) ∙ one-product (power α (k % order)) (power-octet α (k % order)))
 
-pub power-less : (k : ℕ) → order ≤ k → power α (k - order) ≡ power α k
-power-less k h =
-    let e : k ≡ order + (k - order) = omega arith in
-    sym (ap (power α) e ∙ power-add α order (k - order) ∙ ap (λ (x : ℕ). product x (power α (k - order))) alpha-around
-    ∙ one-product (power α (k - order)) (power-octet α (k - order)))
-
-pub power-order : (a : ℕ) → 0 < a → a < size → power a order ≡ 1
+-- a to the order is 1
+power-order : (a : ℕ) → 0 < a → a < size → power a order ≡ 1
 power-order a p h =
     let l = powers-all a p h in
     ap (λ (x : ℕ). power x order) (sym (l .2)) ∙ power-mul α (l .0) order ∙ ap (power α) (mul-comm (l .0) order) ∙ power-turns (l .0)
@@ -51,20 +41,3 @@ product-inverse a p h = sym (power-suc a (order - 1)) ∙ power-order a p h
 pub inverse-zero : inverse 0 ≡ 0
 unfolding inverse
 inverse-zero = power-suc 0 253 ∙ zero-product (power 0 253)
-
-pub product-cancel : (a b c : ℕ) → 0 < a → a < size → b < size → c < size → product a b ≡ product a c → b ≡ c
-product-cancel a b c p ha hb hc e = sym (undo b hb) ∙ ap (product (inverse a)) e ∙ undo c hc
-  where
-    undo : (x : ℕ) → x < size → product (inverse a) (product a x) ≡ x
-    undo x hx =
-        sym (product-assoc (inverse a) a x)
-        ∙ ap (λ (y : ℕ). product y x) (product-comm (inverse a) a ∙ product-inverse a p ha) ∙ one-product x hx
-
-pub inverse-power : (k : ℕ) → k ≤ order → power α (order - k) ≡ inverse (power α k)
-inverse-power k h = go (power α k) (power-octet α k) (sym (power-add α k (order - k)) ∙ ap (power α) (omega arith) ∙ alpha-around)
-  where
-    go : (a : ℕ) → a < size → product a (power α (order - k)) ≡ 1 → power α (order - k) ≡ inverse a
-    go zero l e = never (sym (zero-product (power α (order - k))) ∙ e)
-    go (suc a) l e =
-        product-cancel (suc a) (power α (order - k)) (inverse (suc a)) (omega arith) l (power-octet α (order - k)) (inverse-octet (suc a))
-        (e ∙ sym (product-inverse (suc a) (omega arith) l))

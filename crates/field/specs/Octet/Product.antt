@@ -1,5 +1,6 @@
 -- The product is an octet and is additive in each factor.
 --
+--   bit-octet       a bit times an octet is an octet
 --   low-octet       a number's low octet is one
 --   product-octet   an octet
 --   sum-product     (a + b) c = a c + b c
@@ -18,7 +19,7 @@ use Rattle.field.specs.Octet.{sum, double, times, product, size}
 use Rattle.field.specs.Octet.Xor.{bit-lt}
 use Rattle.field.specs.Octet.Sum.{sum-zero, sum-octet, sum-low, sum-half, sum-swap, bit-sum, sum-bit, double-octet, double-sum}
 
-bit-octet : (x a : ℕ) → x < 2 → a < size → x * a < size
+pub bit-octet : (x a : ℕ) → x < 2 → a < size → x * a < size
 bit-octet zero a h k = subst (λ (y : ℕ). y < size) (sym (zero-mul a)) (lit< tt)
 bit-octet (suc zero) a h k = subst (λ (y : ℕ). y < size) (sym (one-mul a)) k
 bit-octet (suc (suc x)) a h k = absurd (omega arith)

@@ -10,10 +10,10 @@ use Rattle.codeword.proofs.encoding.generator.Statement.{statement}
 use Rattle.codeword.proofs.encoding.generator.Tie as tie
 
 abbrev Inv-loop : tie.InvT-loop
-Inv-loop m t g₀ last j₀ g j = (1 ≤ j) × (j ≤ m + 1) × GeneratorIs m j g × (last ≡ Octet.power Octet.α m)
+Inv-loop m g₀ last j₀ g j = (1 ≤ j) × (j ≤ m + 1) × GeneratorIs m j g × (last ≡ Octet.power Octet.α m)
 
 abbrev μ-loop : tie.MeasureT-loop
-μ-loop m t g₀ last j₀ g j = m + 1 - j
+μ-loop m g₀ last j₀ g j = m + 1 - j
 
 loop-holds : tie.Need-loop-holds Inv-loop μ-loop
 loop-holds c = (search needs, search needs, generator-start (c .before .args .m), search needs)

@@ -12,10 +12,10 @@ use Rattle.codeword.proofs.encoding.parity.Statement.{statement}
 use Rattle.codeword.proofs.encoding.parity.Tie as tie
 
 abbrev Inv-loop : tie.InvT-loop
-Inv-loop message m t g p₀ i₀ p i = (i ≤ length message) × GeneratorIs m (m + 1) g × RegisterIs m (take i message) p
+Inv-loop message m g p₀ i₀ p i = (i ≤ length message) × GeneratorIs m (m + 1) g × RegisterIs m (take i message) p
 
 abbrev μ-loop : tie.MeasureT-loop
-μ-loop message m t g p₀ i₀ p i = length message - i
+μ-loop message m g p₀ i₀ p i = length message - i
 
 loop-holds : tie.Need-loop-holds Inv-loop μ-loop
 loop-holds c = (search needs, search needs, register-start _ (search needs))

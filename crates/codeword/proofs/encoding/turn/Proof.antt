@@ -11,10 +11,10 @@ use Rattle.codeword.proofs.encoding.turn.Statement.{statement}
 use Rattle.codeword.proofs.encoding.turn.Tie as tie
 
 abbrev Inv-loop : tie.InvT-loop
-Inv-loop g m a t p₀ feedback j₀ p j = (j ≤ m) × Turned g j a p₀ p × (feedback ≡ Octet.sum (getD p₀ 0 0) a)
+Inv-loop g m a p₀ feedback j₀ p j = (j ≤ m) × Turned g j a p₀ p × (feedback ≡ Octet.sum (getD p₀ 0 0) a)
 
 abbrev μ-loop : tie.MeasureT-loop
-μ-loop g m a t p₀ feedback j₀ p j = m - j
+μ-loop g m a p₀ feedback j₀ p j = m - j
 
 loop-again : tie.Need-loop-again Inv-loop μ-loop
 loop-again c =

@@ -8,10 +8,10 @@ use Rattle.codeword.proofs.locator.discrepancy.Statement.{statement}
 use Rattle.codeword.proofs.locator.discrepancy.Tie as tie
 
 abbrev Inv-loop : tie.InvT-loop
-Inv-loop c s r l t d₀ j₀ d j = (j ≤ l + 1) × (d ≡ discrepancy-to c s r j)
+Inv-loop c s r l d₀ j₀ d j = (j ≤ l + 1) × (d ≡ discrepancy-to c s r j)
 
 abbrev μ-loop : tie.MeasureT-loop
-μ-loop c s r l t d₀ j₀ d j = l + 1 - j
+μ-loop c s r l d₀ j₀ d j = l + 1 - j
 
 loop-holds : tie.Need-loop-holds Inv-loop μ-loop
 loop-holds c = (search needs, sym (discrepancy-start _ _ _))
@@ -19,7 +19,7 @@ loop-holds c = (search needs, sym (discrepancy-start _ _ _))
 loop-again : tie.Need-loop-again Inv-loop μ-loop
 loop-again c =
     let l = c .before .before .before .before .before .loop in
-    (search needs, c .sum .ensures ∙ (rw (c .before .product-by .ensures, l .inv .1) (sym (discrepancy-next _ _ _ (l .j)))))
+    (search needs, c .sum .ensures ∙ (rw (c .before .product .ensures, l .inv .1) (sym (discrepancy-next _ _ _ (l .j)))))
 
 returns : tie.Need-returns Inv-loop μ-loop
 returns c = c .before .loop .inv .1 ∙ discrepancy-is _ _ _ _ (c .before .loop .j) (omega arith)

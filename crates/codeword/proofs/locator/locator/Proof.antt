@@ -8,16 +8,16 @@ use Rattle.codeword.proofs.locator.locator.Statement.{statement}
 use Rattle.codeword.proofs.locator.locator.Tie as tie
 
 abbrev Inv-loop : tie.InvT-loop
-Inv-loop s m t c₀ b₀ g₀ r₀ c b g r = (r ≤ m) × MasseyStateIs s c b r (g .long) (g .shift) (g .failed)
+Inv-loop s m c₀ b₀ g₀ r₀ c b g r = (r ≤ m) × MasseyStateIs s c b r (g .long) (g .shift) (g .failed)
 
 abbrev μ-loop : tie.MeasureT-loop
-μ-loop s m t c₀ b₀ g₀ r₀ c b g r = m - r
+μ-loop s m c₀ b₀ g₀ r₀ c b g r = m - r
 
 loop-holds : tie.Need-loop-holds Inv-loop μ-loop
 loop-holds c = (search needs, massey-start _)
 
 step-requires : tie.Need-step-requires Inv-loop μ-loop
-step-requires c κs = ((search needs, search needs, search needs), search needs)
+step-requires c κs = (search needs, search needs, search needs)
 
 loop-again : tie.Need-loop-again Inv-loop μ-loop
 loop-again c = (search needs, c .step .ensures)

@@ -9,10 +9,10 @@ use Rattle.codeword.proofs.locator.mend.Statement.{statement}
 use Rattle.codeword.proofs.locator.mend.Tie as tie
 
 abbrev Inv-loop : tie.InvT-loop
-Inv-loop b q shift top t c₀ j₀ c j = (shift ≤ j) × (j ≤ top) × Mended j q shift c₀ b c
+Inv-loop b q shift top c₀ j₀ c j = (shift ≤ j) × (j ≤ top) × Mended j q shift c₀ b c
 
 abbrev μ-loop : tie.MeasureT-loop
-μ-loop b q shift top t c₀ j₀ c j = top - j
+μ-loop b q shift top c₀ j₀ c j = top - j
 
 loop-holds : tie.Need-loop-holds Inv-loop μ-loop
 loop-holds c = (search needs, search needs, mended-start)

@@ -5,22 +5,22 @@ use Rattle.codeword.proofs.locator.step.Statement.{statement}
 use Rattle.codeword.proofs.locator.step.Tie as tie
 
 returns : tie.Need-returns
-returns c = massey-zero (c .before .before .before .pre .0 .2) (c .before .discrepancy .ensures) (c .if1 .taken)
+returns c = massey-zero (c .before .before .before .pre .2) (c .before .discrepancy .ensures) (c .if1 .taken)
 
 returns-2 : tie.Need-returns-2
 returns-2 c =
     let grows = c .before .before .before .before in
     let start = grows .before .before .before .before .before .before in
-    massey-grow (start .pre .0 .2) (grows .before .before .before .before .discrepancy .ensures) (start .pre .0 .0)
-    (rw (grows .before .product-by .ensures, grows .before .before .inverse-by .ensures) at (c .mend .ensures))
+    massey-grow (start .pre .2) (grows .before .before .before .before .discrepancy .ensures) (start .pre .0)
+    (rw (grows .before .product .ensures, grows .before .before .inverse .ensures) at (c .mend .ensures))
     (grows .before .before .before .if1 .left) (grows .if2 .taken)
 
 returns-3 : tie.Need-returns-3
 returns-3 c =
     let keeps = c .before .before .before in
     let start = keeps .before .before .before .before .before .before in
-    massey-keep (start .pre .0 .2) (keeps .before .before .before .before .discrepancy .ensures) (start .pre .0 .0)
-    (rw (keeps .before .product-by .ensures, keeps .before .before .inverse-by .ensures) at (c .mend2 .ensures)) (keeps .if2 .left)
+    massey-keep (start .pre .2) (keeps .before .before .before .before .discrepancy .ensures) (start .pre .0)
+    (rw (keeps .before .product .ensures, keeps .before .before .inverse .ensures) at (c .mend2 .ensures)) (keeps .if2 .left)
 
 pub step-spec : {M : Type 1} → statement M
 step-spec =

@@ -8,10 +8,10 @@ use Rattle.codeword.proofs.search.horner.Statement.{statement}
 use Rattle.codeword.proofs.search.horner.Tie as tie
 
 abbrev Inv-loop : tie.InvT-loop
-Inv-loop c n x t v₀ i₀ v i = (i ≤ n) × HornerFrom c n x i v
+Inv-loop c n x v₀ i₀ v i = (i ≤ n) × HornerFrom c n x i v
 
 abbrev μ-loop : tie.MeasureT-loop
-μ-loop c n x t v₀ i₀ v i = i
+μ-loop c n x v₀ i₀ v i = i
 
 loop-holds : tie.Need-loop-holds Inv-loop μ-loop
 loop-holds c = (search needs, horner-start)

@@ -14,7 +14,7 @@ returns : tie.Need-returns
 returns c =
     let a = c .before .args in
     let e : Octet.order - (a .n - 1 - a .p) ≡ Octet.order - (a .n - suc (a .p)) = omega arith in
-    c .power-by .ensures ∙ ap (Octet.power Octet.α) e ∙ sym (ap octet (inverses-at (a .n) (a .p)) ∙ octet-pow (Octet.order - (a .n - suc (a .p))))
+    c .power .ensures ∙ ap (Octet.power Octet.α) e ∙ sym (ap octet (inverses-at (a .n) (a .p)) ∙ octet-pow (Octet.order - (a .n - suc (a .p))))
 
 pub inverse-locator-spec : {M : Type 1} → statement M
 inverse-locator-spec =

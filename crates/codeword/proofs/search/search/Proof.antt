@@ -10,10 +10,10 @@ use Rattle.codeword.proofs.search.search.Statement.{statement}
 use Rattle.codeword.proofs.search.search.Tie as tie
 
 abbrev Inv-loop : tie.InvT-loop
-Inv-loop c l n t at₀ count₀ p₀ at count p = (p ≤ n) × SearchIs n p l c at count
+Inv-loop c l n at₀ count₀ p₀ at count p = (p ≤ n) × SearchIs n p l c at count
 
 abbrev μ-loop : tie.MeasureT-loop
-μ-loop c l n t at₀ count₀ p₀ at count p = n - p
+μ-loop c l n at₀ count₀ p₀ at count p = n - p
 
 loop-holds : tie.Need-loop-holds Inv-loop μ-loop
 loop-holds c = (search needs, search-start)

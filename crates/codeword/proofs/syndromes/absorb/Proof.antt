@@ -9,10 +9,10 @@ use Rattle.codeword.proofs.syndromes.absorb.Statement.{statement}
 use Rattle.codeword.proofs.syndromes.absorb.Tie as tie
 
 abbrev Inv-loop : tie.InvT-loop
-Inv-loop x m a t s₀ i₀ s i = (i ≤ m) × Absorbed i a x s₀ s
+Inv-loop x m a s₀ i₀ s i = (i ≤ m) × Absorbed i a x s₀ s
 
 abbrev μ-loop : tie.MeasureT-loop
-μ-loop x m a t s₀ i₀ s i = m - i
+μ-loop x m a s₀ i₀ s i = m - i
 
 loop-again : tie.Need-loop-again Inv-loop μ-loop
 loop-again c =

@@ -9,10 +9,10 @@ use Rattle.codeword.proofs.syndromes.points.Statement.{statement}
 use Rattle.codeword.proofs.syndromes.points.Tie as tie
 
 abbrev Inv-loop : tie.InvT-loop
-Inv-loop m t x₀ i₀ x i = (i ≤ m) × PointsAre i x
+Inv-loop m x₀ i₀ x i = (i ≤ m) × PointsAre i x
 
 abbrev μ-loop : tie.MeasureT-loop
-μ-loop m t x₀ i₀ x i = m - i
+μ-loop m x₀ i₀ x i = m - i
 
 loop-holds : tie.Need-loop-holds Inv-loop μ-loop
 loop-holds c = (search needs, points-start)
@@ -20,7 +20,7 @@ loop-holds c = (search needs, points-start)
 loop-again : tie.Need-loop-again Inv-loop μ-loop
 loop-again c =
     let l = c .before .before .loop in
-    (search needs, points-next (search needs) (l .inv .1) (c .power-by .ensures))
+    (search needs, points-next (search needs) (l .inv .1) (c .power .ensures))
 
 returns : tie.Need-returns Inv-loop μ-loop
 returns c =

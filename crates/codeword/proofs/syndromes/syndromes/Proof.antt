@@ -12,10 +12,10 @@ use Rattle.codeword.proofs.syndromes.syndromes.Statement.{statement}
 use Rattle.codeword.proofs.syndromes.syndromes.Tie as tie
 
 abbrev Inv-loop : tie.InvT-loop
-Inv-loop word m t x s₀ i₀ s i = (i ≤ length word) × PointsAre m x × SyndromesAre m (take i word) s
+Inv-loop word m x s₀ i₀ s i = (i ≤ length word) × PointsAre m x × SyndromesAre m (take i word) s
 
 abbrev μ-loop : tie.MeasureT-loop
-μ-loop word m t x s₀ i₀ s i = length word - i
+μ-loop word m x s₀ i₀ s i = length word - i
 
 loop-holds : tie.Need-loop-holds Inv-loop μ-loop
 loop-holds c = (search needs, search needs, syndromes-start)

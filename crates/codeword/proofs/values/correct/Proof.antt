@@ -12,10 +12,10 @@ use Rattle.codeword.proofs.values.correct.Statement.{statement}
 use Rattle.codeword.proofs.values.correct.Tie as tie
 
 abbrev Inv-loop : tie.InvT-loop
-Inv-loop w₀ n at l o d t j₀ w j = (j ≤ l) × Corrected n l j at o d w₀ w
+Inv-loop w₀ n at l o d j₀ w j = (j ≤ l) × Corrected n l j at o d w₀ w
 
 abbrev μ-loop : tie.MeasureT-loop
-μ-loop w₀ n at l o d t j₀ w j = l - j
+μ-loop w₀ n at l o d j₀ w j = l - j
 
 loop-holds : tie.Need-loop-holds Inv-loop μ-loop
 loop-holds c = (search needs, corrected-start (λ i. c .slice-known .given i .fits))
@@ -27,7 +27,7 @@ cast-p c =
 
 inverse-locator-requires : tie.Need-inverse-locator-requires Inv-loop μ-loop
 inverse-locator-requires c κs =
-    ((c .before .before .before .before .pre .1 .0 (c .before .before .loop .j) (c .before .loop-test .taken), search needs), search needs)
+    (c .before .before .before .before .pre .1 .0 (c .before .before .loop .j) (c .before .loop-test .taken), search needs)
 
 slice-read-sum : tie.Need-slice-read-sum Inv-loop μ-loop
 slice-read-sum c =
@@ -51,7 +51,7 @@ loop-again c =
     let in-loop = turn .loop-test .taken in (
       search needs,
       corrected-next refl (omega (arith, pre .0 (l .j) in-loop))
-          (λ i h. pre .1 .0 i (l .j) h in-loop)
+          (λ i h. pre .1 i (l .j) h in-loop)
           (c .sum .ensures ∙ ap (Octet.sum (getD (l .w) (getD (now (a .at)) (l .j) 0) 0))
           (c .before .before .error .ensures ∙ (rw (c .before .before .before .inverse-locator .ensures)))) (l .inv .1),
     )

@@ -9,8 +9,8 @@ use Rattle.codeword.proofs.values.error.Tie as tie
 returns : tie.Need-returns
 unfolding errorOf
 returns c =
-    c .product-by .ensures ∙ ap₂ Octet.product (c .before .before .before .horner .ensures)
-    (c .before .inverse-by .ensures ∙ ap Octet.inverse (c .before .before .horner2 .ensures))
+    c .product .ensures ∙ ap₂ Octet.product (c .before .before .before .horner .ensures)
+    (c .before .inverse .ensures ∙ ap Octet.inverse (c .before .before .horner2 .ensures))
 
 pub error-spec : {M : Type 1} → statement M
 error-spec =

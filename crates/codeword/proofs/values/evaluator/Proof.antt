@@ -9,10 +9,10 @@ use Rattle.codeword.proofs.values.evaluator.Statement.{statement}
 use Rattle.codeword.proofs.values.evaluator.Tie as tie
 
 abbrev Inv-loop : tie.InvT-loop
-Inv-loop c s l t o₀ k₀ o k = (k ≤ l) × EvaluatorIs k c s o
+Inv-loop c s l o₀ k₀ o k = (k ≤ l) × EvaluatorIs k c s o
 
 abbrev μ-loop : tie.MeasureT-loop
-μ-loop c s l t o₀ k₀ o k = l - k
+μ-loop c s l o₀ k₀ o k = l - k
 
 loop-holds : tie.Need-loop-holds Inv-loop μ-loop
 loop-holds c = (search needs, evaluator-start)
