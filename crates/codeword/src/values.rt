@@ -45,7 +45,10 @@ fn error(o: &[u8; LONGEST_WORD], d: &[u8; LONGEST_WORD], l: usize, x: u8) -> u8
     requires { ⌜ l ≤ longestWord ⌝ }
     ensures { λ r. ⌜ r ≡ errorOf (now (o .entry)) (now (d .entry)) l x ⌝ }
 {
-    field::product(search::horner(o, l, x), field::inverse(search::horner(d, l, x)))
+    field::product(
+        search::horner(o, l, x),
+        field::inverse(search::horner(d, l, x)),
+    )
 }
 
 // Adds the error value to the word of n octets at each of the l places.

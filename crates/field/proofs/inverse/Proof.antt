@@ -1,4 +1,4 @@
--- After n turns r is a to the 2ⁿ - 1. Assumes nothing.
+-- At n, r is a to the 2ⁿ - 1. Assumes nothing.
 use borrow.Author.Needs.{needs}
 use mathlib.Core.Path.{_≡_, _∙_, ap}
 use Prim.Native.Nat.{_-_, _^_, _≤_}

@@ -55,7 +55,7 @@ product-is = record {
 -- ---- there is no other
 
 module _ (f : ℕ → ℕ → ℕ) (p : IsProduct f) where
-  -- x times a power of x, which is all that the two are said to be
+  -- x times a power of x: `next` and `eighth` say what it is, of both
   on-basis : (i : ℕ) → i < 8 → f α (2 ^ i) ≡ product α (2 ^ i)
   on-basis i h = elim (decLt i 7) [
     | yes l ↦ p .next i l ∙ sym (product-is .next i l)
