@@ -2,12 +2,16 @@
 // The definitions are in specs/Octet.antt; what the layers above may use of them is specs/Octet/Laws.antt, and of the
 // table specs/Octet/Table.antt. The one table is that of the powers: a product is worked out by shifting and adding.
 ghost use mathlib.Core.Path.{_≡_};
+ghost use Prim.Native.Nat.{_+_, _≤_};
 ghost use lib.Dec.{T};
 ghost use Rattle.field.specs.Octet;
 ghost use Rattle.field.specs.Octet.Table;
 
 // α's order: the number of its powers, which are all the elements but 0.
 pub const ORDER: usize = 255;
+
+// How many powers `powers` lays out: each of them twice.
+pub const LAID: usize = 510;
 
 // What stands for x^8: the modulus below it, x^4 + x^3 + x^2 + 1.
 const REDUCED: u8 = 0x1D;
@@ -89,4 +93,39 @@ pub fn power(k: usize) -> u8
     ensures { λ r. ⌜ r ≡ Octet.power Octet.α k ⌝ }
 {
     entry(&POWERS, k)
+}
+
+// The powers, and once more behind them.
+fn lay(powers: &[u8; ORDER]) -> [u8; LAID]
+    requires { ⌜ T (Table.isDoubled (now powers)) ⌝ }
+    ensures { λ r. ⌜ Table.Laid r ⌝ }
+{
+    let mut laid = [0u8; LAID];
+    octets::write(&mut laid, 0, powers);
+    octets::write(&mut laid, ORDER, powers);
+    laid
+}
+
+// The powers of α in a row: entry k is α to the k. The table is laid out in memory wherever it is named; who wants many powers lays them
+// out once, and lends them on.
+pub fn powers() -> [u8; LAID]
+    ensures { λ r. ⌜ Table.Laid r ⌝ }
+{
+    lay(&POWERS)
+}
+
+// Entry k of the powers times b, as `product`: its doublings are the seven entries behind it.
+pub fn product_at(powers: &[u8; LAID], k: usize, b: u8) -> u8
+    requires { ⌜ Table.Laid (now powers) × (k + 8 ≤ Table.laid) ⌝ }
+    ensures { λ r. ⌜ r ≡ Octet.product (Octet.power Octet.α k) b ⌝ }
+{
+    let mut total: u8 = 0;
+    let mut bits = b;
+    let mut j: usize = 0;
+    while j < 8 {
+        total = sum(total, bits % 2 * powers[k + j]);
+        bits >>= 1;
+        j += 1;
+    }
+    total
 }

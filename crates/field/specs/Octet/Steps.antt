@@ -1,4 +1,4 @@
--- The steps by which the code works out a product and an inverse, for the proofs of its functions and no other crate (`tests/heads`).
+-- The steps by which the code works out a product, an inverse and a row of powers, for the proofs of its functions and no other crate (`tests/heads`).
 --
 --   shifted a        a one bit higher; where that pushes out an x^8, what the modulus has below it is added for it
 --   double-shifted   .. which is x a
@@ -6,26 +6,35 @@
 --   product-begin    a product is nothing yet, and what all eight bits have to give;
 --   product-step     one bit gives its part, and the others go on with x a;
 --   product-end      when no bit is left, it is what has been given
+--   power-double     x αᵏ is αᵏ⁺¹
+--   laid-twice       the powers, written once and once more behind, are a row of powers
 --   inverse-begin    a is a to the 2ⁿ - 1 at n = 1;
 --   inverse-step     its square times a goes on to n + 1;
 --   inverse-end      its square at n = 7 is the inverse
 --
 -- Assumes nothing.
 use mathlib.Core.Path.{_≡_, sym, ap, ap₂, _∙_}
+use mathlib.Core.Logic.{inl, inr}
 use mathlib.Core.Bool.{Bool}
-use Prim.Native.Nat.{ℕ, suc, _+_, _-_, _*_, _/_, _%_, _^_, _<_}
+use mathlib.Core.List.{List}
+use Prim.Native.Nat.{ℕ, suc, _+_, _-_, _*_, _/_, _%_, _^_, _≤_, _<_}
 use native.Mathlib.Omega.{arith}
 use native.Mathlib.Numerals.{add-one}
-use native.Mathlib.Nat.{mod-eq-of-lt, pow-suc}
+use native.Mathlib.Nat.{mod-eq-of-lt, pow-suc, zero-add}
 use lib.Dec.{T, eqb, eqb→eq}
 use lib.Pow.{pow-pos}
+use lib.ListN.{length, getD}
+use native.Mathlib.Decide.{decLt}
+use Rattle.octets.specs.Written.{written, written-length, written-inside, written-outside}
 use Rattle.octets.specs.Every.{every, every-at}
-use Rattle.field.specs.Octet.{sum, modulus, double, times, product, power, inverse, size}
+use Rattle.field.specs.Octet.{sum, modulus, double, times, product, power, inverse, size, α, order}
 use Rattle.field.specs.Octet.Xor.{bit-lt}
 use Rattle.field.specs.Octet.Sum.{sum-assoc, sum-zero, sum-comm}
 use Rattle.field.specs.Octet.Product.{bit-octet}
-use Rattle.field.specs.Octet.Ring.{product-one}
-use Rattle.field.specs.Octet.Power.{power-zero, power-suc, power-add}
+use Rattle.field.specs.Octet.Ring.{product-one, alpha-product}
+use Rattle.field.specs.Octet.Power.{power-zero, power-suc, power-octet, power-add}
+use Rattle.field.specs.Octet.Table.{isDoubled, powers-at, laid, Laid}
+use Rattle.field.specs.Octet.Inverse.{power-wrap}
 
 abbrev pub shifted : ℕ → ℕ
 shifted a = sum (a * 2 % size) (a / 128 * 0x1D)
@@ -55,6 +64,29 @@ product-step t n a b = sum-assoc t (b % 2 * a) (times n (double a) (b / 2))
 pub product-end : (t a b : ℕ) → sum t (times 0 a b) ≡ t
 unfolding times
 product-end t a b = sum-zero t
+
+pub power-double : (k : ℕ) → double (power α k) ≡ power α (suc k)
+power-double k = sym (power-suc α k ∙ alpha-product (power α k) (power-octet α k))
+
+pub laid-twice : (d p : List ℕ) → length d ≡ laid → length p ≡ order → T (isDoubled p) → Laid (written (written d 0 p) order p)
+laid-twice d p long short h k l = go (decLt k order)
+  where
+    once : List ℕ
+    once = written d 0 p
+
+    room : order + length p ≤ length once
+    room = omega (arith, written-length d 0 p (omega arith))
+
+    go : Dec (k < order) → getD (written once order p) k 0 ≡ power α k
+    go (yes m) =
+        written-outside once order p room k 0 (inl m)
+        ∙ ap (λ (n : ℕ). getD once n 0) (sym (zero-add k)) ∙ written-inside d 0 p (omega arith) k 0 (omega arith) ∙ powers-at p h k m
+    go (no m) =
+        let j = k - order in
+        let e : k ≡ order + j = omega arith in
+        let r : k % order ≡ j = omega arith in
+        ap (λ (n : ℕ). getD (written once order p) n 0) e ∙ written-inside once order p room j 0 (omega arith)
+        ∙ powers-at p h j (omega arith) ∙ ap (power α) (sym r) ∙ power-wrap k
 
 pub inverse-begin : (a : ℕ) → a < size → a ≡ power a (2 ^ 1 - 1)
 inverse-begin a h = sym (power-suc a 0 ∙ ap (product a) (power-zero a) ∙ product-one a h)

@@ -4,12 +4,14 @@
 --   worked-is       .. and it is that
 --   isDoubled p     the test of all entries of Table D.I.1: the first is 1, and each other twice the one before
 --   powers-at       entry k of a list that passes is αᵏ, for each k below the order
+--   laid            how many powers are laid out in a row: each twice
+--   Laid p          p is such a row: entry k is αᵏ
 --
 -- The rule is tested once over all the entries of the code's constant, and a lemma carries it to each. Assumes nothing.
 use mathlib.Core.Path.{_≡_, refl, sym, ap, _∙_}
 use mathlib.Core.Bool.{Bool, _&&_}
 use mathlib.Core.List.{List}
-use Prim.Native.Nat.{ℕ, zero, suc, _-_, _<_}
+use Prim.Native.Nat.{ℕ, zero, suc, _-_, _*_, _<_}
 use native.Mathlib.Nat.{le-of-suc-le-suc}
 use native.Mathlib.Omega.{arith}
 use lib.Dec.{T, eqb, eqb→eq}
@@ -38,3 +40,9 @@ powers-at p d (suc k) h =
     eqb→eq _ _
     (every-at (isTwice p) (order - 1) (both-right (eqb (getD p 0 0) 1) (every (isTwice p) (order - 1)) d) k (le-of-suc-le-suc h))
     ∙ worked-is α _ ∙ ap (product α) (powers-at p d k (omega arith)) ∙ sym (power-suc α k)
+
+abbrev pub laid : ℕ
+laid = 2 * order
+
+abbrev pub Laid : List ℕ → Type 0
+Laid p = (k : ℕ) → k < laid → getD p k 0 ≡ power α k
