@@ -4,8 +4,9 @@
 --   the field       ring, for `simp ring`; ⊕-comm, ⊕-𝟘, ⊕-self, ⊕-cancel, ⊙-comm, ⊙-assoc, ⊙-𝟘, ⊙-𝟙, ⊙-inv; eq-of-sum, sum-of-eq
 --   series          the clauses of their operations: tl-⊞, ⊞-at, ⊡-at, none-at, unit-zero, unit-suc, sh-zero, sh-suc;
 --                   below-⊞, below-more of degrees
---   values          ev-zero, ev-⊞ of the operations; ev-monomial; ev-more, ev-local: which coefficients are read
---   powers          pow-zero, pow-suc, pow-add, pow-times
+--   values          ev-zero, ev-⊞ of the operations; ev-monomial; ev-more, ev-local: which coefficients are read; ev-snoc, ev-rows: the
+--                   last coefficient, and all of them in rows; ev-added: a coefficient added to; terms-zero, terms-suc
+--   powers          pow-zero, pow-suc, pow-add, pow-times, pow-pow
 --   power sums      psum-zero, psum-suc, psum-⊞
 --   polynomials     polynomial-none, polynomial-cons, polynomial-at, polynomial-append, polynomial-snoc, polynomial-same of a list;
 --                   raised-zero, raised-suc, raised-⊞, raised-sh, raised-monomial, raised-none, raised-low, raised-high of
@@ -27,7 +28,8 @@ pub use Rattle.algebra.proofs.Ring.{ring, ⊕-comm, ⊕-𝟘, ⊕-self,
 pub use Rattle.algebra.proofs.Product.{tl-⊞, ⊞-at, ⊡-at, none-at, unit-zero, unit-suc, sh-zero, sh-suc}
 pub use Rattle.algebra.proofs.Product.{below-⊞, below-more}
 pub use Rattle.algebra.proofs.Value.{ev-zero, ev-⊞, ev-monomial, ev-more, ev-local}
-pub use Rattle.algebra.proofs.Powers.{pow-zero, pow-suc, pow-add, pow-times}
+pub use Rattle.algebra.proofs.Rows.{ev-snoc, ev-rows, ev-added, terms-zero, terms-suc}
+pub use Rattle.algebra.proofs.Powers.{pow-zero, pow-suc, pow-add, pow-times, pow-pow}
 pub use Rattle.algebra.proofs.PowerSum.{psum-zero, psum-suc}
 pub use Rattle.algebra.proofs.Polynomial.{polynomial-none, polynomial-cons, polynomial-at, polynomial-append, polynomial-snoc}
 pub use Rattle.algebra.proofs.Polynomial.{polynomial-same, raised-zero, raised-suc, raised-⊞, raised-sh, raised-monomial, raised-none}

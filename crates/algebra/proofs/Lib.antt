@@ -9,6 +9,7 @@ pub mod Berlekamp
 pub mod Forney
 pub mod Derivative
 pub mod Loop
+pub mod Rows
 pub mod Listing
 pub mod Support
 pub mod Powers

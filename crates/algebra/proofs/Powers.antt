@@ -4,12 +4,14 @@
 --   pow-ne       a power of an element that is not zero is not
 --   pow-add      aᵐ⁺ⁿ = aᵐ aⁿ
 --   pow-times    (aⁱ)ⁿ = (aⁿ)ⁱ
+--   pow-pow      (aⁱ)ⁿ = aⁱⁿ
 --
 -- Assumes nothing.
-use mathlib.Core.Path.{_≡_, refl, sym}
+use mathlib.Core.Path.{_≡_, refl, sym, ap, _∙_}
 use mathlib.Core.Logic.{_≢_}
-use Prim.Native.Nat.{ℕ, zero, suc, _+_}
+use Prim.Native.Nat.{ℕ, zero, suc, _+_, _*_}
 use native.Mathlib.Omega.{arith}
+use native.Mathlib.Nat.{mul-zero, mul-suc}
 use Rattle.algebra.specs.Field.{Field}
 use Rattle.algebra.specs.Power.{pow, rising}
 use Rattle.algebra.proofs.Ring.{ring, 𝟙-⊙, mul-ne}
@@ -50,3 +52,7 @@ module _ (𝓕 : Field) where
   pub pow-times : (a : F) (i n : ℕ) → pow 𝓕 (pow 𝓕 a i) n ≡ pow 𝓕 (pow 𝓕 a n) i
   pow-times a i zero = rw (pow-zero (pow 𝓕 a i), pow-zero a) (sym (pow-one i))
   pow-times a i (suc n) = rw (pow-suc (pow 𝓕 a i) n, pow-suc a n, pow-mul, pow-times a i n)
+
+  pub pow-pow : (a : F) (i n : ℕ) → pow 𝓕 (pow 𝓕 a i) n ≡ pow 𝓕 a (i * n)
+  pow-pow a i zero = rw (mul-zero i, pow-zero a) (pow-zero (pow 𝓕 a i))
+  pow-pow a i (suc n) = rw (mul-suc i n, pow-suc (pow 𝓕 a i) n, pow-pow a i n) (sym (pow-add a i (i * n)) ∙ ap (pow 𝓕 a) (omega arith))

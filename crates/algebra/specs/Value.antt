@@ -2,11 +2,13 @@
 --
 --   ev d f x      f₀ + f₁ x + .. + f₍d₋₁₎ x^(d-1), by Horner's rule
 --   from i f      f without its first i coefficients, as Horner's rule has it on its way down
+--   terms n t x   xᵗ⁰ + xᵗ¹ + .., of the n numbers t₀, t₁, ..
 --
 -- Assumes nothing.
 use Prim.Native.Nat.{ℕ, zero, suc}
 use Rattle.algebra.specs.Field.{Field}
 use Rattle.algebra.specs.Series.{Series, Operations, operations}
+use Rattle.algebra.specs.Power.{pow}
 
 module _ (𝓕 : Field) where
   infixl 60 _⊕_
@@ -21,3 +23,7 @@ module _ (𝓕 : Field) where
   unfoldable pub from : ℕ → Series 𝓕 → Series 𝓕
   from zero f = f
   from (suc i) f = from i (tl f)
+
+  unfoldable pub terms : ℕ → (ℕ → ℕ) → F → F
+  terms zero t x = 𝟘
+  terms (suc n) t x = terms n t x ⊕ pow 𝓕 x (t n)

@@ -3,6 +3,7 @@ pub mod Arrays
 pub mod Word
 pub mod Criterion
 pub mod Absorbing
+pub mod Columns
 pub mod Distance
 pub mod Register
 pub mod Parity

@@ -6,6 +6,7 @@ pub mod Register
 pub mod Changed
 pub mod Repair
 pub mod Places
+pub mod Rows
 pub mod Syndromes
 pub mod Locator
 pub mod Search

@@ -1,6 +1,8 @@
 // The code word of 003, D.4.1.7.3: encoding and repair.
 mod encoding;
+mod lanes;
 mod locator;
+mod rows;
 mod search;
 mod syndromes;
 mod values;

@@ -1,0 +1,170 @@
+-- Octets side by side, and the word's columns.
+--
+--   Lanes P i a                  the first i of 16 octets have P
+--   lanes-next                   .. and one more
+--   RowsLaid n w f               n rows of f have octets of w, row d those from 15 (16 - d) on
+--   rows-next                    .. and one more
+--   added-start, added-next      octets added, one after another
+--   Step k j a f o i x           x is what a turn of Horner's rule makes of lane i
+--   step-lane                    .. worked out
+--   spaced-at                    a coefficient of a series of spaced entries
+--   HornerLanes n d k j f s o a  lane i has what Horner's rule has after the coefficients from d on
+--   horner-load, horner-turn, horner-evaluated    .. from the highest coefficient down
+--   FoldingTo n d t a f g        a is added to n of the rows that the taps t name
+--   folding-start, folding-next, row-folded       .. one after another
+--   folded-start, folded-next    one row after another
+--
+-- Assumes nothing.
+use mathlib.Core.Path.{_≡_, refl, sym, ap, ap₂, _∙_}
+use mathlib.Core.Logic.{_≢_, _⊎_, ⊎-elim, inl, inr}
+use mathlib.Core.List.{List}
+use Prim.Native.Nat.{ℕ, zero, suc, _+_, _-_, _*_, _≤_, _<_}
+use native.Mathlib.Numerals.{add-one}
+use native.Mathlib.Omega.{arith}
+use native.Mathlib.Decide.{ℕ-discrete, decLt}
+use lib.ListN.{length, getD, set, length-set}
+use lib.Seq.{getD-set-same, getD-set-other}
+use Rattle.algebra.specs.Field.{Field}
+use Rattle.algebra.specs.Series.{Series}
+use Rattle.algebra.specs.Power.{pow}
+use Rattle.algebra.specs.Value.{ev, from, terms}
+use Rattle.algebra.proofs.Laws.{ring, ⊕-comm, ev-zero, from-zero, horner, ev-snoc, ev-added, terms-zero, terms-suc, pow-add}
+use Rattle.octets.specs.Written.{written, written-inside, written-outside}
+use Rattle.field.specs.Octet as Octet
+use Rattle.codeword.specs.Element.{elements, element, α}
+use Rattle.codeword.specs.Element.Laws.{element-sum, element-product, element-power}
+use Rattle.codeword.specs.Rows.{lanes, Loaded, Added, spaced, Stepped, Evaluated, Folding, RowFolded, Folded}
+use Rattle.codeword.proofs.Arrays.{set-below}
+
+infixl 60 _⊕_
+infixl 70 _⊙_
+open Field elements using (Carrier as F, add as _⊕_, mul as _⊙_, nil as 𝟘)
+
+abbrev pub Lanes : (ℕ → ℕ → Type 0) → ℕ → List ℕ → Type 0
+Lanes P i a = (i ≤ lanes) × (length a ≡ lanes) × ((j : ℕ) → j < i → P j (getD a j 0))
+
+pub lanes-next : (P : ℕ → ℕ → Type 0) (a : List ℕ) (i v : ℕ) → i < lanes → Lanes P i a → P i v → Lanes P (i + 1) (set a i v)
+lanes-next P a i v l h new = (omega arith, length-set a i v ∙ h .1, set-below P a i v (omega (arith, h .1)) (h .2) new)
+
+abbrev pub RowsLaid : ℕ → List ℕ → List ℕ → Type 0
+RowsLaid n w f = (d i : ℕ) → d < n → i < lanes → getD f (16 * d + i) 0 ≡ getD w (15 * (16 - d) + i) 0
+
+pub rows-next : (n : ℕ) (w f a : List ℕ) → 16 * n + lanes ≤ length f → Loaded w (15 * (16 - n)) a → RowsLaid n w f
+    → RowsLaid (n + 1) w (written f (16 * n) a)
+rows-next n w f a room h old d i l m = go (ℕ-discrete d n)
+  where
+    fits : 16 * n + length a ≤ length f
+    fits = omega (arith, h .long)
+
+    go : Dec (d ≡ n) → getD (written f (16 * n) a) (16 * d + i) 0 ≡ getD w (15 * (16 - d) + i) 0
+    go (yes e) = rw e (written-inside f (16 * n) a fits i 0 (omega (arith, h .long)) ∙ h .used i m)
+    go (no e) = written-outside f (16 * n) a fits (16 * d + i) 0 (inl (omega arith)) ∙ old d i (omega arith) m
+
+pub added-start : {o : ℕ} {a f : List ℕ} → Added 0 o a f f
+added-start = record { long = refl; done = λ i l. absurd (omega arith); left = λ k l. refl }
+
+pub added-next : {n o v : ℕ} {a f g : List ℕ} → Added n o a f g → o + n < length f → v ≡ Octet.sum (getD g (o + n) 0) (getD a n 0)
+    → Added (n + 1) o a f (set g (o + n) v)
+added-next {n} {o} {v} {a} {f} {g} h room e = record {
+  long = length-set g (o + n) v ∙ h .long;
+  done = λ i l. go i l (ℕ-discrete i n);
+  left = λ k l. getD-set-other g (o + n) k v 0 (⊎-elim (λ m. omega arith) (λ m. omega arith) l) ∙ h .left k (⊎-elim (λ m. inl m) (λ m. inr (omega arith)) l);
+}
+  where
+    go : (i : ℕ) → i < n + 1 → Dec (i ≡ n) → getD (set g (o + n) v) (o + i) 0 ≡ Octet.sum (getD f (o + i) 0) (getD a i 0)
+    go i l (yes p) =
+        rw p (getD-set-same g (o + n) v 0 (omega (arith, h .long)) ∙ e ∙ ap (λ (x : ℕ). Octet.sum x (getD a n 0)) (h .left (o + n) (inr (omega arith))))
+    go i l (no p) = getD-set-other g (o + n) (o + i) v 0 (omega arith) ∙ h .done i (omega arith)
+
+-- ---- Horner's rule in lanes
+
+abbrev pub Step : (k j : ℕ) (a f : List ℕ) (o : ℕ) → ℕ → ℕ → Type 0
+Step k j a f o i x = x ≡ Octet.sum (Octet.product (Octet.power Octet.α (k + j * i)) (getD a i 0)) (getD f (o + i) 0)
+
+pub step-lane : {z p x : ℕ} (k j : ℕ) (a f : List ℕ) (o i : ℕ) → z ≡ k + j * i → p ≡ Octet.product (Octet.power Octet.α z) (getD a i 0)
+    → x ≡ Octet.sum p (getD f (o + i) 0) → Step k j a f o i x
+step-lane k j a f o i q h e =
+    e ∙ ap (λ (x : ℕ). Octet.sum x (getD f (o + i) 0)) (h ∙ ap (λ (n : ℕ). Octet.product (Octet.power Octet.α n) (getD a i 0)) q)
+
+pub record HornerLanes (n d k j : ℕ) (f : List ℕ) (s o : ℕ) (a : List ℕ) : Type 0 where
+  pub long : length a ≡ lanes
+  pub is : (i : ℕ) → i < lanes → element (getD a i 0) ≡ ev elements (n - d) (from elements d (spaced f s (o + i))) (pow elements α (k + j * i))
+
+pub spaced-at : (f : List ℕ) (s k d n : ℕ) → n ≡ s * d + k → spaced f s k d ≡ element (getD f n 0)
+unfolding spaced
+spaced-at f s k d n e = ap (λ (k : ℕ). element (getD f k 0)) (sym e)
+
+pub horner-load : {n d k j s o at : ℕ} {f a : List ℕ} → d + 1 ≡ n → at ≡ s * d + o → Loaded f at a → HornerLanes n d k j f s o a
+horner-load {n} {d} {k} {j} {s} {o} {at} {f} {a} e w h = record {
+  long = h .long;
+  is = λ i l.
+      let z : n - suc d ≡ 0 = omega arith in
+      ap element (h .used i l) ∙ sym (spaced-at f s (o + i) d (at + i) (omega arith))
+      ∙ sym (horner elements n d (spaced f s (o + i)) (pow elements α (k + j * i)) (omega arith) ∙ (rw (z, ev-zero) (simp ring)));
+}
+
+pub horner-turn : {n d k j s o at : ℕ} {f a b : List ℕ} → d < n → at ≡ s * d + o → Stepped k j a f at b → HornerLanes n (d + 1) k j f s o a
+    → HornerLanes n d k j f s o b
+horner-turn {n} {d} {k} {j} {s} {o} {at} {f} {a} {b} l w t h = record {
+  long = t .long;
+  is = λ i m.
+      ap element (t .used i m) ∙ element-sum _ _
+      ∙ ap₂ (λ (x y : F). x ⊕ y) (element-product _ _ ∙ ap₂ (λ (x y : F). x ⊙ y) (element-power (k + j * i)) (rw (add-one d) at (h .is i m)))
+      (sym (spaced-at f s (o + i) d (at + i) (omega arith)))
+      ∙ ⊕-comm elements _ _ ∙ sym (horner elements n d (spaced f s (o + i)) (pow elements α (k + j * i)) l);
+}
+
+pub horner-evaluated : {n k j s o : ℕ} {f a : List ℕ} → HornerLanes n 0 k j f s o a → Evaluated n k j f s o a
+horner-evaluated {n} h =
+    let e : n - 0 ≡ n = omega arith in
+    record { long = h .long; used = λ i l. rw (e, from-zero) at (h .is i l) }
+
+-- ---- folding
+
+pub record FoldingTo (n d : ℕ) (t a f g : List ℕ) : Type 0 where
+  pub worth : (p : ℕ) (y : F) → p < lanes
+      → ev elements d (spaced g 16 p) y
+      ≡ ev elements d (spaced f 16 p) y ⊕ element (getD a p 0) ⊙ (pow elements y (d - 8) ⊙ terms elements n (λ j. getD t j 0) y)
+
+pub folding-start : {d : ℕ} {t a f : List ℕ} → FoldingTo 0 d t a f f
+folding-start = record { worth = λ p y l. rw (terms-zero) (simp ring) }
+
+pub folding-next : {n d b : ℕ} {t a f g h : List ℕ} → 8 ≤ d → getD t n 0 < 8 → b ≡ 16 * (d - 8 + getD t n 0) → Added lanes b a g h
+    → FoldingTo n d t a f g → FoldingTo (n + 1) d t a f h
+folding-next {n} {d} {b} {t} {a} {f} {g} {h} l m e s w = record {
+  worth = λ p y k.
+      ev-added elements d row (element (getD a p 0)) (spaced g 16 p) (spaced h 16 p) y (omega arith) (added p k) (others p k)
+      ∙ (rw (add-one n, terms-suc, w .worth p y k, pow-add elements y (d - 8) (getD t n 0)) (simp ring));
+}
+  where
+    row : ℕ
+    row = d - 8 + getD t n 0
+
+    added : (p : ℕ) → p < lanes → spaced h 16 p row ≡ spaced g 16 p row ⊕ element (getD a p 0)
+    added p k =
+        spaced-at h 16 p row (b + p) (omega arith) ∙ ap element (s .done p k) ∙ element-sum _ _
+        ∙ ap (λ (x : F). x ⊕ element (getD a p 0)) (sym (spaced-at g 16 p row (b + p) (omega arith)))
+
+    others : (p : ℕ) → p < lanes → (k : ℕ) → k ≢ row → spaced h 16 p k ≡ spaced g 16 p k
+    others p m k ne =
+        spaced-at h 16 p k (16 * k + p) refl ∙ ap element (s .left (16 * k + p) (apart (decLt k row)))
+        ∙ sym (spaced-at g 16 p k (16 * k + p) refl)
+      where
+        apart : Dec (k < row) → (16 * k + p < b) ⊎ (b + lanes ≤ 16 * k + p)
+        apart (yes j) = inl (omega arith)
+        apart (no j) = inr (omega arith)
+
+pub row-folded : {n d : ℕ} {t a f g : List ℕ} → n ≡ length t → 8 ≤ d → Loaded f (16 * d) a → FoldingTo n d t a f g → RowFolded d t f g
+row-folded {n} {d} {t} {a} {f} {g} e l h w = record {
+  worth = λ p y k y8.
+      let s : d - 8 + 8 ≡ d = omega arith in
+      let z : terms elements n (λ j. getD t j 0) y ≡ pow elements y 8 = rw e (sym y8) in
+      w .worth p y k
+      ∙ (rw (z, ← pow-add elements y (d - 8) 8, s, add-one d, ev-snoc elements d (spaced f 16 p) y, spaced-at f 16 p d (16 * d + p) refl, h .used p k));
+}
+
+pub folded-start : {t f : List ℕ} → Folded 17 t f f
+folded-start = record { worth = λ p y l h. refl }
+
+pub folded-next : {d : ℕ} {t f g h : List ℕ} → Folded (d + 1) t f g → RowFolded d t g h → Folded d t f h
+folded-next a b = record { worth = λ p y l h. b .worth p y l h ∙ a .worth p y l h }

@@ -1,0 +1,154 @@
+// The values of the word's columns, on the way to its syndromes.
+//
+// The word, with zeros in front to 255 octets, is 17 rows of 15. With R_q for column q, which has the coefficients of x^q, x^(15 + q), ..,
+// the word's polynomial is the sum of x^q R_q(x^15) over the 15 columns. At x = α^i, x^15 is α^(15 r) for r = i mod 17, since α^255 = 1:
+// 17 values of each column serve all i.
+//
+// For r from 1 to 16, y = α^(15 r) is a root of y^8 + y^7 + y^6 + y^4 + y^2 + y + 1 or of y^8 + y^5 + y^4 + y^3 + 1. So y^8 is a sum of
+// lower powers, the taps: row d can be added to the rows that stand for y^(d - 8) times these, and be dropped; no column's value at y
+// changes, and 17 rows become 8.
+use crate::lanes;
+use crate::lanes::LANES;
+use field::LAID;
+ghost use mathlib.Core.Path.{_≡_};
+ghost use Prim.Native.Nat.{ℕ, _+_, _-_, _*_, _≤_, _<_};
+ghost use lib.ListN.{length, getD};
+ghost use Rattle.field.specs.Octet.Table.{laid, Laid};
+ghost use Rattle.codeword.specs.CodeWord.{longestWord};
+ghost use Rattle.codeword.specs.Rows.{lanes as wide, Loaded, Added, Stepped, Evaluated, RowsAre, RowFolded, Folded, Spread, Filled, Filling, Repeated};
+
+// 17 rows of 16 octets, of which 15 count.
+const ROWS: usize = 272;
+
+// The columns' values: 15 rows of 48, of which 32 are used.
+pub(crate) const VALUES: usize = 720;
+
+// Row d: the octets of the word that stand for x^(15 d + 14), .., x^(15 d).
+fn lay(w: &[u8; 256]) -> [u8; ROWS]
+    ensures { λ r. ⌜ ((d i : ℕ) → d < 17 → i < wide → getD r (16 * d + i) 0 ≡ getD (now (w .entry)) (15 * (16 - d) + i) 0) ⌝ }
+{
+    let mut f = [0u8; ROWS];
+    let mut d: usize = 0;
+    while d < 17 {
+        let row = lanes::load(w, 15 * (16 - d));
+        octets::write(&mut f, 16 * d, &row);
+        d += 1;
+    }
+    f
+}
+
+// Adds a to 16 octets of f from o on.
+fn add(f: &mut [u8; ROWS], o: usize, a: [u8; LANES])
+    requires { ⌜ o + 16 ≤ 272 ⌝ }
+    ensures { λ _. ⌜ Added wide o a (now (f .entry)) (now (f .exit)) ⌝ }
+{
+    let f = &mut f[..];
+    let mut i: usize = 0;
+    while i < LANES {
+        f[o + i] = field::sum(f[o + i], a[i]);
+        i += 1;
+    }
+}
+
+// Adds row d to the rows that the taps name.
+fn fold_row(f: &mut [u8; ROWS], d: usize, taps: &[usize])
+    requires { ⌜ (8 ≤ d) × (d ≤ 16) × ((j : ℕ) → j < length (now taps) → getD (now taps) j 0 < 8) ⌝ }
+    ensures { λ _. ⌜ RowFolded d (now (taps .entry)) (now (f .entry)) (now (f .exit)) ⌝ }
+{
+    let a = lanes::load(f, 16 * d);
+    let mut j: usize = 0;
+    while j < taps.len() {
+        add(f, 16 * (d - 8 + taps[j]), a);
+        j += 1;
+    }
+}
+
+// 8 rows that are worth as much as 17 where y^8 is the sum of the powers that the taps name.
+fn fold(rows: &[u8; ROWS], taps: &[usize]) -> [u8; ROWS]
+    requires { ⌜ ((j : ℕ) → j < length (now taps) → getD (now taps) j 0 < 8) ⌝ }
+    ensures { λ r. ⌜ Folded 8 (now (taps .entry)) (now (rows .entry)) r ⌝ }
+{
+    let mut f = *rows;
+    let mut d: usize = 17;
+    while 8 < d {
+        d -= 1;
+        fold_row(&mut f, d, taps);
+    }
+    f
+}
+
+// One turn of Horner's rule at α^k, for 16 columns.
+fn ahead(a: [u8; LANES], powers: &[u8; LAID], k: usize, f: &[u8; ROWS], o: usize) -> [u8; LANES]
+    requires { ⌜ Laid (now powers) × (k + 8 ≤ laid) × (o + 16 ≤ 272) ⌝ }
+    ensures { λ r. ⌜ Stepped k 0 a (now (f .entry)) o r ⌝ }
+{
+    let mut b = [0u8; LANES];
+    let mut i: usize = 0;
+    while i < LANES {
+        b[i] = field::sum(field::product_at(powers, k, a[i]), f[o + i]);
+        i += 1;
+    }
+    b
+}
+
+// The values at α^k of 16 columns of n rows, by Horner's rule.
+fn column(f: &[u8; ROWS], n: usize, k: usize, powers: &[u8; LAID]) -> [u8; LANES]
+    requires { ⌜ Laid (now powers) × (k + 8 ≤ laid) × (0 < n) × (n ≤ 17) ⌝ }
+    ensures { λ r. ⌜ Evaluated n k 0 (now (f .entry)) 16 0 r ⌝ }
+{
+    let mut d = n - 1;
+    let mut a = lanes::load(f, 16 * d);
+    while 0 < d {
+        d -= 1;
+        let b = ahead(a, powers, k, f, 16 * d);
+        a = b;
+    }
+    a
+}
+
+// Lane i of a becomes entry r of the row of column 14 - i.
+fn spread(a: [u8; LANES], r: usize, v: &mut [u8; VALUES])
+    requires { ⌜ r < 48 ⌝ }
+    ensures { λ _. ⌜ Spread 15 r a (now (v .entry)) (now (v .exit)) ⌝ }
+{
+    let v = &mut v[..];
+    let mut i: usize = 0;
+    while i < 15 {
+        v[48 * (14 - i) + r] = a[i];
+        i += 1;
+    }
+}
+
+// The columns' values at α^(15 r) are filled in, where r is up to m.
+fn fill(f: &[u8; ROWS], n: usize, r: usize, m: usize, powers: &[u8; LAID], v: &mut [u8; VALUES])
+    requires { ⌜ Laid (now powers) × (0 < n) × (n ≤ 17) × (r ≤ 16) ⌝ }
+    ensures { λ _. ⌜ Filling n (now (f .entry)) 1 (λ _. r) m (now (v .entry)) (now (v .exit)) ⌝ }
+{
+    if r <= m {
+        spread(column(f, n, 15 * r, powers), r, v);
+    }
+}
+
+// The same for each of the roots.
+fn fill_all(f: &[u8; ROWS], n: usize, roots: &[usize], m: usize, powers: &[u8; LAID], v: &mut [u8; VALUES])
+    requires { ⌜ Laid (now powers) × (0 < n) × (n ≤ 17) × ((j : ℕ) → j < length (now roots) → getD (now roots) j 0 ≤ 16) ⌝ }
+    ensures { λ _. ⌜ Filling n (now (f .entry)) (length (now (roots .entry))) (λ j. getD (now (roots .entry)) j 0) m (now (v .entry)) (now (v .exit)) ⌝ }
+{
+    let mut j: usize = 0;
+    while j < roots.len() {
+        fill(f, n, roots[j], m, powers, v);
+        j += 1;
+    }
+}
+
+// Entries 0 to 15 of each row are repeated from entry 17 on: α^(15 r) comes round after 17.
+fn repeat(v: &mut [u8; VALUES])
+    ensures { λ _. ⌜ Repeated 15 (now (v .entry)) (now (v .exit)) ⌝ }
+{
+    let mut q: usize = 0;
+    while q < 15 {
+        let a = lanes::load(v, 48 * q);
+        octets::write(v, 48 * q + 17, &a);
+        q += 1;
+    }
+}
