@@ -35,7 +35,7 @@ module _ (𝓕 : Field) where
   ev-split (suc m) n f x =
       let e : suc m + n ≡ suc (m + n) = omega arith in
       let t : ev 𝓕 n (λ k. tl f (m + k)) x ≡ ev 𝓕 n (λ k. f (suc m + k)) x =
-          ev-local 𝓕 n _ _ x (λ k l. tl-at 𝓕 f (m + k) ∙ ap f (omega arith)) in
+      ev-local 𝓕 n _ _ x (λ k l. tl-at 𝓕 f (m + k) ∙ ap f (omega arith)) in
       rw (e, ev-suc 𝓕 (m + n) f x, ev-suc 𝓕 m f x, ev-split m n (tl f) x, t, pow-suc 𝓕 x m) (simp ring)
 
   pub ev-snoc : (n : ℕ) (f : Series 𝓕) (x : F) → ev 𝓕 (suc n) f x ≡ ev 𝓕 n f x ⊕ f n ⊙ pow 𝓕 x n
@@ -54,11 +54,11 @@ module _ (𝓕 : Field) where
       let rest : Series 𝓕 = λ q. ev 𝓕 r (λ d. later (c * d + q)) y in
       let e : c * suc r ≡ c + c * r = omega (arith, mul-suc c r) in
       let column : (q : ℕ) → q < c → (f ⊞ y ⊡ rest) q ≡ ev 𝓕 (suc r) (λ d. f (c * d + q)) y = λ q l.
-          ⊞-at 𝓕 f (y ⊡ rest) q
-          ∙ ap₂ (λ (a b : F). a ⊕ b) (ap f (rw (mul-zero c) (sym (zero-add q))))
-          (⊡-at 𝓕 y rest q ∙ ap (λ (a : F). y ⊙ a)
-          (ev-local 𝓕 r _ _ y (λ d m. ap f (omega (arith, mul-suc c d)) ∙ sym (tl-at 𝓕 _ d))))
-          ∙ sym (ev-suc 𝓕 r (λ d. f (c * d + q)) y) in
+      ⊞-at 𝓕 f (y ⊡ rest) q
+      ∙ ap₂ (λ (a b : F). a ⊕ b) (ap f (rw (mul-zero c) (sym (zero-add q))))
+      (⊡-at 𝓕 y rest q ∙ ap (λ (a : F). y ⊙ a)
+      (ev-local 𝓕 r _ _ y (λ d m. ap f (omega (arith, mul-suc c d)) ∙ sym (tl-at 𝓕 _ d))))
+      ∙ sym (ev-suc 𝓕 r (λ d. f (c * d + q)) y) in
       rw (e, ev-split c (c * r) f x, ev-rows c r later x)
       (sym (ev-⊞ 𝓕 c f (y ⊡ rest) x ∙ ap (λ (a : F). ev 𝓕 c f x ⊕ a) (ev-⊡ 𝓕 c y rest x)) ∙ ev-local 𝓕 c _ _ x column)
 
@@ -66,11 +66,16 @@ module _ (𝓕 : Field) where
       → ev 𝓕 n g x ≡ ev 𝓕 n f x ⊕ a ⊙ pow 𝓕 x b
   ev-added zero b a f g x l e s = absurd (omega arith)
   ev-added (suc n) zero a f g x l e s =
-      rw (ev-suc 𝓕 n g x, ev-suc 𝓕 n f x, e, pow-zero,
-      ev-local 𝓕 n (tl g) (tl f) x (λ k m. tl-at 𝓕 g k ∙ s (suc k) (omega arith) ∙ sym (tl-at 𝓕 f k))) (simp ring)
+      rw (
+        ev-suc 𝓕 n g x,
+        ev-suc 𝓕 n f x,
+        e,
+        pow-zero,
+        ev-local 𝓕 n (tl g) (tl f) x (λ k m. tl-at 𝓕 g k ∙ s (suc k) (omega arith) ∙ sym (tl-at 𝓕 f k)),
+      ) (simp ring)
   ev-added (suc n) (suc b) a f g x l e s =
       let t = ev-added n b a (tl f) (tl g) x (omega arith) (tl-at 𝓕 g b ∙ e ∙ ap (λ (y : F). y ⊕ a) (sym (tl-at 𝓕 f b)))
-          (λ k m. tl-at 𝓕 g k ∙ s (suc k) (λ j. m (omega arith)) ∙ sym (tl-at 𝓕 f k)) in
+      (λ k m. tl-at 𝓕 g k ∙ s (suc k) (λ j. m (omega arith)) ∙ sym (tl-at 𝓕 f k)) in
       rw (ev-suc 𝓕 n g x, ev-suc 𝓕 n f x, s 0 (omega arith), t, pow-suc 𝓕 x b) (simp ring)
 
   pub terms-zero : (t : ℕ → ℕ) (x : F) → terms 𝓕 0 t x ≡ 𝟘

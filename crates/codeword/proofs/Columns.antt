@@ -4,6 +4,7 @@
 --   lanes-next                   .. and one more
 --   RowsLaid n w f               n rows of f have octets of w, row d those from 15 (16 - d) on
 --   rows-next                    .. and one more
+--   rows-are                     .. of a word with zeros in front
 --   added-start, added-next      octets added, one after another
 --   Step k j a f o i x           x is what a turn of Horner's rule makes of lane i
 --   step-lane                    .. worked out
@@ -27,14 +28,17 @@ use lib.Seq.{getD-set-same, getD-set-other}
 use Rattle.algebra.specs.Field.{Field}
 use Rattle.algebra.specs.Series.{Series}
 use Rattle.algebra.specs.Power.{pow}
+use Rattle.algebra.specs.Polynomial.{polynomial}
 use Rattle.algebra.specs.Value.{ev, from, terms}
-use Rattle.algebra.proofs.Laws.{ring, ⊕-comm, ev-zero, from-zero, horner, ev-snoc, ev-added, terms-zero, terms-suc, pow-add}
+use Rattle.algebra.proofs.Laws.{ring, ⊕-comm, ev-zero, from-zero, horner, ev-snoc, ev-added, terms-zero, terms-suc, pow-add, polynomial-at}
 use Rattle.octets.specs.Written.{written, written-inside, written-outside}
 use Rattle.field.specs.Octet as Octet
 use Rattle.codeword.specs.Element.{elements, element, α}
-use Rattle.codeword.specs.Element.Laws.{element-sum, element-product, element-power}
-use Rattle.codeword.specs.Rows.{lanes, Loaded, Added, spaced, Stepped, Evaluated, Folding, RowFolded, Folded}
+use Rattle.codeword.specs.Element.Laws.{element-sum, element-product, element-power, element-zero}
+use Rattle.codeword.specs.CodeWord.{longestWord, word}
+use Rattle.codeword.specs.Rows.{lanes, Loaded, Added, spaced, Stepped, Evaluated, column, RowsAre, Folding, RowFolded, Folded}
 use Rattle.codeword.proofs.Arrays.{set-below}
+use Rattle.codeword.proofs.Word.{word-length, word-at, below-word}
 
 infixl 60 _⊕_
 infixl 70 _⊙_
@@ -59,6 +63,35 @@ rows-next n w f a room h old d i l m = go (ℕ-discrete d n)
     go : Dec (d ≡ n) → getD (written f (16 * n) a) (16 * d + i) 0 ≡ getD w (15 * (16 - d) + i) 0
     go (yes e) = rw e (written-inside f (16 * n) a fits i 0 (omega (arith, h .long)) ∙ h .used i m)
     go (no e) = written-outside f (16 * n) a fits (16 * d + i) 0 (inl (omega arith)) ∙ old d i (omega arith) m
+
+-- a word with zeros in front has its polynomial's coefficients, from the last octet on
+padded-at : (d w : List ℕ) → ((i : ℕ) → getD d i 0 ≡ 0) → length d ≡ 256 → length w ≤ longestWord → (i : ℕ) → i < longestWord
+    → element (getD (written d (longestWord - length w) w) (254 - i) 0) ≡ polynomial elements (word w) i
+padded-at d w zero-d long h i l = go (decLt i (length w))
+  where
+    at : ℕ
+    at = longestWord - length w
+
+    fits : at + length w ≤ length d
+    fits = omega arith
+
+    go : Dec (i < length w) → element (getD (written d at w) (254 - i) 0) ≡ polynomial elements (word w) i
+    go (yes m) =
+        let e : 254 - i ≡ at + (length w - suc i) = omega arith in
+        ap element (ap (λ (n : ℕ). getD (written d at w) n 0) e ∙ written-inside d at w fits (length w - suc i) 0 (omega arith))
+        ∙ sym (polynomial-at elements (word w) i (omega (arith, word-length w)) ∙ (rw (word-length w) (word-at w (length w - suc i))))
+    go (no m) =
+        ap element (written-outside d at w fits (254 - i) 0 (inl (omega arith)) ∙ zero-d (254 - i)) ∙ element-zero
+        ∙ sym (below-word w i (omega arith))
+
+pub rows-are : (d w f : List ℕ) → ((i : ℕ) → getD d i 0 ≡ 0) → length d ≡ 256 → length w ≤ longestWord
+    → RowsLaid 17 (written d (longestWord - length w) w) f → RowsAre w f
+unfolding column
+rows-are d w f zero-d long h laid = record {
+  used = λ d′ p l m.
+      let e : 15 * (16 - d′) + p ≡ 254 - (15 * d′ + (14 - p)) = omega arith in
+      ap element (laid d′ p l (omega arith)) ∙ (rw e (padded-at d w zero-d long h (15 * d′ + (14 - p)) (omega arith)));
+}
 
 pub added-start : {o : ℕ} {a f : List ℕ} → Added 0 o a f f
 added-start = record { long = refl; done = λ i l. absurd (omega arith); left = λ k l. refl }

@@ -2,8 +2,10 @@ pub mod Counting
 pub mod Arrays
 pub mod Word
 pub mod Criterion
-pub mod Absorbing
 pub mod Columns
+pub mod Filling
+pub mod Folds
+pub mod Joining
 pub mod Distance
 pub mod Register
 pub mod Parity

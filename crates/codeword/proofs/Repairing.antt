@@ -48,7 +48,7 @@ use Rattle.codeword.proofs.Word.{places-at, locators-distinct, locators
 use Rattle.codeword.proofs.Criterion.{codeWord-zero, zero-codeWord}
 use Rattle.codeword.proofs.Counting.{placesExactly, changed-none}
 use Rattle.codeword.proofs.Distance.{element-same, difference, distance-weight, distance-self, difference-value}
-use Rattle.codeword.proofs.Absorbing.{zero-syndromes}
+use Rattle.codeword.proofs.Joining.{zero-syndromes}
 use Rattle.codeword.proofs.Systematic.{octets-take}
 
 infixl 60 _⊕_

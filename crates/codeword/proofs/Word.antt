@@ -3,6 +3,7 @@
 --   word-length, word-at, word-append     the octets as elements
 --   word-same                             two words of octets with the same elements are equal
 --   places-at, places-tl, inverses-at     the series of specs/Places.antt
+--   pow-wrap                              a power of α depends on the exponent modulo the order
 --   locators-distinct, locators-inverse   for n up to the longest word
 --   below-word                            the degree of a word's polynomial
 --   value-none, value-cons, value-snoc    its value, an octet at a time
@@ -11,7 +12,7 @@
 -- Assumes nothing.
 use mathlib.Core.Path.{_≡_, refl, sym, ap, ap₂, fun-ext, _∙_}
 use mathlib.Core.List.{List, [], _∷_, _++_}
-use Prim.Native.Nat.{ℕ, zero, suc, _+_, _-_, _≤_}
+use Prim.Native.Nat.{ℕ, zero, suc, _+_, _-_, _%_, _≤_}
 use native.Mathlib.Omega.{arith}
 use lib.ListN.{length, getD, length-map, length-append}
 use lib.Seq.{ext-getD}
@@ -26,7 +27,7 @@ use Rattle.algebra.specs.PowerSum.{psum}
 use Rattle.algebra.proofs.Laws.{ev-monomial, ring, ev-zero, ev-⊞, ev-more, polynomial-cons, below-polynomial, pow-zero}
 use Rattle.algebra.proofs.Laws.{pow-suc, psum-zero, psum-suc, pow-add, pow-times}
 use Rattle.field.specs.Octet.{order}
-use Rattle.field.specs.Octet.Laws.{powers-distinct, alpha-around}
+use Rattle.field.specs.Octet.Laws.{powers-distinct, alpha-around, power-wrap}
 use Rattle.codeword.specs.Element.{elements, element, octet, α}
 use Rattle.codeword.specs.Element.Laws.{octet-element, octet-same, octet-pow, octet-one, element-zero}
 use Rattle.codeword.specs.CodeWord.{longestWord, word, Octets}
@@ -71,6 +72,9 @@ inverses-at n p = refl
 
 α-around : pow elements α order ≡ 𝟙
 α-around = octet-same _ _ (octet-pow order ∙ alpha-around ∙ sym octet-one)
+
+pub pow-wrap : (k : ℕ) → pow elements α (k % order) ≡ pow elements α k
+pow-wrap k = octet-same _ _ (octet-pow (k % order) ∙ power-wrap k ∙ sym (octet-pow k))
 
 pub locators-inverse : (n : ℕ) → n ≤ longestWord → Inverses elements n (locators n) (inverses n)
 unfolding locators inverses

@@ -16,7 +16,8 @@
 --   Filled w r v              entries r, 48 + r, .. of v are the values of the columns of w at α^15r
 --   Worth w n r f             n rows of f are worth at α^15r what the columns of w are
 --   Filling n f c roots m v u   u is v with the values of the n rows of f filled in, at each α^15r for those of the c roots r that are up to m
---   Repeated n v u            in n rows of v entries 0 to 15 are repeated from entry 17 on
+--   Repeated n v u            in n rows of v entries 1 to 16 are repeated from entry 18 on
+--   ValuesAre m w v           the values of the columns of w are filled in up to m, and twice round
 --
 -- Assumes nothing.
 use mathlib.Core.Path.{_≡_}
@@ -90,5 +91,8 @@ pub record Filling (n : ℕ) (f : List ℕ) (count : ℕ) (roots : ℕ → ℕ) 
 
 pub record Repeated (n : ℕ) (v u : List ℕ) : Type 0 where
   pub long : length u ≡ length v
-  pub behind : (q i : ℕ) → q < n → i < lanes → getD u (48 * q + 17 + i) 0 ≡ getD v (48 * q + i) 0
-  pub left : (q i : ℕ) → i < 17 → getD u (48 * q + i) 0 ≡ getD v (48 * q + i) 0
+  pub behind : (q i : ℕ) → q < n → i < lanes → getD u (48 * q + 18 + i) 0 ≡ getD v (48 * q + 1 + i) 0
+  pub left : (q i : ℕ) → i < 18 → getD u (48 * q + i) 0 ≡ getD v (48 * q + i) 0
+
+abbrev pub ValuesAre : ℕ → List ℕ → List ℕ → Type 0
+ValuesAre m w v = (r : ℕ) → 0 < r → r < 33 → r ≤ m → Filled w r v

@@ -1,8 +1,6 @@
 -- What the syndrome step answers.
 --
 --   SyndromesAre m w s        s₀, .., s₍ₘ₋₁₎ are the values of w's polynomial at α, .., αᵐ, and the rest is zero
---   PointsAre m x             x₀, .., x₍ₘ₋₁₎ are α, .., αᵐ
---   Absorbed m a x s t        one octet a of the word taken in: each s becomes x s + a
 --   Decodable e w before s    what decoding is given: a word of the code's lengths, the room for it and for e places, and its syndromes
 --   allZero m s               s₀, .., s₍ₘ₋₁₎ are zero
 --
@@ -14,20 +12,10 @@ use Prim.Native.Nat.{ℕ, zero, suc, _*_, _≤_, _<_}
 use lib.Dec.{eqb}
 use lib.ListN.{length, getD}
 use Rattle.algebra.specs.Power.{pow}
-use Rattle.field.specs.Octet as Octet
 use Rattle.codeword.specs.Element.{elements, element, α}
 use Rattle.codeword.specs.CodeWord.{longestWord}
 use Rattle.codeword.specs.Places.{value}
 use Rattle.codeword.specs.Repair.{RepairLent}
-
-pub record PointsAre (m : ℕ) (x : List ℕ) : Type 0 where
-  pub long : length x ≡ longestWord
-  pub used : (i : ℕ) → i < m → element (getD x i 0) ≡ pow elements α (suc i)
-
-pub record Absorbed (m a : ℕ) (x s t : List ℕ) : Type 0 where
-  pub long : length t ≡ length s
-  pub used : (i : ℕ) → i < m → getD t i 0 ≡ Octet.sum (Octet.product (getD x i 0) (getD s i 0)) a
-  pub unused : (i : ℕ) → m ≤ i → getD t i 0 ≡ getD s i 0
 
 pub record SyndromesAre (m : ℕ) (w s : List ℕ) : Type 0 where
   pub used : (i : ℕ) → i < m → element (getD s i 0) ≡ value w (pow elements α (suc i))

@@ -7,6 +7,7 @@
 // For r from 1 to 16, y = α^(15 r) is a root of y^8 + y^7 + y^6 + y^4 + y^2 + y + 1 or of y^8 + y^5 + y^4 + y^3 + 1. So y^8 is a sum of
 // lower powers, the taps: row d can be added to the rows that stand for y^(d - 8) times these, and be dropped; no column's value at y
 // changes, and 17 rows become 8.
+use crate::LONGEST_WORD;
 use crate::lanes;
 use crate::lanes::LANES;
 use field::LAID;
@@ -15,7 +16,7 @@ ghost use Prim.Native.Nat.{ℕ, _+_, _-_, _*_, _≤_, _<_};
 ghost use lib.ListN.{length, getD};
 ghost use Rattle.field.specs.Octet.Table.{laid, Laid};
 ghost use Rattle.codeword.specs.CodeWord.{longestWord};
-ghost use Rattle.codeword.specs.Rows.{lanes as wide, Loaded, Added, Stepped, Evaluated, RowsAre, RowFolded, Folded, Spread, Filled, Filling, Repeated};
+ghost use Rattle.codeword.specs.Rows.{lanes as wide, Loaded, Added, Stepped, Evaluated, RowsAre, RowFolded, Folded, Spread, Filled, Filling, Repeated, ValuesAre};
 
 // 17 rows of 16 octets, of which 15 count.
 const ROWS: usize = 272;
@@ -106,7 +107,7 @@ fn column(f: &[u8; ROWS], n: usize, k: usize, powers: &[u8; LAID]) -> [u8; LANES
     a
 }
 
-// Lane i of a becomes entry r of the row of column 14 - i.
+// Lane i of a becomes entry r of row 14 - i.
 fn spread(a: [u8; LANES], r: usize, v: &mut [u8; VALUES])
     requires { ⌜ r < 48 ⌝ }
     ensures { λ _. ⌜ Spread 15 r a (now (v .entry)) (now (v .exit)) ⌝ }
@@ -121,7 +122,7 @@ fn spread(a: [u8; LANES], r: usize, v: &mut [u8; VALUES])
 
 // The columns' values at α^(15 r) are filled in, where r is up to m.
 fn fill(f: &[u8; ROWS], n: usize, r: usize, m: usize, powers: &[u8; LAID], v: &mut [u8; VALUES])
-    requires { ⌜ Laid (now powers) × (0 < n) × (n ≤ 17) × (r ≤ 16) ⌝ }
+    requires { ⌜ Laid (now powers) × (0 < n) × (n ≤ 17) × (r < 18) ⌝ }
     ensures { λ _. ⌜ Filling n (now (f .entry)) 1 (λ _. r) m (now (v .entry)) (now (v .exit)) ⌝ }
 {
     if r <= m {
@@ -130,8 +131,15 @@ fn fill(f: &[u8; ROWS], n: usize, r: usize, m: usize, powers: &[u8; LAID], v: &m
 }
 
 // The same for each of the roots.
-fn fill_all(f: &[u8; ROWS], n: usize, roots: &[usize], m: usize, powers: &[u8; LAID], v: &mut [u8; VALUES])
-    requires { ⌜ Laid (now powers) × (0 < n) × (n ≤ 17) × ((j : ℕ) → j < length (now roots) → getD (now roots) j 0 ≤ 16) ⌝ }
+fn fill_all(
+    f: &[u8; ROWS],
+    n: usize,
+    roots: &[usize],
+    m: usize,
+    powers: &[u8; LAID],
+    v: &mut [u8; VALUES],
+)
+    requires { ⌜ Laid (now powers) × (0 < n) × (n ≤ 17) × ((j : ℕ) → j < length (now roots) → getD (now roots) j 0 < 18) ⌝ }
     ensures { λ _. ⌜ Filling n (now (f .entry)) (length (now (roots .entry))) (λ j. getD (now (roots .entry)) j 0) m (now (v .entry)) (now (v .exit)) ⌝ }
 {
     let mut j: usize = 0;
@@ -141,14 +149,40 @@ fn fill_all(f: &[u8; ROWS], n: usize, roots: &[usize], m: usize, powers: &[u8; L
     }
 }
 
-// Entries 0 to 15 of each row are repeated from entry 17 on: α^(15 r) comes round after 17.
+// Entries 1 to 16 of each row are repeated from entry 18 on: α^(15 r) comes round after 17.
 fn repeat(v: &mut [u8; VALUES])
     ensures { λ _. ⌜ Repeated 15 (now (v .entry)) (now (v .exit)) ⌝ }
 {
     let mut q: usize = 0;
     while q < 15 {
-        let a = lanes::load(v, 48 * q);
-        octets::write(v, 48 * q + 17, &a);
+        let a = lanes::load(v, 48 * q + 1);
+        octets::write(v, 48 * q + 18, &a);
         q += 1;
     }
+}
+
+// The rows of a word.
+fn rows_of(word: &[u8]) -> [u8; ROWS]
+    requires { ⌜ length (now word) ≤ longestWord ⌝ }
+    ensures { λ r. ⌜ RowsAre (now (word .entry)) r ⌝ }
+{
+    let mut w = [0u8; 256];
+    octets::write(&mut w, LONGEST_WORD - word.len(), word);
+    lay(&w)
+}
+
+// The values of the word's columns at α^15, α^30, .., as far as m syndromes ask for them.
+pub(crate) fn values(word: &[u8], m: usize, powers: &[u8; LAID]) -> [u8; VALUES]
+    requires { ⌜ (length (now word) ≤ longestWord) × Laid (now powers) ⌝ }
+    ensures { λ r. ⌜ ValuesAre m (now (word .entry)) r ⌝ }
+{
+    let rows = rows_of(word);
+    let mut v = [0u8; VALUES];
+    let f = fold(&rows, &[0, 1, 2, 4, 6, 7]);
+    fill_all(&f, 8, &[1, 2, 4, 8, 9, 13, 15, 16], m, powers, &mut v);
+    let g = fold(&rows, &[0, 3, 4, 5]);
+    fill_all(&g, 8, &[3, 5, 6, 7, 10, 11, 12, 14], m, powers, &mut v);
+    fill_all(&rows, 17, &[17], m, powers, &mut v);
+    repeat(&mut v);
+    v
 }

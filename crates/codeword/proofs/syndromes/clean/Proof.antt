@@ -4,7 +4,7 @@ use Prim.Native.Nat.{_-_, _≤_}
 use native.Mathlib.Omega.{arith}
 use mathlib.Core.Bool.{true}
 use mathlib.Core.Path.{_≡_, sym}
-use Rattle.codeword.proofs.Absorbing.{allZero-none, allZero-more, allZero-not}
+use Rattle.codeword.proofs.Joining.{allZero-none, allZero-more, allZero-not}
 use Rattle.codeword.specs.Syndromes.{allZero}
 use Rattle.codeword.proofs.syndromes.clean.Statement.{statement}
 use Rattle.codeword.proofs.syndromes.clean.Tie as tie

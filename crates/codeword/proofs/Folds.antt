@@ -1,0 +1,217 @@
+-- The two polynomials of which the roots are α^15r, and the columns' values at all of these.
+--
+--   residues, others                the taps of y⁸ = y⁷ + y⁶ + y⁴ + y² + y + 1, and of y⁸ = y⁵ + y⁴ + y³ + 1
+--   residue-roots, other-roots      the r of which α^15r is a root of the one, and of the other
+--   residues-small, others-small,   .. as small as the code asks them to be
+--   residue-roots-small, other-roots-small, last-root-small
+--   values-are                      all the values are filled in
+--
+-- That these are roots is worked out for each. Assumes nothing.
+use mathlib.Core.Path.{_≡_, refl, sym, ap, ap₂, _∙_}
+use mathlib.Core.Bool.{Bool}
+use mathlib.Core.List.{List, [], _∷_, _++_}
+use Prim.Native.Nat.{ℕ, zero, suc, _+_, _-_, _*_, _%_, _≤_, _<_}
+use native.Mathlib.Omega.{arith}
+use native.Mathlib.Decide.{decLt}
+use lib.Bits.{bitXor}
+use lib.Dec.{T, eqb, eqb→eq, ltb, ltb→lt, lit<}
+use lib.ListN.{length, getD, List·getD-append}
+use lib.Seq.{getD-append-add}
+use Rattle.octets.specs.Every.{every, every-at}
+use Rattle.algebra.specs.Field.{Field}
+use Rattle.algebra.specs.Power.{pow}
+use Rattle.algebra.specs.Value.{ev, terms}
+use Rattle.algebra.proofs.Laws.{ev-local, terms-zero, terms-suc, pow-pow}
+use Rattle.field.specs.Octet as Octet
+use Rattle.field.specs.Octet.Laws.{power-zero, power-suc, power-wrap, sum-xor}
+use Rattle.field.specs.Octet.Table.{worked, worked-is}
+use Rattle.codeword.specs.Element.{elements, element, α}
+use Rattle.codeword.specs.Element.Laws.{element-power, element-sum, element-zero}
+use Rattle.codeword.specs.Rows.{lanes, spaced, column, RowsAre, Folding, Folded, Worth, Filled, Filling, Repeated, ValuesAre}
+use Rattle.codeword.proofs.Columns.{spaced-at}
+use Rattle.codeword.proofs.Filling.{repeated-stays, repeated-filled}
+
+infixl 60 _⊕_
+open Field elements using (Carrier as F, add as _⊕_)
+
+abbrev pub residues : List ℕ
+residues = 0 ∷ 1 ∷ 2 ∷ 4 ∷ 6 ∷ 7 ∷ []
+
+abbrev pub residue-roots : List ℕ
+residue-roots = 1 ∷ 2 ∷ 4 ∷ 8 ∷ 9 ∷ 13 ∷ 15 ∷ 16 ∷ []
+
+abbrev pub others : List ℕ
+others = 0 ∷ 3 ∷ 4 ∷ 5 ∷ []
+
+abbrev pub other-roots : List ℕ
+other-roots = 3 ∷ 5 ∷ 6 ∷ 7 ∷ 10 ∷ 11 ∷ 12 ∷ 14 ∷ []
+
+isSmall : List ℕ → ℕ → ℕ → Bool
+isSmall l n j = ltb (getD l j 0) n
+
+areSmall : List ℕ → ℕ → Bool
+areSmall l n = every (isSmall l n) (length l)
+
+small-at : (l : List ℕ) (n : ℕ) → T (areSmall l n) → (j : ℕ) → j < length l → getD l j 0 < n
+unfolding areSmall isSmall
+small-at l n h j k = ltb→lt _ _ (every-at (isSmall l n) (length l) h j k)
+
+pub residues-small : (j : ℕ) → j < 6 → getD residues j 0 < 8
+unfolding areSmall isSmall
+residues-small j l = small-at residues 8 tt j l
+
+pub others-small : (j : ℕ) → j < 4 → getD others j 0 < 8
+unfolding areSmall isSmall
+others-small j l = small-at others 8 tt j l
+
+pub residue-roots-small : (j : ℕ) → j < 8 → getD residue-roots j 0 < 18
+unfolding areSmall isSmall
+residue-roots-small j l = small-at residue-roots 18 tt j l
+
+pub other-roots-small : (j : ℕ) → j < 8 → getD other-roots j 0 < 18
+unfolding areSmall isSmall
+other-roots-small j l = small-at other-roots 18 tt j l
+
+pub last-root-small : (j : ℕ) → j < 1 → getD (17 ∷ []) j 0 < 18
+unfolding areSmall isSmall
+last-root-small j l = small-at (17 ∷ []) 18 tt j l
+
+-- ---- powers that can be computed
+
+unfoldable powered : ℕ → ℕ
+powered zero = 1
+powered (suc k) = worked Octet.α (powered k)
+
+powered-is : (k : ℕ) → powered k ≡ Octet.power Octet.α k
+unfolding powered
+powered-is zero = sym (power-zero Octet.α)
+powered-is (suc k) = worked-is Octet.α _ ∙ ap (Octet.product Octet.α) (powered-is k) ∙ sym (power-suc Octet.α k)
+
+-- α^15r to the t
+term : ℕ → ℕ → ℕ
+term r t = powered (15 * r * t % Octet.order)
+
+term-is : (r t : ℕ) → element (term r t) ≡ pow elements (pow elements α (15 * r)) t
+unfolding term
+term-is r t =
+    ap element (powered-is (15 * r * t % Octet.order) ∙ power-wrap (15 * r * t)) ∙ element-power (15 * r * t) ∙ sym (pow-pow elements α (15 * r) t)
+
+summed : List ℕ → ℕ → ℕ → ℕ
+summed t r zero = 0
+summed t r (suc n) = bitXor (summed t r n) (term r (getD t n 0))
+
+summed-is : (t : List ℕ) (r n : ℕ) → element (summed t r n) ≡ terms elements n (λ j. getD t j 0) (pow elements α (15 * r))
+unfolding summed
+summed-is t r zero = element-zero ∙ sym (terms-zero elements _ _)
+summed-is t r (suc n) =
+    ap element (sym (sum-xor (summed t r n) (term r (getD t n 0)))) ∙ element-sum _ _
+    ∙ ap₂ (λ (x y : F). x ⊕ y) (summed-is t r n) (term-is r (getD t n 0)) ∙ sym (terms-suc elements n _ _)
+
+isRoot : List ℕ → ℕ → Bool
+isRoot t r = eqb (term r 8) (summed t r (length t))
+
+root-folding : (t : List ℕ) (r : ℕ) → T (isRoot t r) → Folding t (pow elements α (15 * r))
+unfolding isRoot
+root-folding t r h = sym (term-is r 8) ∙ ap element (eqb→eq _ _ h) ∙ summed-is t r (length t)
+
+areRoots : List ℕ → List ℕ → Bool
+areRoots t roots = every (λ j. isRoot t (getD roots j 0)) (length roots)
+
+roots-folding : (t roots : List ℕ) → T (areRoots t roots) → (j : ℕ) → j < length roots → Folding t (pow elements α (15 * getD roots j 0))
+unfolding areRoots
+roots-folding t roots h j l = root-folding t (getD roots j 0) (every-at (λ j. isRoot t (getD roots j 0)) (length roots) h j l)
+
+residues-fold : T (areRoots residues residue-roots)
+unfolding areRoots isRoot summed term powered worked
+residues-fold = tt
+
+others-fold : T (areRoots others other-roots)
+unfolding areRoots isRoot summed term powered worked
+others-fold = tt
+
+-- ---- the columns' values
+
+module _ {w rows : List ℕ} (are : RowsAre w rows) where
+  rows-worth : (p : ℕ) (y : F) → p < 15 → ev elements 17 (spaced rows 16 p) y ≡ ev elements 17 (column w (14 - p)) y
+  rows-worth p y l = ev-local elements 17 _ _ y (λ d m. spaced-at rows 16 p d (16 * d + p) refl ∙ are .used d p m l)
+
+  unfolded-worth : (r : ℕ) → Worth w 17 r rows
+  unfolded-worth r = record { worth = λ p l. rows-worth p _ l }
+
+  folded-worth : {t f : List ℕ} (r : ℕ) → Folded 8 t rows f → Folding t (pow elements α (15 * r)) → Worth w 8 r f
+  folded-worth r h root = record { worth = λ p l. h .worth p _ (omega arith) root ∙ rows-worth p _ l }
+
+-- the roots in the order in which they are filled in, and where each stands in it
+order-filled : List ℕ
+order-filled = residue-roots ++ (other-roots ++ 17 ∷ [])
+
+places-filled : List ℕ
+places-filled = 0 ∷ 0 ∷ 1 ∷ 8 ∷ 2 ∷ 9 ∷ 10 ∷ 11 ∷ 3 ∷ 4 ∷ 12 ∷ 13 ∷ 14 ∷ 5 ∷ 15 ∷ 6 ∷ 7 ∷ 16 ∷ []
+
+place : ℕ → ℕ
+place r = getD places-filled r 0
+
+place-small : (r : ℕ) → r < 18 → place r < 17
+unfolding place places-filled areSmall isSmall
+place-small r l = small-at places-filled 17 tt r l
+
+isPlaced : ℕ → Bool
+isPlaced r = eqb (getD order-filled (place (suc r)) 0) (suc r)
+
+all-placed : T (every isPlaced 17)
+unfolding isPlaced order-filled places-filled place
+all-placed = tt
+
+placed : (r : ℕ) → r < 17 → getD order-filled (place (suc r)) 0 ≡ suc r
+unfolding isPlaced
+placed r l = eqb→eq _ _ (every-at isPlaced 17 all-placed r l)
+
+module _ {m : ℕ} {w rows f g v₀ v₁ v₂ v₃ : List ℕ} (are : RowsAre w rows)
+    (f-is : Folded 8 residues rows f) (one : Filling 8 f 8 (λ j. getD residue-roots j 0) m v₀ v₁)
+    (g-is : Folded 8 others rows g) (two : Filling 8 g 8 (λ j. getD other-roots j 0) m v₁ v₂)
+    (three : Filling 17 rows 1 (λ j. getD (17 ∷ []) j 0) m v₂ v₃) where
+  f-worth : (j : ℕ) → j < 8 → Worth w 8 (getD residue-roots j 0) f
+  f-worth j l = folded-worth are _ f-is (roots-folding residues residue-roots residues-fold j l)
+
+  g-worth : (j : ℕ) → j < 8 → Worth w 8 (getD other-roots j 0) g
+  g-worth j l = folded-worth are _ g-is (roots-folding others other-roots others-fold j l)
+
+  -- by the place of r in the order
+  by-place : (r j : ℕ) → getD order-filled j 0 ≡ r → j < 17 → r < 48 → r ≤ m → Filled w r v₃
+  unfolding order-filled
+  by-place r j e l s h = go (decLt j 8) (decLt j 16)
+    where
+      rest : List ℕ
+      rest = other-roots ++ 17 ∷ []
+
+      later : (i : ℕ) → j ≡ 8 + i → getD rest i 0 ≡ r
+      later i a = sym (ap (λ (n : ℕ). getD (residue-roots ++ rest) n 0) a ∙ getD-append-add residue-roots rest i 0) ∙ e
+
+      on : Filled w r v₂ → Filled w r v₃
+      on = three .stays w (λ j l. unfolded-worth are _) r s
+
+      go : Dec (j < 8) → Dec (j < 16) → Filled w r v₃
+      go (yes a) d =
+          let q : getD residue-roots j 0 ≡ r = sym (List·getD-append residue-roots rest 0 j a) ∙ e in
+          on (two .stays w g-worth r s (rw q at (one .filled w f-worth j a (rw q h))))
+      go (no a) (yes b) =
+          let q : getD other-roots (j - 8) 0 ≡ r = sym (List·getD-append other-roots (17 ∷ []) 0 (j - 8) (omega arith)) ∙ later (j - 8) (omega arith) in
+          on (rw q at (two .filled w g-worth (j - 8) (omega arith) (rw q h)))
+      go (no a) (no b) =
+          let z : j - 8 ≡ 8 = omega arith in
+          let q : 17 ≡ r = rw z at (later (j - 8) (omega arith)) in
+          rw q at (three .filled w (λ j l. unfolded-worth are _) 0 (lit< tt) (rw q h))
+
+  pub values-are : {u : List ℕ} → Repeated 15 v₃ u → ValuesAre m w u
+  values-are {u} h r a b e = go (decLt r 18)
+    where
+      low : (r : ℕ) → 0 < r → r < 18 → r ≤ m → Filled w r v₃
+      low r a b e =
+          let s : suc (r - 1) ≡ r = omega arith in
+          by-place r (place r) (rw s at (placed (r - 1) (omega arith))) (place-small r b) (omega arith) e
+
+      go : Dec (r < 18) → Filled w r u
+      go (yes l) = repeated-stays h l (low r a l e)
+      go (no l) =
+          let s : 18 + (r - 18) ≡ r = omega arith in
+          rw s at (repeated-filled (r - 18) h (omega arith) (low (1 + (r - 18)) (omega arith) (omega arith) (omega arith)))

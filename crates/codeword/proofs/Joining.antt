@@ -1,0 +1,125 @@
+-- The syndromes of a word, from the values of its columns.
+--
+--   value-rows                                   the value of a word's polynomial by its columns
+--   JoinedTo n m w s                             the first n of the m syndromes of w are there
+--   joined-start, joined-next, joined-done       .. 16 after 16
+--   first-is                                     the first octets of a list, and zeros behind them
+--   allZero-none, allZero-more, allZero-not      all of them zero, or not
+--   zero-syndromes                               a word whose syndromes are all zero is a code word
+--
+-- Assumes nothing.
+use mathlib.Core.Path.{_≡_, refl, sym, ap, ap₂, _∙_}
+use mathlib.Core.Logic.{inl, inr}
+use mathlib.Core.Bool.{Bool, true, false, cond}
+use mathlib.Core.List.{List}
+use Prim.Native.Nat.{ℕ, zero, suc, _+_, _-_, _*_, _%_, _≤_, _<_}
+use native.Mathlib.Numerals.{add-one}
+use native.Mathlib.Omega.{arith}
+use native.Mathlib.Decide.{ℕ-discrete, decLt}
+use native.Mathlib.Nat.{zero-add}
+use borrow.Author.Tests.{eqb-true, eq-eqb}
+use lib.Dec.{eqb}
+use lib.ListN.{length, getD, take}
+use lib.Seq.{getD-take, length-take-le}
+use Rattle.octets.specs.Tests.{never}
+use Rattle.octets.specs.Written.{written, written-length, written-inside, written-outside}
+use Rattle.algebra.specs.Power.{pow}
+use Rattle.algebra.specs.Polynomial.{polynomial}
+use Rattle.algebra.specs.Value.{ev}
+use Rattle.algebra.proofs.Laws.{ev-more, ev-local, ev-rows, pow-pow}
+use Rattle.field.specs.Octet as Octet
+use Rattle.codeword.specs.Element.{elements, element, α}
+use Rattle.codeword.specs.Element.Laws.{element-zero}
+use Rattle.codeword.specs.CodeWord.{longestWord, word, Octets, CodeWord}
+use Rattle.codeword.specs.Places.{value}
+use Rattle.codeword.specs.Rows.{lanes, spaced, column, Filled, Evaluated, ValuesAre}
+use Rattle.codeword.specs.Syndromes.{SyndromesAre, allZero}
+use Rattle.codeword.proofs.Word.{below-word, pow-wrap}
+use Rattle.codeword.proofs.Columns.{spaced-at}
+use Rattle.codeword.proofs.Criterion.{zero-codeWord}
+
+-- ---- columns
+
+pub value-rows : (w : List ℕ) (x : elements .Carrier) → length w ≤ longestWord
+    → value w x ≡ ev elements 15 (λ q. ev elements 17 (column w q) (pow elements x 15)) x
+unfolding value column
+value-rows w x h =
+    sym (ev-more elements (length w) longestWord (polynomial elements (word w)) x (below-word w) h)
+    ∙ ev-rows elements 15 17 (polynomial elements (word w)) x
+
+-- the value at x = αⁱ, from those of the columns at α^15r, where r is i modulo 17
+column-values : (w v : List ℕ) (i r : ℕ) → length w ≤ longestWord → 15 * r % Octet.order ≡ 15 * i % Octet.order → Filled w r v
+    → ev elements 15 (spaced v 48 r) (pow elements α i) ≡ value w (pow elements α i)
+column-values w v i r h e f =
+    let point : pow elements α (15 * r) ≡ pow elements (pow elements α i) 15 =
+    sym (pow-wrap (15 * r)) ∙ ap (pow elements α) e ∙ pow-wrap (15 * i) ∙ ap (pow elements α) (omega arith) ∙ sym (pow-pow elements α i 15) in
+    sym (value-rows w (pow elements α i) h
+    ∙ ev-local elements 15 _ _ _ (λ q l. sym (spaced-at v 48 r q (48 * q + r) refl ∙ f .used q l ∙ ap (ev elements 17 (column w q)) point)))
+
+pub record JoinedTo (n m : ℕ) (w s : List ℕ) : Type 0 where
+  pub used : (i : ℕ) → i < n → i < m → element (getD s i 0) ≡ value w (pow elements α (suc i))
+
+pub joined-next : (n : ℕ) {m : ℕ} {w v s a : List ℕ} → length w ≤ longestWord → n + lanes ≤ length s → ValuesAre m w v
+    → Evaluated 15 (n + 1) 1 v 48 (n % 17 + 1) a → JoinedTo n m w s → JoinedTo (n + lanes) m w (written s n a)
+joined-next n {m} {w} {v} {s} {a} h room values e old = record { used = λ i l k. go i l k (decLt i n) }
+  where
+    fits : n + length a ≤ length s
+    fits = omega (arith, e .long)
+
+    go : (i : ℕ) → i < n + lanes → i < m → Dec (i < n) → element (getD (written s n a) i 0) ≡ value w (pow elements α (suc i))
+    go i l k (yes b) = ap element (written-outside s n a fits i 0 (inl b)) ∙ old .used i b k
+    go i l k (no b) =
+        let j = i - n in
+        let at : i ≡ n + j = omega arith in
+        let point : n + 1 + 1 * j ≡ suc i = omega arith in
+        ap element (ap (λ (o : ℕ). getD (written s n a) o 0) at ∙ written-inside s n a fits j 0 (omega (arith, e .long)))
+        ∙ e .used j (omega arith)
+        ∙ (rw point (column-values w v (suc i) (n % 17 + 1 + j) h (omega arith) (values (n % 17 + 1 + j) (omega arith) (omega arith) (omega arith))))
+
+pub joined-start : {m : ℕ} {w s : List ℕ} → JoinedTo 0 m w s
+joined-start = record { used = λ i l. absurd (omega arith) }
+
+pub first-is : (s z : List ℕ) (m : ℕ) → m ≤ length s → m ≤ length z → ((i : ℕ) → getD z i 0 ≡ 0)
+    → ((i : ℕ) → i < m → getD (written z 0 (take m s)) i 0 ≡ getD s i 0) × ((i : ℕ) → m ≤ i → getD (written z 0 (take m s)) i 0 ≡ 0)
+first-is s z m ls lz zeros =
+    let t : length (take m s) ≡ m = length-take-le m s ls in
+    let fits : 0 + length (take m s) ≤ length z = omega arith in (
+      (λ i l. ap (λ (o : ℕ). getD (written z 0 (take m s)) o 0) (sym (zero-add i)) ∙ written-inside z 0 (take m s) fits i 0 (omega arith) ∙ getD-take m s i 0 l),
+      (λ i l. written-outside z 0 (take m s) fits i 0 (inr (omega arith)) ∙ zeros i),
+    )
+
+pub joined-done : {n m : ℕ} {w s r : List ℕ} → m ≤ n → JoinedTo n m w s
+    → ((i : ℕ) → i < m → getD r i 0 ≡ getD s i 0) × ((i : ℕ) → m ≤ i → getD r i 0 ≡ 0) → SyndromesAre m w r
+joined-done l h f = record { used = λ i k. ap element (f .0 i k) ∙ h .used i (omega arith) k; unused = f .1 }
+
+-- ---- all zero
+
+allZero-all : (m : ℕ) (s : List ℕ) → allZero m s ≡ true → (i : ℕ) → i < m → getD s i 0 ≡ 0
+unfolding allZero
+allZero-all zero s e i l = absurd (omega arith)
+allZero-all (suc m) s e i l = go (eqb (getD s m 0) 0) refl e (allZero-all m s) (ℕ-discrete i m)
+  where
+    go : (b : Bool) → eqb (getD s m 0) 0 ≡ b → cond b (allZero m s) false ≡ true → (allZero m s ≡ true → (i : ℕ) → i < m → getD s i 0 ≡ 0)
+        → Dec (i ≡ m) → getD s i 0 ≡ 0
+    go true t e ih (yes p) = rw p (eqb-true _ _ t)
+    go true t e ih (no n) = ih e i (omega arith)
+    go false t e ih d = never (cc)
+
+pub allZero-none : (s : List ℕ) → allZero 0 s ≡ true
+unfolding allZero
+allZero-none s = refl
+
+pub allZero-more : (i : ℕ) (s : List ℕ) → allZero i s ≡ true → getD s i 0 ≡ 0 → allZero (i + 1) s ≡ true
+unfolding allZero
+allZero-more i s h e = rw (add-one i, eq-eqb (getD s i 0) 0 e) h
+
+pub allZero-not : (m i : ℕ) (s : List ℕ) → i < m → (getD s i 0 ≡ 0 → ⊥) → allZero m s ≡ false
+allZero-not m i s l n = go (allZero m s) refl
+  where
+    go : (b : Bool) → allZero m s ≡ b → allZero m s ≡ false
+    go true e = absurd (n (allZero-all m s e i l))
+    go false e = e
+
+pub zero-syndromes : (e : ℕ) (w s : List ℕ) → 2 * e < Octet.order → Octets w → SyndromesAre (2 * e) w s → allZero (2 * e) s ≡ true → CodeWord e w
+zero-syndromes e w s h o sy z =
+    zero-codeWord e w h o (λ i l. sym (sy .used i l) ∙ ap element (allZero-all (2 * e) s z i l) ∙ element-zero)

@@ -1,0 +1,18 @@
+-- The values of the columns are spread, or the root is past m. Assumes nothing.
+use borrow.Author.Needs.{needs}
+use Prim.Native.Nat.{_<_}
+use native.Mathlib.Omega.{arith}
+use Rattle.codeword.proofs.Filling.{filling-spread, filling-past}
+use Rattle.codeword.proofs.rows.fill.Statement.{statement}
+use Rattle.codeword.proofs.rows.fill.Tie as tie
+
+returns : tie.Need-returns
+returns c = filling-spread (search needs) (c .before .before .column .ensures) (c .spread .ensures)
+
+returns-2 : tie.Need-returns-2
+returns-2 c = filling-past (search needs)
+
+pub fill-spec : {M : Type 1} → statement M
+fill-spec =
+    tie.close
+    (tie.spec (λ c. search needs) (λ c κs. search needs) (λ c κs. search needs) returns returns-2)
