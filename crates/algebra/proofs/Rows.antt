@@ -7,7 +7,7 @@
 --   terms-zero, terms-suc    the clauses of `terms`
 --
 -- Assumes nothing.
-use mathlib.Core.Path.{_≡_, refl, sym, _∙_, ap, ap₂, fun-ext}
+use mathlib.Core.Path.{_≡_, refl, sym, _∙_, ap, ap₂}
 use mathlib.Core.Logic.{_≢_}
 use Prim.Native.Nat.{ℕ, zero, suc, _+_, _*_, _<_}
 use native.Mathlib.Omega.{arith}
@@ -16,8 +16,8 @@ use Rattle.algebra.specs.Field.{Field}
 use Rattle.algebra.specs.Series.{Series, Operations, operations}
 use Rattle.algebra.specs.Power.{pow}
 use Rattle.algebra.specs.Value.{ev, terms}
-use Rattle.algebra.proofs.Ring.{ring, 𝟙-⊙}
-use Rattle.algebra.proofs.Powers.{pow-zero, pow-suc, pow-add}
+use Rattle.algebra.proofs.Ring.{ring}
+use Rattle.algebra.proofs.Powers.{pow-zero, pow-suc}
 use Rattle.algebra.proofs.Product.{tl-at, none-at, ⊞-at, ⊡-at}
 use Rattle.algebra.proofs.Value.{ev-zero, ev-suc, ev-one, ev-none, ev-local, ev-⊞, ev-⊡}
 

@@ -26,7 +26,6 @@ use native.Mathlib.Decide.{ℕ-discrete, decLt}
 use lib.ListN.{length, getD, set, length-set}
 use lib.Seq.{getD-set-same, getD-set-other}
 use Rattle.algebra.specs.Field.{Field}
-use Rattle.algebra.specs.Series.{Series}
 use Rattle.algebra.specs.Power.{pow}
 use Rattle.algebra.specs.Polynomial.{polynomial}
 use Rattle.algebra.specs.Value.{ev, from, terms}

@@ -7,22 +7,20 @@
 --   repeated-stays, repeated-filled   what is filled in stays so, and is so 17 further on
 --
 -- Assumes nothing.
-use mathlib.Core.Path.{_≡_, refl, sym, ap, ap₂, _∙_}
-use mathlib.Core.Logic.{_≢_, _⊎_, ⊎-elim, inl, inr}
+use mathlib.Core.Path.{_≡_, refl, sym, ap, _∙_}
+use mathlib.Core.Logic.{_⊎_, inl, inr}
 use mathlib.Core.List.{List}
-use Prim.Native.Nat.{ℕ, zero, suc, _+_, _-_, _*_, _%_, _≤_, _<_}
-use native.Mathlib.Numerals.{add-one}
+use Prim.Native.Nat.{ℕ, _+_, _-_, _*_, _%_, _≤_, _<_}
 use native.Mathlib.Omega.{arith}
 use native.Mathlib.Decide.{ℕ-discrete, decLt}
 use lib.Dec.{lit<}
 use lib.ListN.{length, getD, set, length-set}
 use lib.Seq.{getD-set-same, getD-set-other}
 use Rattle.algebra.specs.Power.{pow}
-use Rattle.algebra.specs.Value.{ev}
 use Rattle.octets.specs.Written.{written, written-length, written-inside, written-outside}
 use Rattle.field.specs.Octet.{order}
 use Rattle.codeword.specs.Element.{elements, element, α}
-use Rattle.codeword.specs.Rows.{lanes, Loaded, spaced, Evaluated, column, Spread, Filled, Worth, Filling, Repeated}
+use Rattle.codeword.specs.Rows.{lanes, Loaded, Evaluated, Spread, Filled, Worth, Filling, Repeated}
 use Rattle.codeword.proofs.Word.{pow-wrap}
 
 pub spread-start : {r : ℕ} {a v : List ℕ} → Spread 0 r a v v

@@ -27,7 +27,7 @@ use Rattle.field.specs.Octet.Laws.{power-zero, power-suc, power-wrap, sum-xor}
 use Rattle.field.specs.Octet.Table.{worked, worked-is}
 use Rattle.codeword.specs.Element.{elements, element, α}
 use Rattle.codeword.specs.Element.Laws.{element-power, element-sum, element-zero}
-use Rattle.codeword.specs.Rows.{lanes, spaced, column, RowsAre, Folding, Folded, Worth, Filled, Filling, Repeated, ValuesAre}
+use Rattle.codeword.specs.Rows.{spaced, column, RowsAre, Folding, Folded, Worth, Filled, Filling, Repeated, ValuesAre}
 use Rattle.codeword.proofs.Columns.{spaced-at}
 use Rattle.codeword.proofs.Filling.{repeated-stays, repeated-filled}
 

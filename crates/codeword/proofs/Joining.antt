@@ -8,7 +8,7 @@
 --   zero-syndromes                               a word whose syndromes are all zero is a code word
 --
 -- Assumes nothing.
-use mathlib.Core.Path.{_≡_, refl, sym, ap, ap₂, _∙_}
+use mathlib.Core.Path.{_≡_, refl, sym, ap, _∙_}
 use mathlib.Core.Logic.{inl, inr}
 use mathlib.Core.Bool.{Bool, true, false, cond}
 use mathlib.Core.List.{List}
@@ -22,7 +22,7 @@ use lib.Dec.{eqb}
 use lib.ListN.{length, getD, take}
 use lib.Seq.{getD-take, length-take-le}
 use Rattle.octets.specs.Tests.{never}
-use Rattle.octets.specs.Written.{written, written-length, written-inside, written-outside}
+use Rattle.octets.specs.Written.{written, written-inside, written-outside}
 use Rattle.algebra.specs.Power.{pow}
 use Rattle.algebra.specs.Polynomial.{polynomial}
 use Rattle.algebra.specs.Value.{ev}

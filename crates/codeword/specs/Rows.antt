@@ -31,7 +31,7 @@ use Rattle.algebra.specs.Polynomial.{polynomial}
 use Rattle.algebra.specs.Value.{ev, terms}
 use Rattle.field.specs.Octet as Octet
 use Rattle.codeword.specs.Element.{elements, element, α}
-use Rattle.codeword.specs.CodeWord.{word, Octets}
+use Rattle.codeword.specs.CodeWord.{word}
 
 abbrev pub lanes : ℕ
 lanes = 16

@@ -16,7 +16,7 @@ ghost use Prim.Native.Nat.{ℕ, _+_, _-_, _*_, _≤_, _<_};
 ghost use lib.ListN.{length, getD};
 ghost use Rattle.field.specs.Octet.Table.{laid, Laid};
 ghost use Rattle.codeword.specs.CodeWord.{longestWord};
-ghost use Rattle.codeword.specs.Rows.{lanes as wide, Loaded, Added, Stepped, Evaluated, RowsAre, RowFolded, Folded, Spread, Filled, Filling, Repeated, ValuesAre};
+ghost use Rattle.codeword.specs.Rows.{lanes as wide, Added, Stepped, Evaluated, RowsAre, RowFolded, Folded, Spread, Filling, Repeated, ValuesAre};
 
 // 17 rows of 16 octets, of which 15 count.
 const ROWS: usize = 272;

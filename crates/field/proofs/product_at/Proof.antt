@@ -1,10 +1,9 @@
 -- The total and what the bits left still have to give are the product. Assumes nothing.
 use borrow.Author.Needs.{needs}
-use mathlib.Core.Path.{_≡_, _∙_, sym, ap}
-use Prim.Native.Nat.{ℕ, suc, _+_, _-_, _≤_, _<_}
+use mathlib.Core.Path.{_≡_, _∙_, sym}
+use Prim.Native.Nat.{suc, _+_, _-_, _≤_}
 use native.Mathlib.Omega.{arith}
-use denote.Ref.{now}
-use Rattle.field.specs.Octet.{sum, times, product, power, α, size}
+use Rattle.field.specs.Octet.{sum, times, product, power, α}
 use Rattle.field.specs.Octet.Laws.{power-octet}
 use Rattle.field.specs.Octet.Steps.{part-octet, product-begin, product-step, product-end, power-double}
 use Rattle.field.proofs.product_at.Statement.{statement}

@@ -4,7 +4,6 @@ use mathlib.Core.Path.{_≡_, refl}
 use Prim.Native.Nat.{_+_, _-_, _%_, _<_}
 use native.Mathlib.Omega.{arith}
 use lib.ListN.{length}
-use denote.Ref.{now}
 use Rattle.codeword.specs.Rows.{lanes}
 use Rattle.codeword.proofs.Joining.{JoinedTo, joined-start, joined-next, joined-done}
 use Rattle.codeword.proofs.syndromes.syndromes.Statement.{statement}
