@@ -1,6 +1,7 @@
 -- The arrays in which the steps keep octets, and stores into lists of octets.
 --
 --   zeros         the array with which each step starts
+--   replicate-is  every place of an array of one number has it
 --   replicate-at  every place of an array of zeros has 0
 --   zeros-at      .. of this one
 --   zeros-octets  .. which is an octet
@@ -24,6 +25,11 @@ use Rattle.codeword.specs.CodeWord.{longestWord, Octets}
 
 abbrev pub zeros : List ℕ
 zeros = replicate longestWord 0
+
+pub replicate-is : (n x i : ℕ) → i < n → getD (replicate n x) i 0 ≡ x
+replicate-is zero x i l = absurd (omega arith)
+replicate-is (suc n) x zero l = refl
+replicate-is (suc n) x (suc i) l = replicate-is n x i (omega arith)
 
 pub replicate-at : (n i : ℕ) → _≡_ {A = ℕ} (getD (replicate n 0) i 0) 0
 replicate-at zero i = refl

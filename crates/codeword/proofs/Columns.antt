@@ -2,6 +2,8 @@
 --
 --   Lanes P i a                  the first i of 16 octets have P
 --   lanes-next                   .. and one more
+--   Blocks P n m s               the first n octets of s, as far as m, have P
+--   blocks-next                  .. and 16 more
 --   RowsLaid n w f               n rows of f have octets of w, row d those from 15 (16 - d) on
 --   rows-next                    .. and one more
 --   rows-are                     .. of a word with zeros in front
@@ -48,6 +50,22 @@ Lanes P i a = (i ≤ lanes) × (length a ≡ lanes) × ((j : ℕ) → j < i → 
 
 pub lanes-next : (P : ℕ → ℕ → Type 0) (a : List ℕ) (i v : ℕ) → i < lanes → Lanes P i a → P i v → Lanes P (i + 1) (set a i v)
 lanes-next P a i v l h new = (omega arith, length-set a i v ∙ h .1, set-below P a i v (omega (arith, h .1)) (h .2) new)
+
+abbrev pub Blocks : (ℕ → ℕ → Type 0) → ℕ → ℕ → List ℕ → Type 0
+Blocks P n m s = (i : ℕ) → i < n → i < m → P i (getD s i 0)
+
+pub blocks-next : (P : ℕ → ℕ → Type 0) (n m : ℕ) (s a : List ℕ) → n + lanes ≤ length s → length a ≡ lanes → Blocks P n m s
+    → ((j : ℕ) → j < lanes → n + j < m → P (n + j) (getD a j 0)) → Blocks P (n + lanes) m (written s n a)
+blocks-next P n m s a room long old new i l k = go (decLt i n)
+  where
+    fits : n + length a ≤ length s
+    fits = omega (arith, long)
+
+    go : Dec (i < n) → P i (getD (written s n a) i 0)
+    go (yes b) = rw (written-outside s n a fits i 0 (inl b)) (old i b k)
+    go (no b) =
+        let e : i ≡ n + (i - n) = omega arith in
+        rw (e, written-inside s n a fits (i - n) 0 (omega (arith, long))) (new (i - n) (omega arith) (omega arith))
 
 abbrev pub RowsLaid : ℕ → List ℕ → List ℕ → Type 0
 RowsLaid n w f = (d i : ℕ) → d < n → i < lanes → getD f (16 * d + i) 0 ≡ getD w (15 * (16 - d) + i) 0

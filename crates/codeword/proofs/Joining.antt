@@ -1,21 +1,21 @@
 -- The syndromes of a word, from the values of its columns.
 --
 --   value-rows                                   the value of a word's polynomial by its columns
---   JoinedTo n m w s                             the first n of the m syndromes of w are there
---   joined-start, joined-next, joined-done       .. 16 after 16
+--   Syndrome w i x                               x is syndrome i of w
+--   joined-lane, joined-done                     16 of them, and all
 --   first-is                                     the first octets of a list, and zeros behind them
 --   allZero-none, allZero-more, allZero-not      all of them zero, or not
 --   zero-syndromes                               a word whose syndromes are all zero is a code word
 --
 -- Assumes nothing.
 use mathlib.Core.Path.{_≡_, refl, sym, ap, _∙_}
-use mathlib.Core.Logic.{inl, inr}
+use mathlib.Core.Logic.{inr}
 use mathlib.Core.Bool.{Bool, true, false, cond}
 use mathlib.Core.List.{List}
 use Prim.Native.Nat.{ℕ, zero, suc, _+_, _-_, _*_, _%_, _≤_, _<_}
 use native.Mathlib.Numerals.{add-one}
 use native.Mathlib.Omega.{arith}
-use native.Mathlib.Decide.{ℕ-discrete, decLt}
+use native.Mathlib.Decide.{ℕ-discrete}
 use native.Mathlib.Nat.{zero-add}
 use borrow.Author.Tests.{eqb-true, eq-eqb}
 use lib.Dec.{eqb}
@@ -35,7 +35,7 @@ use Rattle.codeword.specs.Places.{value}
 use Rattle.codeword.specs.Rows.{lanes, spaced, column, Filled, Evaluated, ValuesAre}
 use Rattle.codeword.specs.Syndromes.{SyndromesAre, allZero}
 use Rattle.codeword.proofs.Word.{below-word, pow-wrap}
-use Rattle.codeword.proofs.Columns.{spaced-at}
+use Rattle.codeword.proofs.Columns.{spaced-at, Blocks}
 use Rattle.codeword.proofs.Criterion.{zero-codeWord}
 
 -- ---- columns
@@ -56,28 +56,15 @@ column-values w v i r h e f =
     sym (value-rows w (pow elements α i) h
     ∙ ev-local elements 15 _ _ _ (λ q l. sym (spaced-at v 48 r q (48 * q + r) refl ∙ f .used q l ∙ ap (ev elements 17 (column w q)) point)))
 
-pub record JoinedTo (n m : ℕ) (w s : List ℕ) : Type 0 where
-  pub used : (i : ℕ) → i < n → i < m → element (getD s i 0) ≡ value w (pow elements α (suc i))
+abbrev pub Syndrome : List ℕ → ℕ → ℕ → Type 0
+Syndrome w i x = element x ≡ value w (pow elements α (suc i))
 
-pub joined-next : (n : ℕ) {m : ℕ} {w v s a : List ℕ} → length w ≤ longestWord → n + lanes ≤ length s → ValuesAre m w v
-    → Evaluated 15 (n + 1) 1 v 48 (n % 17 + 1) a → JoinedTo n m w s → JoinedTo (n + lanes) m w (written s n a)
-joined-next n {m} {w} {v} {s} {a} h room values e old = record { used = λ i l k. go i l k (decLt i n) }
-  where
-    fits : n + length a ≤ length s
-    fits = omega (arith, e .long)
-
-    go : (i : ℕ) → i < n + lanes → i < m → Dec (i < n) → element (getD (written s n a) i 0) ≡ value w (pow elements α (suc i))
-    go i l k (yes b) = ap element (written-outside s n a fits i 0 (inl b)) ∙ old .used i b k
-    go i l k (no b) =
-        let j = i - n in
-        let at : i ≡ n + j = omega arith in
-        let point : n + 1 + 1 * j ≡ suc i = omega arith in
-        ap element (ap (λ (o : ℕ). getD (written s n a) o 0) at ∙ written-inside s n a fits j 0 (omega (arith, e .long)))
-        ∙ e .used j (omega arith)
-        ∙ (rw point (column-values w v (suc i) (n % 17 + 1 + j) h (omega arith) (values (n % 17 + 1 + j) (omega arith) (omega arith) (omega arith))))
-
-pub joined-start : {m : ℕ} {w s : List ℕ} → JoinedTo 0 m w s
-joined-start = record { used = λ i l. absurd (omega arith) }
+pub joined-lane : (n : ℕ) {m : ℕ} {w v a : List ℕ} → length w ≤ longestWord → ValuesAre m w v → Evaluated 15 (n + 1) 1 v 48 (n % 17 + 1) a
+    → (j : ℕ) → j < lanes → n + j < m → Syndrome w (n + j) (getD a j 0)
+joined-lane n {m} {w} {v} {a} h values e j l k =
+    let point : n + 1 + 1 * j ≡ suc (n + j) = omega arith in
+    e .used j l
+    ∙ (rw point (column-values w v (suc (n + j)) (n % 17 + 1 + j) h (omega arith) (values (n % 17 + 1 + j) (omega arith) (omega arith) (omega arith))))
 
 pub first-is : (s z : List ℕ) (m : ℕ) → m ≤ length s → m ≤ length z → ((i : ℕ) → getD z i 0 ≡ 0)
     → ((i : ℕ) → i < m → getD (written z 0 (take m s)) i 0 ≡ getD s i 0) × ((i : ℕ) → m ≤ i → getD (written z 0 (take m s)) i 0 ≡ 0)
@@ -88,9 +75,9 @@ first-is s z m ls lz zeros =
       (λ i l. written-outside z 0 (take m s) fits i 0 (inr (omega arith)) ∙ zeros i),
     )
 
-pub joined-done : {n m : ℕ} {w s r : List ℕ} → m ≤ n → JoinedTo n m w s
+pub joined-done : {n m : ℕ} {w r : List ℕ} (s : List ℕ) → m ≤ n → Blocks (Syndrome w) n m s
     → ((i : ℕ) → i < m → getD r i 0 ≡ getD s i 0) × ((i : ℕ) → m ≤ i → getD r i 0 ≡ 0) → SyndromesAre m w r
-joined-done l h f = record { used = λ i k. ap element (f .0 i k) ∙ h .used i (omega arith) k; unused = f .1 }
+joined-done s l h f = record { used = λ i k. ap element (f .0 i k) ∙ h i (omega arith) k; unused = f .1 }
 
 -- ---- all zero
 

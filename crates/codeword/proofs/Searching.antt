@@ -2,12 +2,16 @@
 --
 --   HornerFrom c n x i v                              v is what Horner's rule has after the coefficients from i on
 --   horner-start, horner-next, horner-done            .. from the highest coefficient down
+--   horner-first                                      .. at the highest one
+--   HornerAt c n k j a                                the same in 16 lanes, at αᵏ, αᵏ⁺¹, ..
+--   horner-turned                                     .. and one coefficient more
+--   inverse-power                                     the inverse of the locator of place p is α to the 256 - n + p
 --   search-start, search-hit, search-miss, search-done    one place after another
 --
 -- Assumes nothing.
 use mathlib.Core.Path.{_≡_, refl, sym, ap, ap₂, _∙_, subst}
 use mathlib.Core.List.{List}
-use Prim.Native.Nat.{ℕ, suc, _+_, _-_, _<_}
+use Prim.Native.Nat.{ℕ, suc, _+_, _-_, _≤_, _<_}
 use native.Mathlib.Numerals.{add-one}
 use native.Mathlib.Omega.{arith}
 use native.Mathlib.Decide.{ℕ-discrete, decLt}
@@ -18,13 +22,15 @@ use Rattle.algebra.specs.Field.{Field}
 use Rattle.algebra.specs.Value.{ev, from}
 use Rattle.algebra.proofs.Laws.{⊕-comm, ev-zero, from-zero, horner, lists-none}
 use Rattle.field.specs.Octet as Octet
+use Rattle.field.specs.Octet.Laws.{sum-octet, sum-comm, sum-zero, product-octet, product-zero}
 use Rattle.codeword.specs.Element.{elements, element, octet}
-use Rattle.codeword.specs.Element.Laws.{octet-element, octet-same, octet-nil, element-sum, element-product, element-zero}
+use Rattle.codeword.specs.Element.Laws.{octet-element, octet-same, octet-nil, octet-pow, element-sum, element-product, element-zero}
 use Rattle.codeword.specs.CodeWord.{longestWord}
 use Rattle.codeword.specs.Places.{places, inverses}
-use Rattle.codeword.specs.Search.{valueOf, SearchIs}
+use Rattle.codeword.specs.Rows.{lanes}
+use Rattle.codeword.specs.Search.{valueOf, TurnedAt, SearchIs}
 use Rattle.codeword.proofs.Arrays.{zeros}
-use Rattle.codeword.proofs.Word.{places-at}
+use Rattle.codeword.proofs.Word.{places-at, inverses-at}
 
 infixl 60 _⊕_
 infixl 70 _⊙_
@@ -49,9 +55,27 @@ horner-next {c} {n} {x} {i} {u} {v} l small e h = record {
       ∙ sym (horner elements n i (places c) (element x) l ∙ ⊕-comm elements _ _);
 }
 
+-- the highest coefficient
+pub horner-first : {c : List ℕ} {l x v : ℕ} → v < Octet.size → v ≡ getD c l 0 → HornerFrom c (l + 1) x l v
+horner-first {c} {l} {x} small e =
+    horner-next (omega arith) small (e ∙ sym (ap (λ (y : ℕ). Octet.sum y (getD c l 0)) (product-zero x) ∙ sum-comm 0 _ ∙ sum-zero _)) horner-start
+
+abbrev pub HornerAt : List ℕ → ℕ → ℕ → ℕ → List ℕ → Type 0
+HornerAt c n k j a = (i : ℕ) → i < lanes → HornerFrom c n (Octet.power Octet.α (k + i)) j (getD a i 0)
+
+pub horner-turned : {c a b : List ℕ} {n k j x : ℕ} → j < n → x < Octet.size → x ≡ getD c j 0 → TurnedAt k x a b → HornerAt c n k (j + 1) a
+    → HornerAt c n k j b
+horner-turned {c} l small e t h i m =
+    horner-next l (rw (t .is i m) (sum-octet _ _ (product-octet _ _) small)) (t .is i m ∙ ap (Octet.sum _) e) (h i m)
+
 pub horner-done : {c : List ℕ} {n x v : ℕ} → HornerFrom c n x 0 v → v ≡ valueOf c n x
 unfolding valueOf
 horner-done {c} {n} {x} {v} h = let e : n - 0 ≡ n = omega arith in sym (octet-element v (h .small)) ∙ ap octet (rw (e, from-zero) at (h .is))
+
+pub inverse-power : (n p : ℕ) → p < n → n ≤ longestWord → octet (inverses n p) ≡ Octet.power Octet.α (256 - n + p)
+inverse-power n p l h =
+    let e : Octet.order - (n - suc p) ≡ 256 - n + p = omega arith in
+    ap octet (inverses-at n p) ∙ octet-pow (Octet.order - (n - suc p)) ∙ ap (Octet.power Octet.α) e
 
 -- ---- the search
 

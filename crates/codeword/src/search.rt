@@ -1,12 +1,19 @@
-// Search for the roots of the error locator among the inverses of the places' locators.
+// Search for the roots of the error locator among the inverses of the places' locators: α^(256 - n), α^(257 - n), .. for the places of n
+// from the first on. Its values at 16 places in a row are worked out side by side.
 use crate::LONGEST_WORD;
+use crate::lanes::LANES;
+use field::LAID;
 use field::ORDER;
 ghost use mathlib.Core.Path.{_≡_};
-ghost use Prim.Native.Nat.{_<_, _≤_};
+ghost use Prim.Native.Nat.{ℕ, _+_, _<_, _≤_};
+ghost use lib.ListN.{getD};
+ghost use Rattle.field.specs.Octet;
+ghost use Rattle.field.specs.Octet.Table.{laid, Laid};
 ghost use Rattle.codeword.specs.CodeWord.{longestWord};
 ghost use Rattle.codeword.specs.Element.{octet};
 ghost use Rattle.codeword.specs.Places.{inverses};
-ghost use Rattle.codeword.specs.Search.{valueOf, SearchIs};
+ghost use Rattle.codeword.specs.Rows.{lanes};
+ghost use Rattle.codeword.specs.Search.{valueOf, TurnedAt, SearchIs};
 
 // The places found, rising from the front; zero where unused.
 pub struct Places {
@@ -36,16 +43,70 @@ pub(crate) fn inverse_locator(n: usize, p: usize) -> u8
     field::power(ORDER - (n - 1 - p))
 }
 
+// One turn of Horner's rule at the 16 points α^k, α^(k + 1), ..
+fn turn(a: [u8; LANES], powers: &[u8; LAID], k: usize, x: u8) -> [u8; LANES]
+    requires { ⌜ Laid (now powers) × (k + 23 ≤ laid) ⌝ }
+    ensures { λ r. ⌜ TurnedAt k x a r ⌝ }
+{
+    let mut b = [0u8; LANES];
+    let mut i: usize = 0;
+    while i < LANES {
+        b[i] = field::sum(field::product_at(powers, k + i, a[i]), x);
+        i += 1;
+    }
+    b
+}
+
+// Coefficient j of c.
+fn coefficient(c: &[u8; LONGEST_WORD], j: usize) -> u8
+    requires { ⌜ j < longestWord ⌝ }
+    ensures { λ r. ⌜ r ≡ getD (now (c .entry)) j 0 ⌝ }
+{
+    c[j]
+}
+
+// c[0] + c[1] x + .. + c[l] x^l at these 16 points, by Horner's rule.
+fn values(c: &[u8; LONGEST_WORD], l: usize, k: usize, powers: &[u8; LAID]) -> [u8; LANES]
+    requires { ⌜ (l < longestWord) × Laid (now powers) × (k + 23 ≤ laid) ⌝ }
+    ensures { λ r. ⌜ ((i : ℕ) → i < lanes → getD r i 0 ≡ valueOf (now (c .entry)) (l + 1) (Octet.power Octet.α (k + i))) ⌝ }
+{
+    let mut a = [coefficient(c, l); LANES];
+    let mut j = l;
+    while 0 < j {
+        j -= 1;
+        let b = turn(a, powers, k, coefficient(c, j));
+        a = b;
+    }
+    a
+}
+
+// The values of the polynomial c, of degree at most l, at the inverses of the locators of the n places.
+fn all_values(c: &[u8; LONGEST_WORD], l: usize, n: usize) -> [u8; 272]
+    requires { ⌜ (l < longestWord) × (n ≤ longestWord) ⌝ }
+    ensures { λ r. ⌜ ((p : ℕ) → p < n → getD r p 0 ≡ valueOf (now (c .entry)) (l + 1) (octet (inverses n p))) ⌝ }
+{
+    let powers = field::powers();
+    let mut v = [0u8; 272];
+    let mut p: usize = 0;
+    while p < n {
+        let a = values(c, l, ORDER + 1 - n + p, &powers);
+        octets::write(&mut v, p, &a);
+        p += LANES;
+    }
+    v
+}
+
 // All places of n at the inverse of whose locator the polynomial c, of degree at most l, is zero.
 pub(crate) fn search(c: &[u8; LONGEST_WORD], l: usize, n: usize) -> Places
     requires { ⌜ (l < longestWord) × (n ≤ longestWord) ⌝ }
     ensures { λ r. ⌜ SearchIs n n l (now (c .entry)) (r .at) (r .count) ⌝ }
 {
+    let v = all_values(c, l, n);
     let mut at = [0u8; LONGEST_WORD];
     let mut count = 0;
     let mut p = 0;
     while p < n {
-        if horner(c, l + 1, inverse_locator(n, p)) == 0 {
+        if v[p] == 0 {
             at[count] = p as u8;
             count += 1;
         }
