@@ -1,5 +1,5 @@
 /*
- * Measuring: the median time of one call, out of many timed rounds of calls.
+ * Measuring: the median time of one call, out of many timed rounds of calls; several kinds of call by turns.
  */
 #ifndef MEASURE_H
 #define MEASURE_H
@@ -44,19 +44,38 @@ static inline unsigned measure_calls(measured *call, void *state)
     return calls;
 }
 
-/* The median microseconds of one call of each of two, in rounds by turns so that both meet the same machine. */
+/* What is timed by turns: calls, each with its state, and the median microseconds of each. */
+#define MEASURE_MOST 16
+
+struct measured {
+    measured *call;
+    void *state;
+    double median;
+};
+
+/* The median microseconds of one call of each, in rounds by turns so that all meet the same machine. */
+static inline void measure_by_turns(struct measured *each, unsigned count)
+{
+    static double time[MEASURE_MOST][MEASURE_ROUNDS];
+    unsigned calls[MEASURE_MOST];
+    for (unsigned k = 0; k < count; k++)
+        calls[k] = measure_calls(each[k].call, each[k].state);
+    for (unsigned r = 0; r < MEASURE_ROUNDS; r++)
+        for (unsigned k = 0; k < count; k++)
+            time[k][r] = measure_round(each[k].call, each[k].state, r, calls[k]);
+    for (unsigned k = 0; k < count; k++) {
+        qsort(time[k], MEASURE_ROUNDS, sizeof(double), measure_order);
+        each[k].median = time[k][MEASURE_ROUNDS / 2];
+    }
+}
+
+/* .. of two, with one state. */
 static inline void measure_both(measured *first, measured *second, void *state, double median[2])
 {
-    double time[2][MEASURE_ROUNDS];
-    unsigned calls[2] = { measure_calls(first, state), measure_calls(second, state) };
-    for (unsigned r = 0; r < MEASURE_ROUNDS; r++) {
-        time[0][r] = measure_round(first, state, r, calls[0]);
-        time[1][r] = measure_round(second, state, r, calls[1]);
-    }
-    for (int k = 0; k < 2; k++) {
-        qsort(time[k], MEASURE_ROUNDS, sizeof(double), measure_order);
-        median[k] = time[k][MEASURE_ROUNDS / 2];
-    }
+    struct measured both[2] = { { first, state, 0 }, { second, state, 0 } };
+    measure_by_turns(both, 2);
+    median[0] = both[0].median;
+    median[1] = both[1].median;
 }
 
 #endif

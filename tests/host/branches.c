@@ -1,11 +1,10 @@
 /*
- * Under valgrind's memcheck, octets that are marked undefined are noticed wherever a jump or an address depends on them. Without a check:
+ * Under valgrind's memcheck, octets that are marked undefined are noticed wherever a jump or an address depends on them. With each check:
  *
- *   - encoding is all products: no jump and no address may depend on an octet of the message;
+ *   - encoding is all products and remainders: no jump and no address may depend on an octet of the message;
  *   - a clean word is asked whether each of its 2e syndromes is zero, and nothing else;
- *   - a damaged one, besides, whether it fails each of the 2e steps of the locator, and whether each of the 255 places is a root.
- *
- * A check goes through its table by the octets, and must be noticed.
+ *   - a damaged one, besides, whether it fails each of the 2e steps of the locator, and whether each of the 255 places is a root;
+ *   - with a check, besides, whether each octet of the check agrees.
  */
 #include "kyteblossom.h"
 
@@ -47,23 +46,30 @@ static unsigned in_receiving(uint32_t width, uint32_t e, uint32_t changed)
     return VALGRIND_COUNT_ERRORS - before;
 }
 
+/* All that is asked of a word at one e, with a check of this width. */
+static void try_limit(uint32_t width, uint32_t e)
+{
+    unsigned n = in_encoding(width, e);
+    if (n > 0)
+        fail("encoding", e, n);
+    n = in_receiving(width, e, 0);
+    if (n > 2 * e + width / 8)
+        fail("receiving a clean word", e, n);
+    n = in_receiving(width, e, e);
+    if (n > 2 * e + 2 * e + KYTE_LONGEST + width / 8)
+        fail("receiving a damaged word", e, n);
+}
+
 int main(void)
 {
     if (!RUNNING_ON_VALGRIND)
         fail("this is to be run under valgrind", 0, 0);
-    for (uint32_t e = 0; e <= KYTE_MOST_REPAIRS; e++) {
-        unsigned n = in_encoding(0, e);
-        if (n > 0)
-            fail("encoding", e, n);
-        n = in_receiving(0, e, 0);
-        if (n > 2 * e)
-            fail("receiving a clean word", e, n);
-        n = in_receiving(0, e, e);
-        if (n > 2 * e + 2 * e + KYTE_LONGEST)
-            fail("receiving a damaged word", e, n);
-    }
-    if (in_encoding(8, 8) == 0 || in_receiving(8, 8, 0) <= 2 * 8)
-        fail("the check's table was not noticed", 8, 0);
-    puts("branches: no jump and no address in a product depends on the octets of a message or a word");
+    for (uint32_t width = 0; width <= 16; width += 8)
+        for (uint32_t e = 0; 2 * e + width / 8 < KYTE_LONGEST; e++)
+            try_limit(width, e);
+    in_encoding(0, 8);
+    if (in_receiving(0, 8, 0) == 0)
+        fail("that a clean word's syndromes are asked for was not noticed", 8, 0);
+    puts("branches: no jump and no address in a product or a remainder depends on the octets of a message or a word");
     return 0;
 }

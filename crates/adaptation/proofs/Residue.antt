@@ -25,7 +25,7 @@ use Rattle.algebra.proofs.Laws.{register-length, register-none, register-more, 
 use Rattle.adaptation.specs.Binary.{𝔹}
 use Rattle.adaptation.specs.Bits.{bitsOf, bits, number, octetsOf}
 use Rattle.adaptation.specs.Check.{Kind, width, generator, plain, preset, checkBits, checkOf}
-use Rattle.adaptation.specs.Columns.{remainderOf}
+use Rattle.adaptation.specs.Steps.{remainderOf}
 use Rattle.adaptation.proofs.Remainders.{generator-length, plain-length}
 use Rattle.adaptation.proofs.Octets.{bitsOf-length, sum-bitsOf, bits-snoc, octetsOf-cons, octetsOf-snoc, octetsOf-sum, not-sum, sum-zeros, xors}
 

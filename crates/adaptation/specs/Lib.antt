@@ -2,7 +2,7 @@ pub mod Binary
 pub mod Bits
 pub mod Check
 pub mod Remainders
-pub mod Columns
+pub mod Steps
 pub mod Width
 pub mod Handed
 pub mod AL1

@@ -5,7 +5,6 @@ pub mod al1m; // al1m.rt: AL1M
 pub mod al2; // al2.rt: AL2
 pub mod checks; // checks.rt: the checks of 8 and 16 bits
 mod seals; // seals.rt: a check behind its octets
-mod tables; // tables.rt: the remainders of octets
 
 ghost use mathlib.Core.Path.{_≡_};
 ghost use Rattle.adaptation.specs.Handed.{badgeNumber};

@@ -1,4 +1,4 @@
-// What the benchmark times: payloads of 255 octets, each from the same state. No host calls these entries.
+// What the benchmark times: payloads under a table entry that it lends, each from the same state. No host calls these functions.
 use channels::ALL_OCTETS;
 use channels::ChannelNumber;
 use channels::Channels;
@@ -8,15 +8,15 @@ use multiplex::demultiplexer::Finished;
 use multiplex::multiplexer;
 use multiplex::multiplexer::Made;
 use table::Code;
-use table::LONGEST_PAYLOAD;
 use table::TABLE_NUMBERS;
 ghost use Prim.Native.Nat.{_≤_};
 
-// Channel 1, whole, and channels 2 and 3, segmentable; entry 1 is row 5 of table 2 (000, 6.6):
-// {LCN1,RC4},{{LCN2,RC1},{LCN3,RC2},RC UCF}.
-fn set_up(table: &mut [u16; TABLE_NUMBERS]) -> Channels {
-    let row = [2u16, 4, 0, 1, 0, 2, 1, 0, 2, 2, 0, 3];
-    table::replace(table, Code(1), &row);
+// The code of the entry that is lent.
+const CODE: u32 = 1;
+
+// Channel 1, whole, and channels 2 and 3, segmentable; the entry lent.
+fn set_up(table: &mut [u16; TABLE_NUMBERS], entry: &[u16]) -> Channels {
+    table::replace(table, Code(CODE), entry);
     let mut s = channels::new();
     s = channels::open(s, ChannelNumber(1), false).channels;
     s = channels::open(s, ChannelNumber(2), true).channels;
@@ -56,7 +56,7 @@ fn makes(made: Made) -> u32
 #[no_mangle]
 pub extern "C" fn bench_demux(
     rounds: u32,
-    code: u32,
+    entry: &[u16],
     held: &mut [u8; ALL_OCTETS],
     payload: &[u8],
     output: &mut [u8],
@@ -65,7 +65,7 @@ pub extern "C" fn bench_demux(
     ensures { λ r. ⌜ r ≤ rounds ⌝ }
 {
     let mut table = [0u16; TABLE_NUMBERS];
-    let s = set_up(&mut table);
+    let s = set_up(&mut table, entry);
     let mut accepted = 0;
     let mut done = 0;
     while done < rounds {
@@ -73,7 +73,7 @@ pub extern "C" fn bench_demux(
             s,
             held,
             &table,
-            Code(code),
+            Code(CODE),
             false,
             payload,
             output,
@@ -86,22 +86,22 @@ pub extern "C" fn bench_demux(
     accepted
 }
 
-// Asks the multiplexer for a payload of 255 octets so many times, and tells how often there was one.
+// Asks the multiplexer so many times for a payload that fills the room lent, and tells how often there was one.
 #[no_mangle]
 pub extern "C" fn bench_mux(
     rounds: u32,
-    code: u32,
+    entry: &[u16],
     waiting: &mut [u8; ALL_OCTETS],
     payload: &mut [u8],
 ) -> u32
     ensures { λ r. ⌜ r ≤ rounds ⌝ }
 {
     let mut table = [0u16; TABLE_NUMBERS];
-    let s = fill(set_up(&mut table), waiting);
+    let s = fill(set_up(&mut table, entry), waiting);
     let mut made = 0;
     let mut done = 0;
     while done < rounds {
-        let r = multiplexer::multiplex(s, waiting, &table, Code(code), LONGEST_PAYLOAD, payload);
+        let r = multiplexer::multiplex(s, waiting, &table, Code(CODE), payload.len(), payload);
         let last = r.made;
         made += makes(last);
         done += 1;

@@ -7,11 +7,11 @@ use Rattle.bench_entries.proofs.bench_demux.Statement.{statement}
 use Rattle.bench_entries.proofs.bench_demux.Tie as tie
 
 abbrev Inv-loop : tie.InvT-loop
-Inv-loop rounds code held₀ payload output₀ units₀ table s accepted₀ done₀ held output units accepted done =
+Inv-loop rounds entry held₀ payload output₀ units₀ table s accepted₀ done₀ held output units accepted done =
     (accepted ≤ done) × (done ≤ rounds) × (length output ≡ length output₀) × (length units ≡ length units₀)
 
 abbrev μ-loop : tie.MeasureT-loop
-μ-loop rounds code held₀ payload output₀ units₀ table s accepted₀ done₀ held output units accepted done = rounds - done
+μ-loop rounds entry held₀ payload output₀ units₀ table s accepted₀ done₀ held output units accepted done = rounds - done
 
 pub bench-demux-spec : {M : Type 1} → statement M
 bench-demux-spec =

@@ -7,11 +7,11 @@ use Rattle.bench_entries.proofs.bench_mux.Statement.{statement}
 use Rattle.bench_entries.proofs.bench_mux.Tie as tie
 
 abbrev Inv-loop : tie.InvT-loop
-Inv-loop rounds code waiting payload₀ table s made₀ done₀ payload made done =
+Inv-loop rounds entry waiting payload₀ table s made₀ done₀ payload made done =
     (made ≤ done) × (done ≤ rounds) × (length payload ≡ length payload₀)
 
 abbrev μ-loop : tie.MeasureT-loop
-μ-loop rounds code waiting payload₀ table s made₀ done₀ payload made done = rounds - done
+μ-loop rounds entry waiting payload₀ table s made₀ done₀ payload made done = rounds - done
 
 pub bench-mux-spec : {M : Type 1} → statement M
 bench-mux-spec =
