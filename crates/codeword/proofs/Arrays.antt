@@ -1,7 +1,8 @@
 -- The arrays in which the steps keep octets, and stores into lists of octets.
 --
 --   zeros         the array with which each step starts
---   zeros-at      every place of it has 0
+--   replicate-at  every place of an array of zeros has 0
+--   zeros-at      .. of this one
 --   zeros-octets  .. which is an octet
 --   octets-set    a store of an octet keeps a list one of octets
 --   set-below     what holds of every place below i, and of what is stored at i, holds of every place below i + 1
@@ -24,7 +25,7 @@ use Rattle.codeword.specs.CodeWord.{longestWord, Octets}
 abbrev pub zeros : List ℕ
 zeros = replicate longestWord 0
 
-replicate-at : (n i : ℕ) → _≡_ {A = ℕ} (getD (replicate n 0) i 0) 0
+pub replicate-at : (n i : ℕ) → _≡_ {A = ℕ} (getD (replicate n 0) i 0) 0
 replicate-at zero i = refl
 replicate-at (suc n) zero = refl
 replicate-at (suc n) (suc i) = replicate-at n i

@@ -8,6 +8,7 @@ pub mod Register
 pub mod Parity
 pub mod Systematic
 pub mod Remainder
+pub mod Loading
 pub mod Mending
 pub mod Stepping
 pub mod Searching

@@ -7,6 +7,7 @@ pub mod Changed
 pub mod Repair
 pub mod Places
 pub mod Syndromes
+pub mod Lanes
 pub mod Locator
 pub mod Search
 pub mod Values

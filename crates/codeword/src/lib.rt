@@ -1,5 +1,6 @@
 // The code word of 003, D.4.1.7.3: encoding and repair.
 mod encoding;
+mod lanes;
 mod locator;
 mod search;
 mod syndromes;
@@ -56,7 +57,7 @@ fn decode(
         (record { repair = now (repaired .exit); places = now (places .exit) }) ⌝ }
 {
     let n = received.len();
-    let recurrence = locator::locator(s, 2 * e);
+    let recurrence = locator::locator(s, e);
     let l = recurrence.degree;
     if e < l {
         return Reach::OutOfReach;
@@ -68,8 +69,8 @@ fn decode(
         return Reach::OutOfReach;
     }
     let at = roots.at;
-    let o = values::evaluator(&c, s, l);
-    let d = values::derivative(&c, l);
+    let o = recurrence.evaluator;
+    let d = values::odds(&c, l);
     octets::write(repaired, 0, received);
     values::correct(repaired, n, &at, l, &o, &d);
     octets::write(places, 0, &at[..l]);
