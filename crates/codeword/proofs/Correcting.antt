@@ -1,5 +1,6 @@
 -- Forney's values, 16 at a time, and the corrections, one after another.
 --
+--   valueOf-octet                a value is an octet
 --   HornersFrom f n x i v        Horner's rule at 16 points, after the coefficients from i on
 --   horners-start, horners-next, horners-done    .. from the highest coefficient down
 --   added-start, added-next      one place after another
@@ -17,6 +18,7 @@ use lib.Seq.{getD-set-same, getD-set-other}
 use Rattle.field.specs.Octet as Octet
 use Rattle.field.specs.Octet.Laws.{sum-octet, product-octet}
 use Rattle.codeword.specs.Element.{octet}
+use Rattle.codeword.specs.Element.Laws.{octet-lt}
 use Rattle.codeword.specs.CodeWord.{Octets}
 use Rattle.codeword.specs.Lanes.{lanes}
 use Rattle.codeword.specs.Places.{inverses}
@@ -26,6 +28,10 @@ use Rattle.codeword.proofs.Arrays.{replicate-at}
 use Rattle.codeword.proofs.Searching.{HornerFrom, horner-start, horner-next, horner-done}
 
 -- ---- Horner's rule
+
+pub valueOf-octet : (p : List ℕ) (l x : ℕ) → valueOf p l x < Octet.size
+unfolding valueOf
+valueOf-octet p l x = octet-lt _
 
 pub record HornersFrom (f : List ℕ) (n : ℕ) (x : List ℕ) (i : ℕ) (v : List ℕ) : Type 0 where
   pub each : (k : ℕ) → k < lanes → HornerFrom f n (getD x k 0) i (getD v k 0)

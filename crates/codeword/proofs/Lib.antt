@@ -12,6 +12,7 @@ pub mod Loading
 pub mod Mending
 pub mod Stepping
 pub mod Searching
+pub mod Inverting
 pub mod Correcting
 pub mod Repairing
 pub mod Theorems

@@ -8,11 +8,12 @@
 -- Assumes nothing.
 use mathlib.Core.Path.{_≡_, refl, sym, ap, ap₂, fun-ext, _∙_}
 use mathlib.Core.Logic.{_⊎_, inl, inr, ⊎-elim}
+use mathlib.Core.Bool.{Bool, true, false, true≢false}
 use mathlib.Core.List.{List}
 use Prim.Native.Nat.{ℕ, _+_, _*_, _-_, _≤_, _<_}
 use native.Mathlib.Omega.{arith}
 use native.Mathlib.Decide.{decLe, decLt}
-use lib.ListN.{getD}
+use lib.ListN.{length, getD}
 use Rattle.algebra.specs.Field.{Field}
 use Rattle.algebra.specs.Series.{Operations, operations}
 use Rattle.algebra.specs.Polynomial.{raised}
@@ -22,7 +23,7 @@ use Rattle.codeword.specs.Element.{elements, element}
 use Rattle.codeword.specs.Element.Laws.{element-sum, element-product, element-zero}
 use Rattle.codeword.specs.Lanes.{lanes, Loaded, Stored}
 use Rattle.codeword.specs.Places.{places}
-use Rattle.codeword.specs.Locator.{margin, Margin, behind, Mixed, Mended, Kept}
+use Rattle.codeword.specs.Locator.{margin, Margin, behind, Mixed, Saved, Mended, Kept}
 use Rattle.codeword.proofs.Word.{places-at}
 
 infixl 60 _⊕_ _⊞_
@@ -40,8 +41,8 @@ mix a q x y = Octet.sum (Octet.product a x) (Octet.product q y)
 pub mended-start : {hi n a q : ℕ} {c b : List ℕ} → Mended hi hi n a q c b c
 mended-start = record { long = refl; done = λ k l m. absurd (omega arith); left = λ k h. refl }
 
-pub kept-start : {hi : ℕ} {c b : List ℕ} → Kept hi hi c b b
-kept-start = record { long = refl; done = λ k l m. absurd (omega arith); left = λ k h. refl }
+pub kept-start : {grows : Bool} {hi : ℕ} {c b : List ℕ} → Kept grows hi hi c b b
+kept-start = record { long = refl; done = λ g k l m. absurd (omega arith); left = λ k h. refl; same = λ g. refl }
 
 -- b is maybe changed from this block on
 pub mended-next : (o : ℕ) {hi n a q : ℕ} {c b d d′ b′ x y z : List ℕ} → n ≤ margin → Mended (lanes * (o + 1)) hi n a q c b d → lanes * (o + 1) ≤ hi
@@ -66,24 +67,34 @@ mended-next o {hi} {n} {a} {q} {c} {b} {d} {d′} {b′} {x} {y} {z} small h fit
         ∙ ap₂ (mix a q) (lx .is j (omega arith) ∙ ap (λ (i : ℕ). getD d i 0) e ∙ h .left k (inl m))
         (ly .is j (omega arith) ∙ ap (λ (i : ℕ). getD b′ i 0) u ∙ same (margin + k - n) (omega arith))
 
-pub kept-next : (o : ℕ) {hi : ℕ} {c b d b′ b″ x : List ℕ} → Kept (lanes * (o + 1)) hi c b b′ → lanes * (o + 1) ≤ hi
-    → ((k : ℕ) → k < lanes * (o + 1) → getD d k 0 ≡ getD c k 0) → Loaded d (lanes * o) x → Stored b′ (margin + lanes * o) x b″
-    → Kept (lanes * o) hi c b b″
-kept-next o {hi} {c} {b} {d} {b′} {b″} {x} h fits same lx st = record {
+pub kept-next : (grows : Bool) (o : ℕ) {hi : ℕ} {c b d b′ b″ x : List ℕ} → Kept grows (lanes * (o + 1)) hi c b b′ → lanes * (o + 1) ≤ hi
+    → ((k : ℕ) → k < lanes * (o + 1) → getD d k 0 ≡ getD c k 0) → Loaded d (lanes * o) x → Saved grows (margin + lanes * o) x b′ b″
+    → Kept grows (lanes * o) hi c b b″
+kept-next true o {hi} {c} {b} {d} {b′} {b″} {x} h fits same lx saved = record {
   long = st .long ∙ h .long;
-  done = λ k l m. elim (decLt k (lanes * (o + 1))) [
+  done = λ g k l m. elim (decLt k (lanes * (o + 1))) [
     | yes p ↦ here k l p
-    | no p ↦ st .outside (margin + k) (inr (omega arith)) ∙ h .done k (omega arith) m
+    | no p ↦ st .outside (margin + k) (inr (omega arith)) ∙ h .done refl k (omega arith) m
   ];
   left = λ i m. st .outside i (⊎-elim (λ p. inl p) (λ p. inr (omega arith)) m) ∙ h .left i (⊎-elim (λ p. inl (omega arith)) (λ p. inr p) m);
+  same = λ g. absurd (true≢false g);
 }
   where
+    st : Stored b′ (margin + lanes * o) x b″
+    st = saved .stored refl
+
     here : (k : ℕ) → lanes * o ≤ k → k < lanes * (o + 1) → getD b″ (margin + k) 0 ≡ getD c k 0
     here k l m =
         let j : ℕ = k - lanes * o in
         let e : lanes * o + j ≡ k = omega arith in
         let u : margin + lanes * o + j ≡ margin + k = omega arith in
         ap (λ (i : ℕ). getD b″ i 0) (sym u) ∙ st .inside j (omega arith) ∙ lx .is j (omega arith) ∙ ap (λ (i : ℕ). getD d i 0) e ∙ same k m
+kept-next false o {hi} {c} {b} {d} {b′} {b″} {x} h fits same lx saved = record {
+  long = ap length (saved .same refl) ∙ h .long;
+  done = λ g. absurd (true≢false (sym g));
+  left = λ i m. ap (λ (l : List ℕ). getD l i 0) (saved .same refl ∙ h .same refl);
+  same = λ g. saved .same refl ∙ h .same refl;
+}
 
 -- ---- as series
 
@@ -117,15 +128,15 @@ mended-whole {hi} {n} {a} {q} {c} {b} {d} h z l cz bz = fun-ext (λ k. go k (dec
         places-at d k ∙ ap element (h .left k (inr m)) ∙ sym (places-at c k) ∙ cz k m
         ∙ sym (rw (cz k m, bz k m, ⊙-𝟘 elements (element a), ⊙-𝟘 elements (element q)) (⊕-𝟘 elements 𝟘))
 
-pub kept-at : {hi : ℕ} {c b d : List ℕ} → Kept 0 hi c b d → (k : ℕ) → k < hi → behind d k ≡ places c k
-kept-at {hi} {c} {b} {d} h k m = behind-at d k ∙ ap element (h .done k (omega arith) m) ∙ sym (places-at c k)
+pub kept-at : {hi : ℕ} {c b d : List ℕ} → Kept true 0 hi c b d → (k : ℕ) → k < hi → behind d k ≡ places c k
+kept-at {hi} {c} {b} {d} h k m = behind-at d k ∙ ap element (h .done refl k (omega arith) m) ∙ sym (places-at c k)
 
-pub kept-whole : {hi : ℕ} {c b d : List ℕ} → Kept 0 hi c b d → ((k : ℕ) → hi ≤ k → places c k ≡ 𝟘) → ((k : ℕ) → hi ≤ k → behind b k ≡ 𝟘)
+pub kept-whole : {hi : ℕ} {c b d : List ℕ} → Kept true 0 hi c b d → ((k : ℕ) → hi ≤ k → places c k ≡ 𝟘) → ((k : ℕ) → hi ≤ k → behind b k ≡ 𝟘)
     → behind d ≡ places c
 kept-whole {hi} {c} {b} {d} h cz bz = fun-ext (λ k. elim (decLe hi k) [
   | yes m ↦ behind-at d k ∙ ap element (h .left (margin + k) (inr (omega arith))) ∙ sym (behind-at b k) ∙ bz k m ∙ sym (cz k m)
   | no m ↦ kept-at h k (omega arith)
 ])
 
-pub kept-margin : {hi : ℕ} {c b d : List ℕ} → Kept 0 hi c b d → Margin b → Margin d
+pub kept-margin : {grows : Bool} {hi : ℕ} {c b d : List ℕ} → Kept grows 0 hi c b d → Margin b → Margin d
 kept-margin h z k l = h .left k (inl (omega arith)) ∙ z k l

@@ -33,10 +33,9 @@ use Rattle.algebra.specs.Support.{weight}
 use Rattle.algebra.specs.Derivative.{deriv, odds}
 use Rattle.algebra.proofs.Laws.{⊕-self, ⊕-cancel, ⊕-𝟘, ⊙-assoc, ⊙-comm, ⊙-inv, ⊙-𝟙, ⊞-at, ev-local, odds-at, deriv-odds}
 use Rattle.algebra.proofs.Laws.{least-weight, scaled-complete, scaled-divisor, scaled-sound, scaled-lists, eq-of-sum, lists-as}
-use Rattle.field.specs.Octet.{size, order}
-use Rattle.field.specs.Octet.Laws.{product-octet}
+use Rattle.field.specs.Octet.{order}
 use Rattle.codeword.specs.Element.{elements, element, octet, α}
-use Rattle.codeword.specs.Element.Laws.{octet-lt, octet-mul, element-octet, element-sum, element-product, element-inverse}
+use Rattle.codeword.specs.Element.Laws.{octet-mul, element-octet, element-sum, element-product, element-inverse}
 use Rattle.codeword.specs.CodeWord.{longestWord, Octets, distance, Within}
 use Rattle.codeword.specs.Places.{places, locators, inverses, value}
 use Rattle.codeword.specs.Syndromes.{SyndromesAre, allZero}
@@ -49,22 +48,13 @@ use Rattle.codeword.proofs.Criterion.{codeWord-zero, zero-codeWord}
 use Rattle.codeword.proofs.Counting.{placesExactly, changed-none}
 use Rattle.codeword.proofs.Distance.{element-same, difference, distance-weight, distance-self, difference-value}
 use Rattle.codeword.proofs.Absorbing.{zero-syndromes}
+use Rattle.codeword.proofs.Correcting.{valueOf-octet}
 use Rattle.codeword.proofs.Systematic.{octets-take}
 
 infixl 60 _⊕_
 infixl 70 _⊙_ _⊛_
 open Field elements using (Carrier as F, add as _⊕_, mul as _⊙_, inv, nil as 𝟘)
 open Operations (operations elements) using (_⊛_)
-
--- ---- values are octets
-
-valueOf-octet : (p : List ℕ) (l x : ℕ) → valueOf p l x < size
-unfolding valueOf
-valueOf-octet p l x = octet-lt _
-
-errorOf-octet : (o d : List ℕ) (l x : ℕ) → errorOf o d l x < size
-unfolding errorOf
-errorOf-octet o d l x = product-octet _ _
 
 same-drop : (n : ℕ) (u v : List ℕ) → length u ≡ length v → length (drop n u) ≡ length (drop n v)
 same-drop n u v e = length-drop n u ∙ ap (λ (k : ℕ). k - n) e ∙ sym (length-drop n v)

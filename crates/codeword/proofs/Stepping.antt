@@ -11,6 +11,7 @@
 -- Assumes nothing.
 use mathlib.Core.Path.{_≡_, sym, ap, ap₂, fun-ext, _∙_}
 use mathlib.Core.Logic.{_≢_, inl, inr}
+use mathlib.Core.Bool.{true}
 use mathlib.Core.List.{List}
 use Prim.Native.Nat.{ℕ, zero, suc, _+_, _*_, _-_, _/_, _≤_, _<_}
 use native.Mathlib.Numerals.{add-one}
@@ -129,10 +130,10 @@ module _ {m r l shift q x : ℕ} {s c d b t : List ℕ} (h : MasseyStateIs m s c
         (raised-local elements shift m _ _ (h .earlier) k o ∙ ap (λ (f : Series elements). f k) (sym (raised-⊛ elements shift (behind b) (places s))))
         ∙ sym (ap (λ (f : Series elements). (f ⊛ places s) k) c-is ∙ mixed-⊛ elements _ _ _ _ _ k)
 
-    pub massey-keep : r < l + l → MasseyStateIs m s c′ d′ b t (r + 1) l (shift + 1) q
-    massey-keep e = kept d-is (rw (c-is, x-element) (scaled-keep elements (h .state) e))
+    pub massey-keep : r < l + l → {b′ t′ : List ℕ} → b′ ≡ b → t′ ≡ t → MasseyStateIs m s c′ d′ b′ t′ (r + 1) l (shift + 1) q
+    massey-keep e b-same t-same = rw (b-same, t-same) (kept d-is (rw (c-is, x-element) (scaled-keep elements (h .state) e)))
 
-    module _ (octet : x < Octet.size) (ne : x ≢ 0) (e : l + l ≤ r) {b′ t′ : List ℕ} (b-kept : Kept 0 w c b b′) (t-kept : Kept 0 v d t t′) where
+    module _ (octet : x < Octet.size) (ne : x ≢ 0) (e : l + l ≤ r) {b′ t′ : List ℕ} (b-kept : Kept true 0 w c b b′) (t-kept : Kept true 0 v d t t′) where
       b-is : behind b′ ≡ places c
       b-is = kept-whole b-kept c-beyond (λ k o. b-short k (omega arith))
 

@@ -9,7 +9,8 @@
 --                             b failed by; d and t, the products of c and b with s
 --   Mixed a q x y z           z is a x + q y, for 16 coefficients
 --   Mended lo hi n a q c b d  d is a c + q x^n b, for the coefficients from lo up to, and not at, hi; the rest is as in c
---   Kept lo hi c b d          d is b, but for those coefficients, which are c's
+--   Saved grows o x b d       d is b, but where the length grows for the 16 octets from o on, which are x
+--   Kept grows lo hi c b d    d is b, but where the length grows for those coefficients, which are c's
 --   Stepped e r ..            one step: from the state after r syndromes to that after r + 1; where its length is above e, that length alone
 --   Located m s c l           c is the shortest recurrence for the first m of the syndromes s, times a constant that is not zero; l its length
 --   LocatorIs m s c l         no recurrence for them is shorter than l; and where l is at most m / 2, c is that one
@@ -18,6 +19,7 @@
 -- Assumes nothing.
 use mathlib.Core.Path.{_≡_}
 use mathlib.Core.Logic.{_⊎_}
+use mathlib.Core.Bool.{Bool, true, false}
 use mathlib.Core.List.{List}
 use Prim.Native.Nat.{ℕ, suc, _+_, _*_, _-_, _≤_, _<_}
 use lib.ListN.{length, getD}
@@ -27,7 +29,7 @@ use Rattle.algebra.specs.Polynomial.{raised}
 use Rattle.algebra.specs.Massey.{Least, ScaledState}
 use Rattle.field.specs.Octet as Octet
 use Rattle.codeword.specs.Element.{elements, element}
-use Rattle.codeword.specs.Lanes.{lanes}
+use Rattle.codeword.specs.Lanes.{lanes, Stored}
 use Rattle.codeword.specs.Places.{places}
 
 abbrev pub margin : ℕ
@@ -58,10 +60,15 @@ pub record Mended (lo hi n a q : ℕ) (c b d : List ℕ) : Type 0 where
   pub done : (k : ℕ) → lo ≤ k → k < hi → getD d k 0 ≡ Octet.sum (Octet.product a (getD c k 0)) (Octet.product q (getD b (margin + k - n) 0))
   pub left : (k : ℕ) → (k < lo) ⊎ (hi ≤ k) → getD d k 0 ≡ getD c k 0
 
-pub record Kept (lo hi : ℕ) (c b d : List ℕ) : Type 0 where
+pub record Saved (grows : Bool) (o : ℕ) (x b d : List ℕ) : Type 0 where
+  pub stored : grows ≡ true → Stored b o x d
+  pub same : grows ≡ false → d ≡ b
+
+pub record Kept (grows : Bool) (lo hi : ℕ) (c b d : List ℕ) : Type 0 where
   pub long : length d ≡ length b
-  pub done : (k : ℕ) → lo ≤ k → k < hi → getD d (margin + k) 0 ≡ getD c k 0
+  pub done : grows ≡ true → (k : ℕ) → lo ≤ k → k < hi → getD d (margin + k) 0 ≡ getD c k 0
   pub left : (i : ℕ) → (i < margin + lo) ⊎ (margin + hi ≤ i) → getD d i 0 ≡ getD b i 0
+  pub same : grows ≡ false → d ≡ b
 
 -- of any syndromes that the state is of
 pub record Stepped (e r : ℕ) (c d b t : List ℕ) (l shift q : ℕ) (c′ d′ b′ t′ : List ℕ) (l′ shift′ q′ : ℕ) : Type 0 where

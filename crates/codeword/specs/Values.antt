@@ -4,8 +4,8 @@
 --   errorOf o d l x            Forney's value: that of o at x over that of d at x²
 --   HornerTurned a x v u       u is x v + a, at each of 16 points
 --   ValuesAre n f x v          v is the value of f at x, at each
---   Squared x y                y is x², at each
---   Divided a b y              y is a over b, at each
+--   Multiplied a b y           y is a b, at each
+--   Inverted b y               y is the inverse of b, at each at which b is an octet
 --   ErrorsAre l o d x y        y is Forney's value at x, at each
 --   InversesAre n j m at x     the first m of x are the inverses of the locators of the places that `at` lists from j on
 --   Added j m at y w v         at the m places that `at` lists from j on y is added to w; elsewhere v is as w
@@ -39,11 +39,11 @@ pub record HornerTurned (a : ℕ) (x v u : List ℕ) : Type 0 where
 pub record ValuesAre (n : ℕ) (f x v : List ℕ) : Type 0 where
   pub is : Lanes v (λ k. valueOf f n (getD x k 0))
 
-pub record Squared (x y : List ℕ) : Type 0 where
-  pub is : Lanes y (λ k. Octet.product (getD x k 0) (getD x k 0))
+pub record Multiplied (a b y : List ℕ) : Type 0 where
+  pub is : Lanes y (λ k. Octet.product (getD a k 0) (getD b k 0))
 
-pub record Divided (a b y : List ℕ) : Type 0 where
-  pub is : Lanes y (λ k. Octet.product (getD a k 0) (Octet.inverse (getD b k 0)))
+pub record Inverted (b y : List ℕ) : Type 0 where
+  pub is : (k : ℕ) → k < lanes → getD b k 0 < Octet.size → getD y k 0 ≡ Octet.inverse (getD b k 0)
 
 pub record ErrorsAre (l : ℕ) (o d x y : List ℕ) : Type 0 where
   pub is : Lanes y (λ k. errorOf o d l (getD x k 0))

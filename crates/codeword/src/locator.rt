@@ -15,7 +15,7 @@ ghost use lib.ListN.{length, getD};
 ghost use Rattle.field.specs.Octet.{size};
 ghost use Rattle.codeword.specs.CodeWord.{longestWord};
 ghost use Rattle.codeword.specs.Lanes.{lanes};
-ghost use Rattle.codeword.specs.Locator.{margin, Mixed, Mended, Kept, Stepped, LocatorIs, EvaluatorIs};
+ghost use Rattle.codeword.specs.Locator.{margin, Mixed, Saved, Mended, Kept, Stepped, LocatorIs, EvaluatorIs};
 
 // How many zeros b and t stand behind.
 const MARGIN: usize = 256;
@@ -56,32 +56,29 @@ fn mix(x: [u8; 16], y: [u8; 16], a: u8, q: u8) -> [u8; 16]
     z
 }
 
-// c becomes a c + q x^shift b, as far as 16 coefficients a block go.
-fn mend(c: &mut [u8], b: &[u8], shift: usize, blocks: usize, a: u8, q: u8)
-    requires { ⌜ (lanes * blocks ≤ length (now c)) × (margin + lanes * blocks ≤ length (now b)) × (shift ≤ margin) ⌝ }
-    ensures { λ _. ⌜ Mended 0 (lanes * blocks) shift a q (now (c .entry)) (now (b .entry)) (now (c .exit)) ⌝ }
+// Where the length grows, x is written over the 16 octets of b from o on.
+fn keep(b: &mut [u8], o: usize, x: [u8; 16], grows: bool)
+    requires { ⌜ o + lanes ≤ length (now b) ⌝ }
+    ensures { λ _. ⌜ Saved grows o x (now (b .entry)) (now (b .exit)) ⌝ }
 {
-    let mut o = blocks;
-    while 0 < o {
-        o -= 1;
-        let x = lanes::load(c, 16 * o);
-        let y = lanes::load(b, MARGIN + 16 * o - shift);
-        lanes::store(c, 16 * o, mix(x, y, a, q));
+    if grows {
+        lanes::store(b, o, x);
     }
 }
 
-// The same, and b becomes the c from before. From the top: a block of b is still wanted by the ones above it.
-fn grow(c: &mut [u8], b: &mut [u8], shift: usize, blocks: usize, a: u8, q: u8)
+// c becomes a c + q x^shift b, as far as 16 coefficients a block go, and where the length grows, b becomes the c from before. From the top: a
+// block of b is still wanted by the ones above it.
+fn mend(c: &mut [u8], b: &mut [u8], shift: usize, blocks: usize, a: u8, q: u8, grows: bool)
     requires { ⌜ (lanes * blocks ≤ length (now c)) × (margin + lanes * blocks ≤ length (now b)) × (shift ≤ margin) ⌝ }
     ensures { λ _. ⌜ Mended 0 (lanes * blocks) shift a q (now (c .entry)) (now (b .entry)) (now (c .exit))
-        × Kept 0 (lanes * blocks) (now (c .entry)) (now (b .entry)) (now (b .exit)) ⌝ }
+        × Kept grows 0 (lanes * blocks) (now (c .entry)) (now (b .entry)) (now (b .exit)) ⌝ }
 {
     let mut o = blocks;
     while 0 < o {
         o -= 1;
         let x = lanes::load(c, 16 * o);
         let y = lanes::load(b, MARGIN + 16 * o - shift);
-        lanes::store(b, MARGIN + 16 * o, x);
+        keep(b, MARGIN + 16 * o, x, grows);
         lanes::store(c, 16 * o, mix(x, y, a, q));
     }
 }
@@ -114,8 +111,8 @@ fn step(
         return kept;
     }
     if r < l + l {
-        mend(d, t, shift, blocks, failed, x);
-        mend(c, b, shift, l / 16 + 1, failed, x);
+        mend(d, t, shift, blocks, failed, x, false);
+        mend(c, b, shift, l / 16 + 1, failed, x, false);
         return kept;
     }
     let long = r + 1 - l;
@@ -127,8 +124,8 @@ fn step(
     if e < long {
         return grown;
     }
-    grow(d, t, shift, blocks, failed, x);
-    grow(c, b, shift, long / 16 + 1, failed, x);
+    mend(d, t, shift, blocks, failed, x, true);
+    mend(c, b, shift, long / 16 + 1, failed, x, true);
     grown
 }
 

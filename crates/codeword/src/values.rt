@@ -10,7 +10,7 @@ ghost use Prim.Native.Nat.{ℕ, _+_, _<_, _≤_};
 ghost use lib.ListN.{length, getD};
 ghost use Rattle.codeword.specs.CodeWord.{longestWord};
 ghost use Rattle.codeword.specs.Lanes.{lanes};
-ghost use Rattle.codeword.specs.Values.{OddsAre, HornerTurned, ValuesAre, Squared, Divided, ErrorsAre, InversesAre, Added, Corrected};
+ghost use Rattle.codeword.specs.Values.{OddsAre, HornerTurned, ValuesAre, Multiplied, Inverted, ErrorsAre, InversesAre, Added, Corrected};
 
 // The odd ones of the locator's first l + 1 coefficients: c[1], c[3], ..; zero where unused.
 pub(crate) fn odds(c: &[u8; LONGEST_WORD], l: usize) -> [u8; 64]
@@ -54,30 +54,34 @@ fn horner(f: &[u8], n: usize, x: [u8; 16]) -> [u8; 16]
     v
 }
 
-// x^2, at 16 points.
-fn squares(x: [u8; 16]) -> [u8; 16]
-    ensures { λ r. ⌜ Squared x r ⌝ }
+// a b, at 16 points.
+fn products(a: [u8; 16], b: [u8; 16]) -> [u8; 16]
+    ensures { λ r. ⌜ Multiplied a b r ⌝ }
 {
     let mut y = [0u8; 16];
     let mut k: usize = 0;
     while k < 16 {
-        y[k] = field::product(x[k], x[k]);
+        y[k] = field::product(a[k], b[k]);
         k += 1;
     }
     y
 }
 
-// a over b, at 16 points.
-fn quotients(a: [u8; 16], b: [u8; 16]) -> [u8; 16]
-    ensures { λ r. ⌜ Divided a b r ⌝ }
+// The inverses at 16 points, and 0 for 0: b^254, as `field::inverse` has it, but 16 at a time and by way of b^14 b^240.
+fn inverses(b: [u8; 16]) -> [u8; 16]
+    ensures { λ r. ⌜ Inverted b r ⌝ }
 {
-    let mut y = [0u8; 16];
-    let mut k: usize = 0;
-    while k < 16 {
-        y[k] = field::product(a[k], field::inverse(b[k]));
-        k += 1;
-    }
-    y
+    let b2 = products(b, b);
+    let b3 = products(b, b2);
+    let b6 = products(b3, b3);
+    let b12 = products(b6, b6);
+    let b14 = products(b2, b12);
+    let b15 = products(b3, b12);
+    let b30 = products(b15, b15);
+    let b60 = products(b30, b30);
+    let b120 = products(b60, b60);
+    let b240 = products(b120, b120);
+    products(b14, b240)
 }
 
 // The error values at 16 points: the evaluator's value over the derivative's.
@@ -86,8 +90,8 @@ fn errors(o: &[u8; 256], d: &[u8; 64], l: usize, x: [u8; 16]) -> [u8; 16]
     ensures { λ r. ⌜ ErrorsAre l (now (o .entry)) (now (d .entry)) x r ⌝ }
 {
     let a = horner(o, l, x);
-    let b = horner(d, (l + 1) / 2, squares(x));
-    quotients(a, b)
+    let b = horner(d, (l + 1) / 2, products(x, x));
+    products(a, inverses(b))
 }
 
 // The inverses of the locators of the `count` places that are listed from j on; zero where unused.

@@ -1,5 +1,6 @@
 -- The discrepancy decides which of the steps of the theory this is. Assumes nothing.
 use borrow.Author.Needs.{needs}
+use mathlib.Core.Path.{refl}
 use native.Mathlib.Omega.{arith}
 use Rattle.codeword.proofs.Stepping.{massey-zero, massey-keep, massey-grow, stepped, stepped-far}
 use Rattle.codeword.proofs.locator.step.Statement.{statement}
@@ -13,12 +14,12 @@ returns c =
 
 returns-2 : tie.Need-returns-2
 returns-2 c =
-    let mended = c .before .before .before .before in
-    let keeps = mended .before .before .before .before in
+    let mended = c .before .before .before in
+    let keeps = mended .before .before .before in
     let found = keeps .before .before in
     let pre = found .before .before .before .pre in
-    stepped (λ s h. massey-keep h (found .discrepancy .ensures .0) (pre .0) (omega (arith, pre .1)) (c .mend2 .ensures) (mended .mend .ensures)
-    (omega arith) (omega arith) (omega (arith, keeps .if2 .taken)) (keeps .if2 .taken))
+    stepped (λ s h. massey-keep h (found .discrepancy .ensures .0) (pre .0) (omega (arith, pre .1)) (c .mend2 .ensures .0) (mended .mend .ensures .0)
+    (omega arith) (omega arith) (omega (arith, keeps .if2 .taken)) (keeps .if2 .taken) (c .mend2 .ensures .1 .same refl) (mended .mend .ensures .1 .same refl))
 
 returns-3 : tie.Need-returns-3
 returns-3 c =
@@ -34,9 +35,9 @@ returns-4 c =
     let grows = grown .before .before .before .before in
     let found = grows .before .before in
     let pre = found .before .before .before .pre in
-    stepped (λ s h. massey-grow h (found .discrepancy .ensures .0) (pre .0) (omega (arith, pre .1)) (c .grow2 .ensures .0) (grown .grow .ensures .0)
+    stepped (λ s h. massey-grow h (found .discrepancy .ensures .0) (pre .0) (omega (arith, pre .1)) (c .mend4 .ensures .0) (grown .mend3 .ensures .0)
     (omega arith) (omega (arith, grows .if2 .left)) (omega (arith, grows .if2 .left)) (found .discrepancy .ensures .1) (grows .before .if1 .left)
-    (grows .if2 .left) (c .grow2 .ensures .1) (grown .grow .ensures .1))
+    (grows .if2 .left) (c .mend4 .ensures .1) (grown .mend3 .ensures .1))
 
 pub step-spec : {M : Type 1} → statement M
 step-spec =
