@@ -1,20 +1,22 @@
 -- The formal derivative, in characteristic 2.
 --
 --   deriv-even, deriv-odd    it is f₁, 0, f₃, 0, ..
+--   odds-at, deriv-odds      .. so its value at x is that of f₁, f₃, .. at x²
+--   deriv-⊡                  it is linear
 --   deriv-loc                the locator's derivative at Zₖ is Xₖ skip: Forney's divisor
 --
 -- Assumes nothing.
 use mathlib.Core.Path.{_≡_, refl, sym, _∙_, fun-ext}
-use Prim.Native.Nat.{ℕ, zero, suc, _+_, _*_, _<_}
+use Prim.Native.Nat.{ℕ, zero, suc, _+_, _*_, _/_, _<_}
 use native.Mathlib.Omega.{arith}
 use Rattle.algebra.specs.Field.{Field}
 use Rattle.algebra.specs.Series.{Series, Below, Operations, operations}
 use Rattle.algebra.specs.Value.{ev}
 use Rattle.algebra.specs.Locator.{lin, loc, prod, skip}
-use Rattle.algebra.specs.Derivative.{deriv}
+use Rattle.algebra.specs.Derivative.{deriv, odds}
 use Rattle.algebra.proofs.Ring.{ring, ⊕-𝟘, ⊕-self, ⊕-cancel}
 use Rattle.algebra.proofs.Product.{below-tl, tl-at, tl-⊞, tl-⊡, tl-sh, ⊞-at, ⊡-at, sh-zero, sh-suc}
-use Rattle.algebra.proofs.Value.{ev-⊞, ev-⊡}
+use Rattle.algebra.proofs.Value.{ev-zero, ev-suc, ev-one, ev-⊞, ev-⊡}
 use Rattle.algebra.proofs.Locator.{lin-is, ev-lin, loc-suc, below-loc, ev-loc, prod-root}
 use Rattle.algebra.proofs.Forney.{skip-zero, skip-suc}
 
@@ -52,6 +54,37 @@ module _ (𝓕 : Field) where
       let e : 2 * suc h + 1 ≡ suc (suc (2 * h + 1)) = omega arith in
       rw e (deriv-two f (2 * h + 1) ∙ deriv-odd h _)
 
+  pub odds-at : (f : Series 𝓕) (n : ℕ) → odds 𝓕 f n ≡ f (2 * n + 1)
+  unfolding odds
+  odds-at f n = refl
+
+  odds-tl : (f : Series 𝓕) → odds 𝓕 (tl (tl f)) ≡ tl (odds 𝓕 f)
+  odds-tl f = fun-ext (λ n.
+      let e : suc (suc (2 * n + 1)) ≡ 2 * suc n + 1 = omega arith in
+      rw (odds-at, tl-at 𝓕 (tl f), tl-at 𝓕 f, tl-at 𝓕 (odds 𝓕 f), odds-at f (suc n), e))
+
+  deriv-tl : (f : Series 𝓕) → tl (tl (deriv 𝓕 f)) ≡ deriv 𝓕 (tl (tl f))
+  deriv-tl f = fun-ext (λ n. rw (tl-at 𝓕 (tl (deriv 𝓕 f)), tl-at 𝓕 (deriv 𝓕 f)) (deriv-two f n))
+
+  pub deriv-odds : (d : ℕ) (f : Series 𝓕) (x : F) → ev 𝓕 d (deriv 𝓕 f) x ≡ ev 𝓕 ((d + 1) / 2) (odds 𝓕 f) (x ⊙ x)
+  deriv-odds zero f x = ev-zero 𝓕 _ x ∙ sym (ev-zero 𝓕 _ _)
+  deriv-odds (suc zero) f x = ev-one 𝓕 _ x ∙ deriv-zero f ∙ sym (ev-one 𝓕 _ _ ∙ odds-at f 0)
+  deriv-odds (suc (suc d)) f x =
+      let e : (suc (suc d) + 1) / 2 ≡ suc ((d + 1) / 2) = omega arith in
+      rw (
+        e,
+        ev-suc 𝓕 (suc d),
+        ev-suc 𝓕 d,
+        ev-suc 𝓕 ((d + 1) / 2),
+        ← odds-tl f,
+        deriv-tl f,
+        ← deriv-odds d (tl (tl f)) x,
+        tl-at 𝓕 (deriv 𝓕 f) 0,
+        deriv-one f,
+        deriv-zero f,
+        odds-at f 0,
+      ) (simp ring)
+
   -- the derivative is linear, and (x f)′ = f + x f′
   deriv-⊞-at : (f g : Series 𝓕) (n : ℕ) → deriv 𝓕 (f ⊞ g) n ≡ deriv 𝓕 f n ⊕ deriv 𝓕 g n
   deriv-⊞-at f g zero = simp (deriv-zero, ⊞-at)
@@ -60,6 +93,9 @@ module _ (𝓕 : Field) where
   deriv-⊡-at : (c : F) (f : Series 𝓕) (n : ℕ) → deriv 𝓕 (c ⊡ f) n ≡ c ⊙ deriv 𝓕 f n
   deriv-⊡-at c f zero = simp (deriv-zero, ⊡-at)
   deriv-⊡-at c f (suc n) = simp (deriv-suc, tl-⊡, ⊡-at, deriv-⊡-at c (tl f) n, ring)
+
+  pub deriv-⊡ : (c : F) (f : Series 𝓕) → deriv 𝓕 (c ⊡ f) ≡ c ⊡ deriv 𝓕 f
+  deriv-⊡ c f = fun-ext (λ n. deriv-⊡-at c f n ∙ sym (⊡-at 𝓕 c (deriv 𝓕 f) n))
 
   deriv-sh-at : (f : Series 𝓕) (n : ℕ) → deriv 𝓕 (sh f) n ≡ f n ⊕ sh (deriv 𝓕 f) n
   deriv-sh-at f zero = rw (deriv-zero, sh-suc, sh-zero) (sym (⊕-𝟘 𝓕 _))

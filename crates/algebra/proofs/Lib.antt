@@ -14,6 +14,7 @@ pub mod Listing
 pub mod Support
 pub mod Powers
 pub mod Repair
+pub mod Scaled
 pub mod Distance
 pub mod Remainder
 pub mod Geometric

@@ -9,7 +9,9 @@
 --   raised-zero, raised-suc              the clauses of raising
 --   raised-⊞, raised-sh, raised-none,    it goes through sums and shifts, and raises 0 to 0 and a x^k to a x^(k+n)
 --   raised-monomial
+--   raised-⊛                             .. and x^n (f g) is (x^n f) g
 --   raised-low, raised-high              the coefficients of x^n f, below n and from n on
+--   raised-local                         those below m are read off f's below m
 --   below-raised                         the degree
 --
 -- Assumes nothing.
@@ -25,13 +27,14 @@ use Rattle.algebra.specs.Field.{Field}
 use Rattle.algebra.specs.Series.{Series, Below, Operations, operations}
 use Rattle.algebra.specs.Polynomial.{monomial, polynomial, raised}
 use Rattle.algebra.proofs.Ring.{ring, ⊕-𝟘, 𝟘-⊕}
-use Rattle.algebra.proofs.Product.{⊞-at, none-at, sh-zero, sh-suc, sh-⊞, sh-none, below-⊞, below-more, below-sh}
+use Rattle.algebra.proofs.Product.{⊞-at, none-at, sh-zero, sh-suc, sh-⊞, sh-⊛, sh-none, below-⊞, below-more, below-sh}
 use Rattle.algebra.proofs.Remainder.{monomial-top, monomial-above, monomial-below, monomial-suc}
 
 module _ (𝓕 : Field) where
   infixl 60 _⊕_ _⊞_
+  infixl 70 _⊛_
   open Field 𝓕 using (Carrier as F, add as _⊕_, nil as 𝟘)
-  open Operations (operations 𝓕) using (_⊞_, none, sh)
+  open Operations (operations 𝓕) using (_⊞_, _⊛_, none, sh)
 
   pub polynomial-none : polynomial 𝓕 [] ≡ none
   unfolding polynomial
@@ -96,6 +99,16 @@ module _ (𝓕 : Field) where
   raised-high zero f k l = rw raised-zero (ap f (omega arith))
   raised-high (suc n) f zero l = absurd (omega arith)
   raised-high (suc n) f (suc k) l = rw (raised-suc, sh-suc) (raised-high n f k (omega arith) ∙ ap f (omega arith))
+
+  pub raised-⊛ : (n : ℕ) (f g : Series 𝓕) → raised 𝓕 n f ⊛ g ≡ raised 𝓕 n (f ⊛ g)
+  raised-⊛ zero f g = rw (raised-zero f, raised-zero (f ⊛ g))
+  raised-⊛ (suc n) f g = rw (raised-suc n f, raised-suc n (f ⊛ g), sh-⊛, raised-⊛ n f g)
+
+  pub raised-local : (n m : ℕ) (f g : Series 𝓕) → ((k : ℕ) → k < m → f k ≡ g k) → (k : ℕ) → k < m → raised 𝓕 n f k ≡ raised 𝓕 n g k
+  raised-local n m f g h k l = elim (decLe n k) [
+    | yes p ↦ raised-high n f k p ∙ h (k - n) (omega arith) ∙ sym (raised-high n g k p)
+    | no p ↦ raised-low n f k (omega arith) ∙ sym (raised-low n g k (omega arith))
+  ]
 
   pub below-raised : (n d : ℕ) (f : Series 𝓕) → Below 𝓕 d f → Below 𝓕 (d + n) (raised 𝓕 n f)
   below-raised zero d f h = rw (raised-zero, add-zero) h

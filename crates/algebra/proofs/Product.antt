@@ -4,7 +4,7 @@
 --   sh-zero, sh-suc, ⊛-zero, ⊛-suc
 --   tl-⊞, tl-⊡, tl-none, tl-unit, tl-sh, tl-⊛            what is left without the first coefficient
 --   ⊛-comm, ⊛-assoc, ⊛-left, ⊞-⊛, ⊛-⊞, ⊡-⊛, ⊛-⊡,     a commutative ring, in which sh f is x f
---   none-⊛, unit-⊛, sh-⊛
+--   none-⊛, unit-⊛, sh-⊛, mixed-⊛
 --   sh-⊞, sh-⊡, sh-none                                  x (f + g), x (c f) and x 0
 --   below-none, below-tl, below-⊞, below-⊡, below-sh,    the degree of what the operations make
 --   below-more
@@ -161,6 +161,10 @@ module _ (𝓕 : Field) where
 
   pub sh-⊛ : (f g : Series 𝓕) → sh f ⊛ g ≡ sh (f ⊛ g)
   sh-⊛ f g = fun-ext (sh-⊛-at f g)
+
+  -- a coefficient of (a f + q g) h
+  pub mixed-⊛ : (a q : F) (f g h : Series 𝓕) (k : ℕ) → ((a ⊡ f ⊞ q ⊡ g) ⊛ h) k ≡ a ⊙ (f ⊛ h) k ⊕ q ⊙ (g ⊛ h) k
+  mixed-⊛ a q f g h k = rw (⊞-⊛, ⊡-⊛ a, ⊡-⊛ q, ⊞-at, ⊡-at a, ⊡-at q)
 
   pub sh-⊞ : (f g : Series 𝓕) → sh (f ⊞ g) ≡ sh f ⊞ sh g
   sh-⊞ f g = fun-ext at

@@ -1,6 +1,7 @@
 -- What the search for the roots of the locator shows. The n places have distinct locators A, with inverses Z; S are the syndromes,
 -- and (C, L) is what Berlekamp and Massey's algorithm made of the first t of them.
 --
+--   least-weight          no error with the syndromes S has a smaller weight than the shortest recurrence's length
 --   length-complete       if S are the syndromes of an error of weight w with 2 w ≤ t, then L = w
 --   search-complete       .. and the search finds L places
 --   divisor-ne            if it finds L places, Forney's divisor is not zero there
@@ -21,7 +22,7 @@ use Rattle.algebra.specs.Value.{ev}
 use Rattle.algebra.specs.Points.{Distinct, Inverses}
 use Rattle.algebra.specs.PowerSum.{psum, synd}
 use Rattle.algebra.specs.Locator.{loc, prod, skip}
-use Rattle.algebra.specs.Massey.{MasseyState}
+use Rattle.algebra.specs.Massey.{Least, MasseyState}
 use Rattle.algebra.specs.Derivative.{deriv}
 use Rattle.algebra.specs.Support.{Support, pick, weight, one-if}
 use Rattle.algebra.specs.Lists.{Lists}
@@ -123,7 +124,7 @@ module _ (𝓕 : Field) where
       sym (psum-cong 𝓕 n _ E A A i (λ k l. keeps k) (λ k l. refl)) ∙ sym (psum-one n U E A i) ∙ su .sums _ 1
       ∙ psum-one v (pick 𝓕 U at) (pick 𝓕 E at) (pick 𝓕 A at) i ∙ psum-cong 𝓕 v _ _ _ _ i (λ k l. keeps (at k)) (λ k l. refl)
 
-  module _ {n t L : ℕ} {A Z S C B : Series 𝓕} {b : F} (D : Distinct 𝓕 n A) (I : Inverses 𝓕 n A Z) (st : MasseyState 𝓕 S C B t L b) where
+  module _ {n : ℕ} {A Z : Series 𝓕} (D : Distinct 𝓕 n A) (I : Inverses 𝓕 n A Z) where
     -- the listed places' locators and their inverses
     module _ (v : ℕ) (at : ℕ → ℕ) (inside : (j : ℕ) → j < v → at j < n) (rises : (i j : ℕ) → i < j → j < v → at i < at j) where
       listed-distinct : Distinct 𝓕 v (pick 𝓕 A at)
@@ -132,10 +133,9 @@ module _ (𝓕 : Field) where
       listed-inverses : Inverses 𝓕 v (pick 𝓕 A at) (pick 𝓕 Z at)
       listed-inverses j l = rw (pick-at 𝓕 A at j, pick-at 𝓕 Z at j) (I (at j) (inside j l))
 
-    -- no recurrence is shorter than L, so no error with these syndromes has a smaller weight
-    least-weight : (E : Series 𝓕) → ((i : ℕ) → i < t → S i ≡ psum 𝓕 n E A (suc i)) → L ≤ weight 𝓕 n E
-    least-weight E syn =
-        st .least w (loc 𝓕 w X) (loc-one 𝓕 w X) (below-loc 𝓕 w X)
+    pub least-weight : {t L : ℕ} {S : Series 𝓕} → Least 𝓕 t L S → (E : Series 𝓕) → ((i : ℕ) → i < t → S i ≡ psum 𝓕 n E A (suc i)) → L ≤ weight 𝓕 n E
+    least-weight {t} {L} {S} least E syn =
+        least w (loc 𝓕 w X) (loc-one 𝓕 w X) (below-loc 𝓕 w X)
         (λ k l o. ⊛-local 𝓕 (loc 𝓕 w X) S (synd 𝓕 w Y X) k (λ i p. syn i (omega arith) ∙ su .sums A (suc i) ∙ sym (synd-at 𝓕 w Y X i))
         ∙ loc-annihilates 𝓕 w t Y X (pick 𝓕 Z at) (listed-inverses w at (su .lists .inside) (su .lists .rises)) k l o)
       where
@@ -154,6 +154,7 @@ module _ (𝓕 : Field) where
         Y : Series 𝓕
         Y = pick 𝓕 E at
 
+  module _ {n t L : ℕ} {A Z S C B : Series 𝓕} {b : F} (D : Distinct 𝓕 n A) (I : Inverses 𝓕 n A Z) (st : MasseyState 𝓕 S C B t L b) where
     -- ---- if S are the syndromes of an error of weight at most t / 2, C is its locator
 
     module _ (E : Series 𝓕) (few : weight 𝓕 n E + weight 𝓕 n E ≤ t) (syn : (i : ℕ) → i < t → S i ≡ psum 𝓕 n E A (suc i)) where
@@ -167,7 +168,7 @@ module _ (𝓕 : Field) where
       located : (L ≡ weight 𝓕 n E) × (C ≡ loc 𝓕 (weight 𝓕 n E) (pick 𝓕 A at))
       located =
           bm-finds 𝓕 (weight 𝓕 n E) t L S C B (pick 𝓕 E at) (pick 𝓕 A at) (pick 𝓕 Z at) b
-          (listed-distinct (weight 𝓕 n E) at (su .lists .inside) (su .lists .rises)) (listed-inverses (weight 𝓕 n E) at (su .lists .inside) (su .lists .rises))
+          (listed-distinct D I (weight 𝓕 n E) at (su .lists .inside) (su .lists .rises)) (listed-inverses D I (weight 𝓕 n E) at (su .lists .inside) (su .lists .rises))
           (λ k l. rw pick-at (su .lists .each k l))
           (λ i l. syn i l ∙ su .sums A (suc i) ∙ sym (synd-at 𝓕 (weight 𝓕 n E) (pick 𝓕 E at) (pick 𝓕 A at) i)) st few
 
@@ -202,16 +203,16 @@ module _ (𝓕 : Field) where
       C-is : C ≡ loc 𝓕 L (pick 𝓕 A at)
       C-is =
           locator-unique 𝓕 L C (pick 𝓕 A at) (pick 𝓕 Z at) (st .c-one) (st .c-below)
-          (listed-inverses L at (found .inside) (found .rises)) (listed-distinct L at (found .inside) (found .rises)) root-listed
+          (listed-inverses D I L at (found .inside) (found .rises)) (listed-distinct D I L at (found .inside) (found .rises)) root-listed
 
       divisor-is : (j : ℕ) → j < L → ev 𝓕 L (deriv 𝓕 C) (Z (at j)) ≡ pick 𝓕 A at j ⊙ skip 𝓕 L (pick 𝓕 A at) j (pick 𝓕 Z at j)
       divisor-is j l =
-          (rw (C-is, ← pick-at 𝓕 Z at j) (deriv-loc 𝓕 L (pick 𝓕 A at) j (pick 𝓕 Z at j) l (listed-inverses L at (found .inside) (found .rises) j l)))
+          (rw (C-is, ← pick-at 𝓕 Z at j) (deriv-loc 𝓕 L (pick 𝓕 A at) j (pick 𝓕 Z at j) l (listed-inverses D I L at (found .inside) (found .rises) j l)))
 
       pub divisor-ne : (j : ℕ) → j < L → ev 𝓕 L (deriv 𝓕 C) (Z (at j)) ≢ 𝟘
       divisor-ne j l =
-          rw divisor-is (mul-ne 𝓕 _ _ (left-ne 𝓕 _ _ (listed-inverses L at (found .inside) (found .rises) j l))
-          (skip-ne 𝓕 L (pick 𝓕 A at) j _ (listed-distinct L at (found .inside) (found .rises)) l (listed-inverses L at (found .inside) (found .rises) j l)))
+          rw divisor-is (mul-ne 𝓕 _ _ (left-ne 𝓕 _ _ (listed-inverses D I L at (found .inside) (found .rises) j l))
+          (skip-ne 𝓕 L (pick 𝓕 A at) j _ (listed-distinct D I L at (found .inside) (found .rises)) l (listed-inverses D I L at (found .inside) (found .rises) j l)))
 
       -- ---- and Forney's values there make an error with the syndromes S
 
@@ -232,14 +233,14 @@ module _ (𝓕 : Field) where
         sums i l =
             psum-listed n L root-mark E A at (suc i) (support-of 𝓕 n L root-mark at marks .1) kept
             ∙ forney-sound 𝓕 L t C S (pick 𝓕 E at) (pick 𝓕 A at) (pick 𝓕 Z at) (st .c-one) (st .c-below) (st .c-ann) short
-            (listed-distinct L at (found .inside) (found .rises)) (listed-inverses L at (found .inside) (found .rises)) root-listed
+            (listed-distinct D I L at (found .inside) (found .rises)) (listed-inverses D I L at (found .inside) (found .rises)) root-listed
             (λ j m. rw (← divisor-is j m, pick-at 𝓕 E at j, values j m, pick-at 𝓕 Z at j)) i l
 
         marked : (p : ℕ) → p < n → root-mark p ≡ 𝟘 → E p ≡ 𝟘
         marked p l z = sym (kept p) ∙ (rw z (𝟘-⊙ 𝓕 _))
 
         least : L ≤ weight 𝓕 n E
-        least = least-weight E (λ i l. sym (sums i l))
+        least = least-weight D I (st .least) E (λ i l. sym (sums i l))
 
         pub search-sound : ((i : ℕ) → i < t → psum 𝓕 n E A (suc i) ≡ S i) × (weight 𝓕 n E ≡ L)
         search-sound = (sums, omega (arith, least, support-of 𝓕 n L root-mark at marks .0, weight-le n E root-mark marked))

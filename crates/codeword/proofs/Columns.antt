@@ -1,15 +1,13 @@
 -- Octets side by side, and the word's columns.
 --
---   Lanes P i a                  the first i of 16 octets have P
---   lanes-next                   .. and one more
 --   Blocks P n m s               the first n octets of s, as far as m, have P
 --   blocks-next                  .. and 16 more
 --   RowsLaid n w f               n rows of f have octets of w, row d those from 15 (16 - d) on
 --   rows-next                    .. and one more
 --   rows-are                     .. of a word with zeros in front
 --   added-start, added-next      octets added, one after another
---   Step k j a f o i x           x is what a turn of Horner's rule makes of lane i
---   step-lane                    .. worked out
+--   ahead k j a f o i            what a turn of Horner's rule makes of lane i
+--   ahead-lane                   .. worked out
 --   spaced-at                    a coefficient of a series of spaced entries
 --   HornerLanes n d k j f s o a  lane i has what Horner's rule has after the coefficients from d on
 --   horner-load, horner-turn, horner-evaluated    .. from the highest coefficient down
@@ -37,19 +35,14 @@ use Rattle.field.specs.Octet as Octet
 use Rattle.codeword.specs.Element.{elements, element, α}
 use Rattle.codeword.specs.Element.Laws.{element-sum, element-product, element-power, element-zero}
 use Rattle.codeword.specs.CodeWord.{longestWord, word}
-use Rattle.codeword.specs.Rows.{lanes, Loaded, Added, spaced, Stepped, Evaluated, column, RowsAre, Folding, RowFolded, Folded}
+use Rattle.codeword.specs.Lanes.{lanes, Loaded}
+use Rattle.codeword.specs.Rows.{RowAdded, spaced, Ahead, Evaluated, column, RowsAre, Folding, RowFolded, Folded}
 use Rattle.codeword.proofs.Arrays.{set-below}
 use Rattle.codeword.proofs.Word.{word-length, word-at, below-word}
 
 infixl 60 _⊕_
 infixl 70 _⊙_
 open Field elements using (Carrier as F, add as _⊕_, mul as _⊙_, nil as 𝟘)
-
-abbrev pub Lanes : (ℕ → ℕ → Type 0) → ℕ → List ℕ → Type 0
-Lanes P i a = (i ≤ lanes) × (length a ≡ lanes) × ((j : ℕ) → j < i → P j (getD a j 0))
-
-pub lanes-next : (P : ℕ → ℕ → Type 0) (a : List ℕ) (i v : ℕ) → i < lanes → Lanes P i a → P i v → Lanes P (i + 1) (set a i v)
-lanes-next P a i v l h new = (omega arith, length-set a i v ∙ h .1, set-below P a i v (omega (arith, h .1)) (h .2) new)
 
 abbrev pub Blocks : (ℕ → ℕ → Type 0) → ℕ → ℕ → List ℕ → Type 0
 Blocks P n m s = (i : ℕ) → i < n → i < m → P i (getD s i 0)
@@ -78,7 +71,7 @@ rows-next n w f a room h old d i l m = go (ℕ-discrete d n)
     fits = omega (arith, h .long)
 
     go : Dec (d ≡ n) → getD (written f (16 * n) a) (16 * d + i) 0 ≡ getD w (15 * (16 - d) + i) 0
-    go (yes e) = rw e (written-inside f (16 * n) a fits i 0 (omega (arith, h .long)) ∙ h .used i m)
+    go (yes e) = rw e (written-inside f (16 * n) a fits i 0 (omega (arith, h .long)) ∙ h .is i m)
     go (no e) = written-outside f (16 * n) a fits (16 * d + i) 0 (inl (omega arith)) ∙ old d i (omega arith) m
 
 -- a word with zeros in front has its polynomial's coefficients, from the last octet on
@@ -110,11 +103,11 @@ rows-are d w f zero-d long h laid = record {
       ap element (laid d′ p l (omega arith)) ∙ (rw e (padded-at d w zero-d long h (15 * d′ + (14 - p)) (omega arith)));
 }
 
-pub added-start : {o : ℕ} {a f : List ℕ} → Added 0 o a f f
+pub added-start : {o : ℕ} {a f : List ℕ} → RowAdded 0 o a f f
 added-start = record { long = refl; done = λ i l. absurd (omega arith); left = λ k l. refl }
 
-pub added-next : {n o v : ℕ} {a f g : List ℕ} → Added n o a f g → o + n < length f → v ≡ Octet.sum (getD g (o + n) 0) (getD a n 0)
-    → Added (n + 1) o a f (set g (o + n) v)
+pub added-next : {n o v : ℕ} {a f g : List ℕ} → RowAdded n o a f g → o + n < length f → v ≡ Octet.sum (getD g (o + n) 0) (getD a n 0)
+    → RowAdded (n + 1) o a f (set g (o + n) v)
 added-next {n} {o} {v} {a} {f} {g} h room e = record {
   long = length-set g (o + n) v ∙ h .long;
   done = λ i l. go i l (ℕ-discrete i n);
@@ -128,12 +121,12 @@ added-next {n} {o} {v} {a} {f} {g} h room e = record {
 
 -- ---- Horner's rule in lanes
 
-abbrev pub Step : (k j : ℕ) (a f : List ℕ) (o : ℕ) → ℕ → ℕ → Type 0
-Step k j a f o i x = x ≡ Octet.sum (Octet.product (Octet.power Octet.α (k + j * i)) (getD a i 0)) (getD f (o + i) 0)
+abbrev pub ahead : (k j : ℕ) (a f : List ℕ) (o : ℕ) → ℕ → ℕ
+ahead k j a f o i = Octet.sum (Octet.product (Octet.power Octet.α (k + j * i)) (getD a i 0)) (getD f (o + i) 0)
 
-pub step-lane : {z p x : ℕ} (k j : ℕ) (a f : List ℕ) (o i : ℕ) → z ≡ k + j * i → p ≡ Octet.product (Octet.power Octet.α z) (getD a i 0)
-    → x ≡ Octet.sum p (getD f (o + i) 0) → Step k j a f o i x
-step-lane k j a f o i q h e =
+pub ahead-lane : {z p x : ℕ} (k j : ℕ) (a f : List ℕ) (o i : ℕ) → z ≡ k + j * i → p ≡ Octet.product (Octet.power Octet.α z) (getD a i 0)
+    → x ≡ Octet.sum p (getD f (o + i) 0) → x ≡ ahead k j a f o i
+ahead-lane k j a f o i q h e =
     e ∙ ap (λ (x : ℕ). Octet.sum x (getD f (o + i) 0)) (h ∙ ap (λ (n : ℕ). Octet.product (Octet.power Octet.α n) (getD a i 0)) q)
 
 pub record HornerLanes (n d k j : ℕ) (f : List ℕ) (s o : ℕ) (a : List ℕ) : Type 0 where
@@ -149,11 +142,11 @@ horner-load {n} {d} {k} {j} {s} {o} {at} {f} {a} e w h = record {
   long = h .long;
   is = λ i l.
       let z : n - suc d ≡ 0 = omega arith in
-      ap element (h .used i l) ∙ sym (spaced-at f s (o + i) d (at + i) (omega arith))
+      ap element (h .is i l) ∙ sym (spaced-at f s (o + i) d (at + i) (omega arith))
       ∙ sym (horner elements n d (spaced f s (o + i)) (pow elements α (k + j * i)) (omega arith) ∙ (rw (z, ev-zero) (simp ring)));
 }
 
-pub horner-turn : {n d k j s o at : ℕ} {f a b : List ℕ} → d < n → at ≡ s * d + o → Stepped k j a f at b → HornerLanes n (d + 1) k j f s o a
+pub horner-turn : {n d k j s o at : ℕ} {f a b : List ℕ} → d < n → at ≡ s * d + o → Ahead k j a f at b → HornerLanes n (d + 1) k j f s o a
     → HornerLanes n d k j f s o b
 horner-turn {n} {d} {k} {j} {s} {o} {at} {f} {a} {b} l w t h = record {
   long = t .long;
@@ -179,7 +172,7 @@ pub record FoldingTo (n d : ℕ) (t a f g : List ℕ) : Type 0 where
 pub folding-start : {d : ℕ} {t a f : List ℕ} → FoldingTo 0 d t a f f
 folding-start = record { worth = λ p y l. rw (terms-zero) (simp ring) }
 
-pub folding-next : {n d b : ℕ} {t a f g h : List ℕ} → 8 ≤ d → getD t n 0 < 8 → b ≡ 16 * (d - 8 + getD t n 0) → Added lanes b a g h
+pub folding-next : {n d b : ℕ} {t a f g h : List ℕ} → 8 ≤ d → getD t n 0 < 8 → b ≡ 16 * (d - 8 + getD t n 0) → RowAdded lanes b a g h
     → FoldingTo n d t a f g → FoldingTo (n + 1) d t a f h
 folding-next {n} {d} {b} {t} {a} {f} {g} {h} l m e s w = record {
   worth = λ p y k.
@@ -210,7 +203,7 @@ row-folded {n} {d} {t} {a} {f} {g} e l h w = record {
       let s : d - 8 + 8 ≡ d = omega arith in
       let z : terms elements n (λ j. getD t j 0) y ≡ pow elements y 8 = rw e (sym y8) in
       w .worth p y k
-      ∙ (rw (z, ← pow-add elements y (d - 8) 8, s, add-one d, ev-snoc elements d (spaced f 16 p) y, spaced-at f 16 p d (16 * d + p) refl, h .used p k));
+      ∙ (rw (z, ← pow-add elements y (d - 8) 8, s, add-one d, ev-snoc elements d (spaced f 16 p) y, spaced-at f 16 p d (16 * d + p) refl, h .is p k));
 }
 
 pub folded-start : {t f : List ℕ} → Folded 17 t f f

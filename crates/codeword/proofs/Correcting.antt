@@ -1,121 +1,107 @@
--- The evaluator, the derivative and the corrections, one after another.
+-- Forney's values, 16 at a time, and the corrections, one after another.
 --
---   evaluator-start, evaluator-next                     the coefficients of a product
---   DerivativeTo h c d                                  the even coefficients of a derivative, below 2 h; the odd ones are zero
---   derivative-start, derivative-next, derivative-done  .. one after another
---   corrected-start, corrected-next, corrected-done     one place after another
+--   valueOf-octet                a value is an octet
+--   HornersFrom f n x i v        Horner's rule at 16 points, after the coefficients from i on
+--   horners-start, horners-next, horners-done    .. from the highest coefficient down
+--   added-start, added-next      one place after another
+--   corrected-start, corrected-next, corrected-done    16 places after another
 --
 -- Assumes nothing.
 use mathlib.Core.Path.{_≡_, refl, sym, ap, _∙_, subst}
 use mathlib.Core.List.{List}
-use Prim.Native.Nat.{ℕ, zero, suc, _+_, _*_, _/_, _%_, _≤_, _<_}
+use Prim.Native.Nat.{ℕ, _+_, _*_, _-_, _≤_, _<_}
 use native.Mathlib.Omega.{arith}
-use native.Mathlib.Decide.{ℕ-discrete}
-use lib.ListN.{length, getD, set, length-set}
+use native.Mathlib.Decide.{ℕ-discrete, decLt}
+use lib.Dec.{lit<}
+use lib.ListN.{length, getD, set, replicate, length-set}
 use lib.Seq.{getD-set-same, getD-set-other}
-use Rattle.algebra.specs.Field.{Field}
-use Rattle.algebra.specs.Series as Ser
-use Rattle.algebra.specs.Derivative.{deriv}
-use Rattle.algebra.proofs.Laws.{deriv-even, deriv-odd, ⊛-dot}
 use Rattle.field.specs.Octet as Octet
 use Rattle.field.specs.Octet.Laws.{sum-octet, product-octet}
-use Rattle.codeword.specs.Element.{elements, element, octet}
-use Rattle.codeword.specs.Element.Laws.{element-octet, element-zero}
-use Rattle.codeword.specs.CodeWord.{longestWord, Octets}
-use Rattle.codeword.specs.Places.{places, inverses}
-use Rattle.codeword.specs.Locator.{discrepancyOf}
-use Rattle.codeword.specs.Values.{EvaluatorIs, DerivativeIs, errorOf, Corrected}
-use Rattle.codeword.proofs.Arrays.{zeros, zeros-at, octets-set, set-below}
-use Rattle.codeword.proofs.Word.{places-at}
-open Field elements using (Carrier as F, nil as 𝟘)
+use Rattle.codeword.specs.Element.{octet}
+use Rattle.codeword.specs.Element.Laws.{octet-lt}
+use Rattle.codeword.specs.CodeWord.{Octets}
+use Rattle.codeword.specs.Lanes.{lanes}
+use Rattle.codeword.specs.Places.{inverses}
+use Rattle.codeword.specs.Search.{valueOf}
+use Rattle.codeword.specs.Values.{errorOf, HornerTurned, ValuesAre, InversesAre, ErrorsAre, Added, Corrected}
+use Rattle.codeword.proofs.Arrays.{replicate-at}
+use Rattle.codeword.proofs.Searching.{HornerFrom, horner-start, horner-next, horner-done}
 
--- ---- the evaluator
+-- ---- Horner's rule
 
-pub evaluator-start : {c s : List ℕ} → EvaluatorIs 0 c s zeros
-evaluator-start = record { long = refl; used = λ k l. absurd (omega arith) }
+pub valueOf-octet : (p : List ℕ) (l x : ℕ) → valueOf p l x < Octet.size
+unfolding valueOf
+valueOf-octet p l x = octet-lt _
 
-pub evaluator-next : {k v : ℕ} {c s o : List ℕ} → k < longestWord → EvaluatorIs k c s o → v ≡ discrepancyOf c s k k
-    → EvaluatorIs (k + 1) c s (set o k v)
-unfolding discrepancyOf
-evaluator-next {k} {v} {c} {s} {o} h e d = record {
-  long = length-set o k v ∙ e .long;
-  used = λ i l. places-at (set o k v) i
-      ∙ set-below (λ i y. element y ≡ Ser._⊛_ elements (places c) (places s) i) o k v (omega (arith, e .long))
-      (λ i l. sym (places-at o i) ∙ e .used i l) (ap element d ∙ element-octet _ ∙ sym (⊛-dot elements (places c) (places s) k)) i l;
+pub record HornersFrom (f : List ℕ) (n : ℕ) (x : List ℕ) (i : ℕ) (v : List ℕ) : Type 0 where
+  pub each : (k : ℕ) → k < lanes → HornerFrom f n (getD x k 0) i (getD v k 0)
+
+pub horners-start : {f : List ℕ} {n : ℕ} {x : List ℕ} → HornersFrom f n x n (replicate lanes 0)
+horners-start = record { each = λ k l. rw (replicate-at lanes k) horner-start }
+
+pub horners-next : {f : List ℕ} {n i a : ℕ} {x v u : List ℕ} → i < n → a ≡ getD f i 0 → a < Octet.size → HornerTurned a x v u → HornersFrom f n x (i + 1) v
+    → HornersFrom f n x i u
+horners-next l e octet t h = record {
+  each = λ k m. horner-next l (rw (t .is k m) (sum-octet _ _ (product-octet _ _) octet)) (t .is k m ∙ ap (Octet.sum _) e) (h .each k m);
 }
 
--- ---- the derivative
-
-pub record DerivativeTo (h : ℕ) (c d : List ℕ) : Type 0 where
-  pub long : length d ≡ longestWord
-  pub even : (i : ℕ) → i < h → getD d (2 * i) 0 ≡ getD c (2 * i + 1) 0
-  pub odd : (i : ℕ) → getD d (2 * i + 1) 0 ≡ 0
-
-pub derivative-start : {c : List ℕ} → DerivativeTo 0 c zeros
-derivative-start = record { long = refl; even = λ i l. absurd (omega arith); odd = λ i. zeros-at (2 * i + 1) }
-
-pub derivative-next : (h : ℕ) (c d : List ℕ) → 2 * h < longestWord → DerivativeTo h c d
-    → DerivativeTo (h + 1) c (set d (2 * h) (getD c (2 * h + 1) 0))
-derivative-next h c d l t = record {
-  long = length-set d (2 * h) _ ∙ t .long;
-  even = λ i m. go i m (ℕ-discrete i h);
-  odd = λ i. getD-set-other d (2 * h) (2 * i + 1) _ 0 (λ e. unequal i e) ∙ t .odd i;
-}
-  where
-    unequal : (i : ℕ) → 2 * i + 1 ≡ 2 * h → ⊥
-    unequal i e = omega arith
-
-    go : (i : ℕ) → i < h + 1 → Dec (i ≡ h) → getD (set d (2 * h) (getD c (2 * h + 1) 0)) (2 * i) 0 ≡ getD c (2 * i + 1) 0
-    go i m (yes p) = rw p (getD-set-same d (2 * h) _ 0 (omega (arith, t .long)))
-    go i m (no n) = getD-set-other d (2 * h) (2 * i) _ 0 (λ e. n (omega arith)) ∙ t .even i (omega arith)
-
-pub derivative-done : (l h : ℕ) (c d : List ℕ) → l ≤ 2 * h → DerivativeTo h c d → DerivativeIs l c d
-derivative-done l h c d m t = record { used = used }
-  where
-    used : (k : ℕ) → k < l → places d k ≡ deriv elements (places c) k
-    used k o = go (k % 2) refl
-      where
-        go : (r : ℕ) → k % 2 ≡ r → places d k ≡ deriv elements (places c) k
-        go zero e =
-            let s : k ≡ 2 * (k / 2) = omega arith in
-            rw s (places-at d (2 * (k / 2)) ∙ ap element (t .even (k / 2) (omega arith))
-            ∙ sym (deriv-even elements (k / 2) (places c) ∙ places-at c (2 * (k / 2) + 1)))
-        go (suc zero) e =
-            let s : k ≡ 2 * (k / 2) + 1 = omega arith in
-            rw s (places-at d (2 * (k / 2) + 1) ∙ ap element (t .odd (k / 2)) ∙ element-zero ∙ sym (deriv-odd elements (k / 2) (places c)))
-        go (suc (suc r)) e = absurd (omega arith)
+pub horners-done : {f : List ℕ} {n : ℕ} {x v : List ℕ} → HornersFrom f n x 0 v → ValuesAre n f x v
+horners-done h = record { is = λ k l. horner-done (h .each k l) }
 
 -- ---- the corrections
+
+pub added-start : {j : ℕ} {at y w : List ℕ} → Added j 0 at y w w
+added-start = record { long = refl; changed = λ k m. absurd (omega arith); same = λ p m. refl }
+
+-- the places rise, so none is met twice
+pub added-next : {j k p v : ℕ} {at y w u : List ℕ} → p ≡ getD at (j + k) 0 → p < length w
+    → ((h i : ℕ) → h < i → i < j + (k + 1) → getD at h 0 < getD at i 0) → v ≡ Octet.sum (getD u p 0) (getD y k 0)
+    → Added j k at y w u → Added j (k + 1) at y w (set u p v)
+added-next {j} {k} {p} {v} {at} {y} {w} {u} at-p room rises e t = record {
+  long = length-set u p v ∙ t .long;
+  changed = λ i m. go i m (ℕ-discrete i k);
+  same = λ q m. getD-set-other u p q v 0 (λ z. m k (omega arith) (sym at-p ∙ sym z)) ∙ t .same q (λ i l. m i (omega arith));
+}
+  where
+    other : (i : ℕ) → i < k → getD at (j + i) 0 ≡ p → ⊥
+    other i l z = omega (arith, rises (j + i) (j + k) (omega arith) (omega arith))
+
+    go : (i : ℕ) → i < k + 1 → Dec (i ≡ k) → getD (set u p v) (getD at (j + i) 0) 0 ≡ Octet.sum (getD w (getD at (j + i) 0) 0) (getD y i 0)
+    go i m (yes z) =
+        rw (z, ← at-p) (getD-set-same u p v 0 (omega (arith, t .long)) ∙ e ∙ ap (λ (x : ℕ). Octet.sum x (getD y k 0)) (t .same p other))
+    go i m (no z) = getD-set-other u p (getD at (j + i) 0) v 0 (other i (omega arith)) ∙ t .changed i (omega arith)
 
 pub corrected-start : {n l : ℕ} {at o d w : List ℕ} → Octets w → Corrected n l 0 at o d w w
 corrected-start h = record { long = refl; octets = h; changed = λ j m. absurd (omega arith); same = λ p m. refl }
 
-pub corrected-next : {n l j p v : ℕ} {at o d w u : List ℕ} → p ≡ getD at j 0 → p < length w
-    → ((i : ℕ) → i < j → getD at i 0 < getD at j 0)
-    → v ≡ Octet.sum (getD u p 0) (errorOf o d l (octet (inverses n p)))
-    → Corrected n l j at o d w u → Corrected n l (j + 1) at o d w (set u p v)
-unfolding errorOf
-corrected-next {n} {l} {j} {p} {v} {at} {o} {d} {w} {u} at-p room above e t = record {
-  long = length-set u p v ∙ t .long;
-  octets = octets-set u p v (rw e (sum-octet _ _ (t .octets p) (product-octet _ _))) (t .octets);
-  changed = λ i m. go i m (ℕ-discrete i j);
-  same = λ q m. getD-set-other u p q v 0 (λ z. m j (omega arith) (sym at-p ∙ sym z)) ∙ t .same q (λ i k. m i (omega arith));
+pub corrected-next : {n l j m : ℕ} {at o d w u v x y : List ℕ} → m ≤ lanes → Octets v
+    → ((h i : ℕ) → h < i → i < j + m → getD at h 0 < getD at i 0)
+    → InversesAre n j m at x → ErrorsAre l o d x y → Added j m at y u v
+    → Corrected n l j at o d w u → Corrected n l (j + m) at o d w v
+corrected-next {n} {l} {j} {m} {at} {o} {d} {w} {u} {v} {x} {y} few octets rises points errors added t = record {
+  long = added .long ∙ t .long;
+  octets = octets;
+  changed = λ i h. go i h (decLt i j);
+  same = λ p h. added .same p (λ k o. h (j + k) (omega arith)) ∙ t .same p (λ i o. h i (omega arith));
 }
   where
-    untouched : getD u p 0 ≡ getD w p 0
-    untouched = t .same p (λ i k z. below i k z)
-      where
-        below : (i : ℕ) → i < j → getD at i 0 ≡ p → ⊥
-        below i k z = omega (arith, above i k)
+    value : ℕ → ℕ
+    value p = errorOf o d l (octet (inverses n p))
 
-    go : (i : ℕ) → i < j + 1 → Dec (i ≡ j) → getD (set u p v) (getD at i 0) 0
-        ≡ Octet.sum (getD w (getD at i 0) 0) (errorOf o d l (octet (inverses n (getD at i 0))))
-    go i m (yes z) =
-        rw (z, ← at-p) (getD-set-same u p v 0 (omega (arith, t .long)) ∙ e ∙ ap (λ (x : ℕ). Octet.sum x (errorOf o d l (octet (inverses n p)))) untouched)
-    go i m (no z) = getD-set-other u p (getD at i 0) v 0 (λ y. other y) ∙ t .changed i (omega arith)
+    new : (k : ℕ) → k < m → getD v (getD at (j + k) 0) 0 ≡ Octet.sum (getD w (getD at (j + k) 0) 0) (errorOf o d l (octet (inverses n (getD at (j + k) 0))))
+    new k h =
+        added .changed k h
+        ∙ (rw (t .same (getD at (j + k) 0) (λ i g z. below i g z), errors .is k (omega arith), points .used k h))
       where
-        other : getD at i 0 ≡ p → ⊥
-        other y = omega (arith, above i (omega arith))
+        below : (i : ℕ) → i < j → getD at i 0 ≡ getD at (j + k) 0 → ⊥
+        below i g z = omega (arith, rises i (j + k) (omega arith) (omega arith))
+
+    go : (i : ℕ) → i < j + m → Dec (i < j) → getD v (getD at i 0) 0 ≡ Octet.sum (getD w (getD at i 0) 0) (errorOf o d l (octet (inverses n (getD at i 0))))
+    go i h (yes g) = added .same (getD at i 0) (λ k f z. above k f z) ∙ t .changed i g
+      where
+        above : (k : ℕ) → k < m → getD at (j + k) 0 ≡ getD at i 0 → ⊥
+        above k f z = omega (arith, rises i (j + k) (omega arith) (omega arith))
+    go i h (no g) = let e : j + (i - j) ≡ i = omega arith in rw e at (new (i - j) (omega arith))
 
 pub corrected-done : {n l j : ℕ} {at o d w v : List ℕ} → j ≡ l → Corrected n l j at o d w v → Corrected n l l at o d w v
 corrected-done {n} {l} {j} {at} {o} {d} {w} {v} e = subst (λ (m : ℕ). Corrected n l m at o d w v) e

@@ -20,7 +20,8 @@ use Rattle.algebra.specs.Power.{pow}
 use Rattle.octets.specs.Written.{written, written-length, written-inside, written-outside}
 use Rattle.field.specs.Octet.{order}
 use Rattle.codeword.specs.Element.{elements, element, α}
-use Rattle.codeword.specs.Rows.{lanes, Loaded, Evaluated, Spread, Filled, Worth, Filling, Repeated}
+use Rattle.codeword.specs.Lanes.{lanes, Loaded}
+use Rattle.codeword.specs.Rows.{Evaluated, Spread, Filled, Worth, Filling, Repeated}
 use Rattle.codeword.proofs.Word.{pow-wrap}
 
 pub spread-start : {r : ℕ} {a v : List ℕ} → Spread 0 r a v v
@@ -102,7 +103,7 @@ repeated-next {n} {v} {u} {a} l long h old = record {
     new : (q i : ℕ) → q < n + 1 → i < lanes → Dec (q ≡ n) → getD (written u (48 * n + 18) a) (48 * q + 18 + i) 0 ≡ getD v (48 * q + 1 + i) 0
     new q i k m (yes e) =
         let s : 48 * n + 1 + i ≡ 48 * n + (1 + i) = omega arith in
-        rw e (written-inside u (48 * n + 18) a fits i 0 (omega (arith, h .long)) ∙ h .used i m ∙ (rw s (old .left n (1 + i) (omega arith))))
+        rw e (written-inside u (48 * n + 18) a fits i 0 (omega (arith, h .long)) ∙ h .is i m ∙ (rw s (old .left n (1 + i) (omega arith))))
     new q i k m (no e) = written-outside u (48 * n + 18) a fits (48 * q + 18 + i) 0 (inl (omega arith)) ∙ old .behind q i (omega arith) m
 
 pub repeated-stays : {w v u : List ℕ} {r : ℕ} → Repeated 15 v u → r < 18 → Filled w r v → Filled w r u

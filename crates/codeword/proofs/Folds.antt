@@ -27,7 +27,7 @@ use Rattle.field.specs.Octet.Laws.{power-zero, power-suc, power-wrap, sum-xor}
 use Rattle.field.specs.Octet.Table.{worked, worked-is}
 use Rattle.codeword.specs.Element.{elements, element, α}
 use Rattle.codeword.specs.Element.Laws.{element-power, element-sum, element-zero}
-use Rattle.codeword.specs.Rows.{spaced, column, RowsAre, Folding, Folded, Worth, Filled, Filling, Repeated, ValuesAre}
+use Rattle.codeword.specs.Rows.{spaced, column, RowsAre, Folding, Folded, Worth, Filled, Filling, Repeated, ColumnsAre}
 use Rattle.codeword.proofs.Columns.{spaced-at}
 use Rattle.codeword.proofs.Filling.{repeated-stays, repeated-filled}
 
@@ -202,7 +202,7 @@ module _ {m : ℕ} {w rows f g v₀ v₁ v₂ v₃ : List ℕ} (are : RowsAre w 
           let q : 17 ≡ r = rw z at (later (j - 8) (omega arith)) in
           rw q at (three .filled w (λ j l. unfolded-worth are _) 0 (lit< tt) (rw q h))
 
-  pub values-are : {u : List ℕ} → Repeated 15 v₃ u → ValuesAre m w u
+  pub values-are : {u : List ℕ} → Repeated 15 v₃ u → ColumnsAre m w u
   values-are {u} h r a b e = go (decLt r 18)
     where
       low : (r : ℕ) → 0 < r → r < 18 → r ≤ m → Filled w r v₃

@@ -32,7 +32,8 @@ use Rattle.codeword.specs.Element.{elements, element, α}
 use Rattle.codeword.specs.Element.Laws.{element-zero}
 use Rattle.codeword.specs.CodeWord.{longestWord, word, Octets, CodeWord}
 use Rattle.codeword.specs.Places.{value}
-use Rattle.codeword.specs.Rows.{lanes, spaced, column, Filled, Evaluated, ValuesAre}
+use Rattle.codeword.specs.Lanes.{lanes}
+use Rattle.codeword.specs.Rows.{spaced, column, Filled, Evaluated, ColumnsAre}
 use Rattle.codeword.specs.Syndromes.{SyndromesAre, allZero}
 use Rattle.codeword.proofs.Word.{below-word, pow-wrap}
 use Rattle.codeword.proofs.Columns.{spaced-at, Blocks}
@@ -59,7 +60,7 @@ column-values w v i r h e f =
 abbrev pub Syndrome : List ℕ → ℕ → ℕ → Type 0
 Syndrome w i x = element x ≡ value w (pow elements α (suc i))
 
-pub joined-lane : (n : ℕ) {m : ℕ} {w v a : List ℕ} → length w ≤ longestWord → ValuesAre m w v → Evaluated 15 (n + 1) 1 v 48 (n % 17 + 1) a
+pub joined-lane : (n : ℕ) {m : ℕ} {w v a : List ℕ} → length w ≤ longestWord → ColumnsAre m w v → Evaluated 15 (n + 1) 1 v 48 (n % 17 + 1) a
     → (j : ℕ) → j < lanes → n + j < m → Syndrome w (n + j) (getD a j 0)
 joined-lane n {m} {w} {v} {a} h values e j l k =
     let point : n + 1 + 1 * j ≡ suc (n + j) = omega arith in

@@ -11,9 +11,11 @@ pub mod Register
 pub mod Parity
 pub mod Systematic
 pub mod Remainder
+pub mod Loading
 pub mod Mending
 pub mod Stepping
 pub mod Searching
+pub mod Inverting
 pub mod Correcting
 pub mod Repairing
 pub mod Theorems

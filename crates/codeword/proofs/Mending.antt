@@ -1,31 +1,29 @@
--- Adding a multiple of a shifted recurrence to another, and a discrepancy, a coefficient at a time.
+-- a c + q x^n b, 16 coefficients at a time from the top down, and as series.
 --
---   discrepancy-to c s r j          the sum that the loop has after j terms
---   discrepancy-start, discrepancy-next, discrepancy-is    .. one after another
---   mended-start, mended-next       one coefficient after another
---   mended-whole                    the whole of it, where nothing lies beyond
+--   mended-start, mended-next       one block after another
+--   kept-start, kept-next           .. of c into b
+--   mended-at, mended-whole         what c then is, as a series; the whole of it, where nothing lies beyond
+--   kept-at, kept-whole, kept-margin    what b then is
 --
 -- Assumes nothing.
 use mathlib.Core.Path.{_≡_, refl, sym, ap, ap₂, fun-ext, _∙_}
+use mathlib.Core.Logic.{_⊎_, inl, inr, ⊎-elim}
+use mathlib.Core.Bool.{Bool, true, false, true≢false}
 use mathlib.Core.List.{List}
-use Prim.Native.Nat.{ℕ, _+_, _-_, _≤_, _<_}
-use native.Mathlib.Numerals.{add-one}
+use Prim.Native.Nat.{ℕ, _+_, _*_, _-_, _≤_, _<_}
 use native.Mathlib.Omega.{arith}
-use native.Mathlib.Decide.{decLe}
-use lib.ListN.{length, getD, set, length-set}
-use lib.Seq.{getD-set-other}
+use native.Mathlib.Decide.{decLe, decLt}
+use lib.ListN.{length, getD}
 use Rattle.algebra.specs.Field.{Field}
 use Rattle.algebra.specs.Series.{Operations, operations}
 use Rattle.algebra.specs.Polynomial.{raised}
-use Rattle.algebra.specs.Convolution.{dot}
-use Rattle.algebra.proofs.Laws.{raised-low, raised-high, ⊕-𝟘, ⊙-𝟘, ⊞-at, ⊡-at, dot-zero, dot-suc}
+use Rattle.algebra.proofs.Laws.{raised-low, raised-high, ⊕-𝟘, ⊙-𝟘, ⊞-at, ⊡-at}
 use Rattle.field.specs.Octet as Octet
-use Rattle.field.specs.Octet.Laws.{product-octet}
-use Rattle.codeword.specs.Element.{elements, element, octet}
-use Rattle.codeword.specs.Element.Laws.{octet-element, octet-add, octet-nil, element-sum, element-product}
+use Rattle.codeword.specs.Element.{elements, element}
+use Rattle.codeword.specs.Element.Laws.{element-sum, element-product, element-zero}
+use Rattle.codeword.specs.Lanes.{lanes, Loaded, Stored}
 use Rattle.codeword.specs.Places.{places}
-use Rattle.codeword.specs.Locator.{Mended, discrepancyOf}
-use Rattle.codeword.proofs.Arrays.{set-below}
+use Rattle.codeword.specs.Locator.{margin, Margin, behind, Mixed, Saved, Mended, Kept}
 use Rattle.codeword.proofs.Word.{places-at}
 
 infixl 60 _⊕_ _⊞_
@@ -34,66 +32,111 @@ infixr 80 _⊡_
 open Field elements using (Carrier as F, add as _⊕_, mul as _⊙_, nil as 𝟘)
 open Operations (operations elements) using (_⊞_, _⊡_)
 
--- ---- a discrepancy
+-- a x + q y, on octets
+abbrev mix : ℕ → ℕ → ℕ → ℕ → ℕ
+mix a q x y = Octet.sum (Octet.product a x) (Octet.product q y)
 
-pub discrepancy-to : List ℕ → List ℕ → ℕ → ℕ → ℕ
-discrepancy-to c s r j = octet (dot elements (places c) (places s) r j)
+-- ---- block after block
 
-pub discrepancy-start : (c s : List ℕ) (r : ℕ) → discrepancy-to c s r 0 ≡ 0
-unfolding discrepancy-to
-discrepancy-start c s r = ap octet (dot-zero elements _ _ r) ∙ octet-nil
+pub mended-start : {hi n a q : ℕ} {c b : List ℕ} → Mended hi hi n a q c b c
+mended-start = record { long = refl; done = λ k l m. absurd (omega arith); left = λ k h. refl }
 
-pub discrepancy-next : (c s : List ℕ) (r j : ℕ) → discrepancy-to c s r (j + 1) ≡ Octet.sum (discrepancy-to c s r j) (Octet.product (getD c j 0) (getD s (r - j) 0))
-unfolding discrepancy-to
-discrepancy-next c s r j =
-    rw (add-one j) (ap octet (dot-suc elements (places c) (places s) r j) ∙ octet-add _ _
-    ∙ ap (Octet.sum (octet (dot elements (places c) (places s) r j)))
-    (ap octet (ap₂ (λ (x y : F). x ⊙ y) (places-at c j) (places-at s (r - j)) ∙ sym (element-product _ _)) ∙ octet-element _ (product-octet _ _)))
+pub kept-start : {grows : Bool} {hi : ℕ} {c b : List ℕ} → Kept grows hi hi c b b
+kept-start = record { long = refl; done = λ g k l m. absurd (omega arith); left = λ k h. refl; same = λ g. refl }
 
-pub discrepancy-is : (c s : List ℕ) (r l j : ℕ) → j ≡ l + 1 → discrepancy-to c s r j ≡ discrepancyOf c s r l
-unfolding discrepancy-to discrepancyOf
-discrepancy-is c s r l j e = rw (e, add-one l)
-
--- ---- mending
-
--- what c + q x^n b has at k
-mended-at : ℕ → ℕ → List ℕ → List ℕ → ℕ → F
-mended-at q n c b k = places c k ⊕ element q ⊙ raised elements n (places b) k
-
-mended-low : (q n : ℕ) (c b : List ℕ) (k : ℕ) → raised elements n (places b) k ≡ 𝟘 → mended-at q n c b k ≡ places c k
-unfolding mended-at
-mended-low q n c b k e =
-    ap (λ (x : F). places c k ⊕ element q ⊙ x) e ∙ ap (λ (x : F). places c k ⊕ x) (⊙-𝟘 elements (element q)) ∙ ⊕-𝟘 elements (places c k)
-
-pub mended-start : {q n : ℕ} {c b : List ℕ} → Mended n q n c b c
-unfolding mended-at
-mended-start {q} {n} {c} {b} = record {
-  long = refl;
-  done = λ k l. sym (mended-low q n c b k (raised-low elements n (places b) k l));
-  left = λ k l. refl;
-}
-
-pub mended-next : {q n j v : ℕ} {c b d : List ℕ} → Mended j q n c b d → n ≤ j → j < length c
-    → v ≡ Octet.sum (getD d j 0) (Octet.product q (getD b (j - n) 0)) → Mended (j + 1) q n c b (set d j v)
-mended-next {q} {n} {j} {v} {c} {b} {d} h l m e = record {
-  long = length-set d j v ∙ h .long;
-  done = λ k o. places-at (set d j v) k
-      ∙ set-below (λ k y. element y ≡ places c k ⊕ element q ⊙ raised elements n (places b) k) d j v (omega (arith, h .long))
-      (λ k o. sym (places-at d k) ∙ h .done k o) new k o;
-  left = λ k o. getD-set-other d j k v 0 (omega arith) ∙ h .left k (omega arith);
+-- b is maybe changed from this block on
+pub mended-next : (o : ℕ) {hi n a q : ℕ} {c b d d′ b′ x y z : List ℕ} → n ≤ margin → Mended (lanes * (o + 1)) hi n a q c b d → lanes * (o + 1) ≤ hi
+    → ((i : ℕ) → i < margin + lanes * (o + 1) → getD b′ i 0 ≡ getD b i 0)
+    → Loaded d (lanes * o) x → Loaded b′ (margin + lanes * o - n) y → Mixed a q x y z → Stored d (lanes * o) z d′
+    → Mended (lanes * o) hi n a q c b d′
+mended-next o {hi} {n} {a} {q} {c} {b} {d} {d′} {b′} {x} {y} {z} small h fits same lx ly mz st = record {
+  long = st .long ∙ h .long;
+  done = λ k l m. elim (decLt k (lanes * (o + 1))) [
+    | yes p ↦ here k l p
+    | no p ↦ st .outside k (inr (omega arith)) ∙ h .done k (omega arith) m
+  ];
+  left = λ k m. st .outside k (⊎-elim (λ p. inl p) (λ p. inr (omega arith)) m) ∙ h .left k (⊎-elim (λ p. inl (omega arith)) (λ p. inr p) m);
 }
   where
-    new : element v ≡ places c j ⊕ element q ⊙ raised elements n (places b) j
-    new =
-        ap element e ∙ element-sum _ _
-        ∙ ap₂ (λ (x y : F). x ⊕ y) (ap element (h .left j (omega arith)) ∙ sym (places-at c j))
-        (element-product q _ ∙ ap (λ (x : F). element q ⊙ x) (sym (raised-high elements n (places b) j l ∙ places-at b (j - n))))
+    here : (k : ℕ) → lanes * o ≤ k → k < lanes * (o + 1) → getD d′ k 0 ≡ mix a q (getD c k 0) (getD b (margin + k - n) 0)
+    here k l m =
+        let j : ℕ = k - lanes * o in
+        let e : lanes * o + j ≡ k = omega arith in
+        let u : margin + lanes * o - n + j ≡ margin + k - n = omega arith in
+        ap (λ (i : ℕ). getD d′ i 0) (sym e) ∙ st .inside j (omega arith) ∙ mz .is j (omega arith)
+        ∙ ap₂ (mix a q) (lx .is j (omega arith) ∙ ap (λ (i : ℕ). getD d i 0) e ∙ h .left k (inl m))
+        (ly .is j (omega arith) ∙ ap (λ (i : ℕ). getD b′ i 0) u ∙ same (margin + k - n) (omega arith))
 
-pub mended-whole : (top q n : ℕ) (c b d : List ℕ) → Mended top q n c b d → ((k : ℕ) → top ≤ k → raised elements n (places b) k ≡ 𝟘)
-    → places d ≡ places c ⊞ element q ⊡ raised elements n (places b)
-unfolding mended-at
-mended-whole top q n c b d h z = fun-ext (λ k. go k (decLe top k) ∙ sym (⊞-at elements _ _ k ∙ ap (λ (x : F). places c k ⊕ x) (⊡-at elements _ _ k)))
+pub kept-next : (grows : Bool) (o : ℕ) {hi : ℕ} {c b d b′ b″ x : List ℕ} → Kept grows (lanes * (o + 1)) hi c b b′ → lanes * (o + 1) ≤ hi
+    → ((k : ℕ) → k < lanes * (o + 1) → getD d k 0 ≡ getD c k 0) → Loaded d (lanes * o) x → Saved grows (margin + lanes * o) x b′ b″
+    → Kept grows (lanes * o) hi c b b″
+kept-next true o {hi} {c} {b} {d} {b′} {b″} {x} h fits same lx saved = record {
+  long = st .long ∙ h .long;
+  done = λ g k l m. elim (decLt k (lanes * (o + 1))) [
+    | yes p ↦ here k l p
+    | no p ↦ st .outside (margin + k) (inr (omega arith)) ∙ h .done refl k (omega arith) m
+  ];
+  left = λ i m. st .outside i (⊎-elim (λ p. inl p) (λ p. inr (omega arith)) m) ∙ h .left i (⊎-elim (λ p. inl (omega arith)) (λ p. inr p) m);
+  same = λ g. absurd (true≢false g);
+}
   where
-    go : (k : ℕ) → Dec (top ≤ k) → places d k ≡ mended-at q n c b k
-    go k (no l) = h .done k (omega arith)
-    go k (yes l) = places-at d k ∙ ap element (h .left k l) ∙ sym (mended-low q n c b k (z k l) ∙ places-at c k)
+    st : Stored b′ (margin + lanes * o) x b″
+    st = saved .stored refl
+
+    here : (k : ℕ) → lanes * o ≤ k → k < lanes * (o + 1) → getD b″ (margin + k) 0 ≡ getD c k 0
+    here k l m =
+        let j : ℕ = k - lanes * o in
+        let e : lanes * o + j ≡ k = omega arith in
+        let u : margin + lanes * o + j ≡ margin + k = omega arith in
+        ap (λ (i : ℕ). getD b″ i 0) (sym u) ∙ st .inside j (omega arith) ∙ lx .is j (omega arith) ∙ ap (λ (i : ℕ). getD d i 0) e ∙ same k m
+kept-next false o {hi} {c} {b} {d} {b′} {b″} {x} h fits same lx saved = record {
+  long = ap length (saved .same refl) ∙ h .long;
+  done = λ g. absurd (true≢false (sym g));
+  left = λ i m. ap (λ (l : List ℕ). getD l i 0) (saved .same refl ∙ h .same refl);
+  same = λ g. saved .same refl ∙ h .same refl;
+}
+
+-- ---- as series
+
+pub behind-at : (b : List ℕ) (k : ℕ) → behind b k ≡ element (getD b (margin + k) 0)
+unfolding behind
+behind-at b k = places-at b (margin + k)
+
+-- what is read below b's first coefficient is zero
+shifted-at : (n : ℕ) (b : List ℕ) (k : ℕ) → Margin b → n ≤ margin → element (getD b (margin + k - n) 0) ≡ raised elements n (behind b) k
+shifted-at n b k h l = elim (decLt k n) [
+  | yes p ↦ ap element (h (margin + k - n) (omega arith)) ∙ element-zero ∙ sym (raised-low elements n (behind b) k p)
+  | no p ↦ (let e : margin + k - n ≡ margin + (k - n) = omega arith in
+      ap (λ (i : ℕ). element (getD b i 0)) e ∙ sym (raised-high elements n (behind b) k (omega arith) ∙ behind-at b (k - n)))
+]
+
+pub mended-at : {hi n a q : ℕ} {c b d : List ℕ} → Mended 0 hi n a q c b d → Margin b → n ≤ margin → (k : ℕ) → k < hi
+    → places d k ≡ element a ⊙ places c k ⊕ element q ⊙ raised elements n (behind b) k
+mended-at {hi} {n} {a} {q} {c} {b} {d} h z l k m =
+    places-at d k ∙ ap element (h .done k (omega arith) m) ∙ element-sum _ _
+    ∙ ap₂ (λ (x y : F). x ⊕ y) (element-product a _ ∙ ap (λ (x : F). element a ⊙ x) (sym (places-at c k)))
+    (element-product q _ ∙ ap (λ (x : F). element q ⊙ x) (shifted-at n b k z l))
+
+pub mended-whole : {hi n a q : ℕ} {c b d : List ℕ} → Mended 0 hi n a q c b d → Margin b → n ≤ margin
+    → ((k : ℕ) → hi ≤ k → places c k ≡ 𝟘) → ((k : ℕ) → hi ≤ k → raised elements n (behind b) k ≡ 𝟘)
+    → places d ≡ element a ⊡ places c ⊞ element q ⊡ raised elements n (behind b)
+mended-whole {hi} {n} {a} {q} {c} {b} {d} h z l cz bz = fun-ext (λ k. go k (decLe hi k) ∙ sym (⊞-at elements _ _ k ∙ ap₂ (λ (x y : F). x ⊕ y) (⊡-at elements _ _ k) (⊡-at elements _ _ k)))
+  where
+    go : (k : ℕ) → Dec (hi ≤ k) → places d k ≡ element a ⊙ places c k ⊕ element q ⊙ raised elements n (behind b) k
+    go k (no m) = mended-at h z l k (omega arith)
+    go k (yes m) =
+        places-at d k ∙ ap element (h .left k (inr m)) ∙ sym (places-at c k) ∙ cz k m
+        ∙ sym (rw (cz k m, bz k m, ⊙-𝟘 elements (element a), ⊙-𝟘 elements (element q)) (⊕-𝟘 elements 𝟘))
+
+pub kept-at : {hi : ℕ} {c b d : List ℕ} → Kept true 0 hi c b d → (k : ℕ) → k < hi → behind d k ≡ places c k
+kept-at {hi} {c} {b} {d} h k m = behind-at d k ∙ ap element (h .done refl k (omega arith) m) ∙ sym (places-at c k)
+
+pub kept-whole : {hi : ℕ} {c b d : List ℕ} → Kept true 0 hi c b d → ((k : ℕ) → hi ≤ k → places c k ≡ 𝟘) → ((k : ℕ) → hi ≤ k → behind b k ≡ 𝟘)
+    → behind d ≡ places c
+kept-whole {hi} {c} {b} {d} h cz bz = fun-ext (λ k. elim (decLe hi k) [
+  | yes m ↦ behind-at d k ∙ ap element (h .left (margin + k) (inr (omega arith))) ∙ sym (behind-at b k) ∙ bz k m ∙ sym (cz k m)
+  | no m ↦ kept-at h k (omega arith)
+])
+
+pub kept-margin : {grows : Bool} {hi : ℕ} {c b d : List ℕ} → Kept grows 0 hi c b d → Margin b → Margin d
+kept-margin h z k l = h .left k (inl (omega arith)) ∙ z k l

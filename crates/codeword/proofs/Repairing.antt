@@ -13,7 +13,7 @@ use mathlib.Core.Path.{_≡_, refl, sym, ap, ap₂, _∙_}
 use mathlib.Core.Logic.{_≢_, inr}
 use mathlib.Core.Bool.{true}
 use mathlib.Core.List.{List, _++_}
-use Prim.Native.Nat.{ℕ, suc, _+_, _*_, _-_, _≤_, _<_}
+use Prim.Native.Nat.{ℕ, suc, _+_, _*_, _-_, _/_, _≤_, _<_}
 use native.Mathlib.Omega.{arith}
 use native.Mathlib.Decide.{decLt}
 use borrow.Author.Tests.{le-leb, lt-ltb, leb-true, ltb-true}
@@ -30,41 +30,31 @@ use Rattle.algebra.specs.Value.{ev}
 use Rattle.algebra.specs.Points.{Distinct, Inverses}
 use Rattle.algebra.specs.PowerSum.{psum}
 use Rattle.algebra.specs.Support.{weight}
-use Rattle.algebra.specs.Derivative.{deriv}
-use Rattle.algebra.proofs.Laws.{⊕-self, ⊕-cancel, ⊕-𝟘, ⊙-assoc, ⊙-comm, ⊙-inv, ⊙-𝟙, ⊞-at, ev-local, length-complete}
-use Rattle.algebra.proofs.Laws.{search-complete, divisor-ne, search-sound, search-lists, eq-of-sum, lists-as}
-use Rattle.field.specs.Octet.{size, order}
-use Rattle.field.specs.Octet.Laws.{product-octet}
+use Rattle.algebra.specs.Derivative.{deriv, odds}
+use Rattle.algebra.proofs.Laws.{⊕-self, ⊕-cancel, ⊕-𝟘, ⊙-assoc, ⊙-comm, ⊙-inv, ⊙-𝟙, ⊞-at, ev-local, odds-at, deriv-odds}
+use Rattle.algebra.proofs.Laws.{least-weight, scaled-complete, scaled-divisor, scaled-sound, scaled-lists, eq-of-sum, lists-as}
+use Rattle.field.specs.Octet.{order}
 use Rattle.codeword.specs.Element.{elements, element, octet, α}
-use Rattle.codeword.specs.Element.Laws.{octet-lt, element-octet, element-sum, element-product, element-inverse}
+use Rattle.codeword.specs.Element.Laws.{octet-mul, element-octet, element-sum, element-product, element-inverse}
 use Rattle.codeword.specs.CodeWord.{longestWord, Octets, distance, Within}
 use Rattle.codeword.specs.Places.{places, locators, inverses, value}
 use Rattle.codeword.specs.Syndromes.{SyndromesAre, allZero}
-use Rattle.codeword.specs.Locator.{LocatorIs}
+use Rattle.codeword.specs.Locator.{Located, LocatorIs, EvaluatorIs}
 use Rattle.codeword.specs.Search.{valueOf, SearchIs}
-use Rattle.codeword.specs.Values.{EvaluatorIs, DerivativeIs, errorOf, Corrected}
+use Rattle.codeword.specs.Values.{OddsAre, errorOf, Corrected}
 use Rattle.codeword.specs.Repair.{RepairLent, lending, hasRepairRoom, reads, FoundIs, OutOfReachIs}
 use Rattle.codeword.proofs.Word.{places-at, locators-distinct, locators-inverse}
 use Rattle.codeword.proofs.Criterion.{codeWord-zero, zero-codeWord}
 use Rattle.codeword.proofs.Counting.{placesExactly, changed-none}
 use Rattle.codeword.proofs.Distance.{element-same, difference, distance-weight, distance-self, difference-value}
 use Rattle.codeword.proofs.Joining.{zero-syndromes}
+use Rattle.codeword.proofs.Correcting.{valueOf-octet}
 use Rattle.codeword.proofs.Systematic.{octets-take}
 
 infixl 60 _⊕_
 infixl 70 _⊙_ _⊛_
 open Field elements using (Carrier as F, add as _⊕_, mul as _⊙_, inv, nil as 𝟘)
 open Operations (operations elements) using (_⊛_)
-
--- ---- values are octets
-
-valueOf-octet : (p : List ℕ) (l x : ℕ) → valueOf p l x < size
-unfolding valueOf
-valueOf-octet p l x = octet-lt _
-
-errorOf-octet : (o d : List ℕ) (l x : ℕ) → errorOf o d l x < size
-unfolding errorOf
-errorOf-octet o d l x = product-octet _ _
 
 same-drop : (n : ℕ) (u v : List ℕ) → length u ≡ length v → length (drop n u) ≡ length (drop n v)
 same-drop n u v e = length-drop n u ∙ ap (λ (k : ℕ). k - n) e ∙ sym (length-drop n v)
@@ -108,31 +98,41 @@ module _ (e : ℕ) (w s c : List ℕ) (l : ℕ) (n-small : length w ≤ longestW
       omega (
         arith,
         error-weight v h,
-        length-complete elements distinct inverse (lo .state) (difference w v) (twice v h) (error-syndromes v h),
+        least-weight elements distinct inverse (lo .least) (difference w v) (error-syndromes v h),
       )
 
-  pub roots-lost : (at : List ℕ) (count : ℕ) → SearchIs (length w) (length w) l c at count → count ≢ l → (v : List ℕ) → Within e w v → ⊥
-  roots-lost at count se ne v h =
-      ne (search-complete elements distinct inverse (lo .state) (difference w v) (twice v h) (error-syndromes v h) count _
+  pub roots-lost : (at : List ℕ) (count : ℕ) → l ≤ e → SearchIs (length w) (length w) l c at count → count ≢ l → (v : List ℕ) → Within e w v → ⊥
+  roots-lost at count short se ne v h =
+      ne (scaled-complete elements distinct inverse (lo .located (omega arith) .state) (difference w v) (twice v h) (error-syndromes v h) count _
       (se .search))
 
   -- ---- as many roots as the length
 
-  module _ (at ov de : List ℕ) (se : SearchIs (length w) (length w) l c at l) (short : l ≤ e) (evaluator : EvaluatorIs l c s ov)
-      (derivative : DerivativeIs l c de) where
-    value-element : (p : List ℕ) (f : Series elements) (k : ℕ) → ((i : ℕ) → i < l → places p i ≡ f i)
-        → element (valueOf p l (octet (inverses (length w) k))) ≡ ev elements l f (inverses (length w) k)
+  module _ (at ov de : List ℕ) (se : SearchIs (length w) (length w) l c at l) (short : l ≤ e) (evaluator : EvaluatorIs (2 * e) s c ov l)
+      (derivative : OddsAre l c de) where
+    located : Located (2 * e) s c l
+    located = lo .located (omega arith)
+
+    value-element : (p : List ℕ) (f : Series elements) (n : ℕ) (x : F) → ((i : ℕ) → i < n → places p i ≡ f i) → element (valueOf p n (octet x)) ≡ ev elements n f x
     unfolding valueOf
-    value-element p f k same =
-        element-octet _ ∙ ap (ev elements l (places p)) (element-octet (inverses (length w) k)) ∙ ev-local elements l (places p) f (inverses (length w) k) same
+    value-element p f n x same = element-octet _ ∙ ap (ev elements n (places p)) (element-octet x) ∙ ev-local elements n (places p) f x same
+
+    -- the derivative at x, from the odd coefficients at x²
+    derivative-element : (x : F) → element (valueOf de ((l + 1) / 2) (octet (x ⊙ x))) ≡ ev elements l (deriv elements (places c)) x
+    derivative-element x =
+        value-element de (odds elements (places c)) ((l + 1) / 2) (x ⊙ x)
+        (λ i h. places-at de i ∙ ap element (derivative .used i (omega arith)) ∙ sym (odds-at elements (places c) i ∙ places-at c (2 * i + 1)))
+        ∙ sym (deriv-odds elements l (places c) x)
 
     error-element : (k : ℕ) → element (errorOf ov de l (octet (inverses (length w) k)))
         ≡ ev elements l (places c ⊛ places s) (inverses (length w) k) ⊙ inv (ev elements l (deriv elements (places c)) (inverses (length w) k))
     unfolding errorOf
     error-element k =
         element-product _ _
-        ∙ ap₂ (λ (x y : F). x ⊙ y) (value-element ov (places c ⊛ places s) k (evaluator .used))
-        (element-inverse _ (valueOf-octet de l _) ∙ ap inv (value-element de (deriv elements (places c)) k (derivative .used)))
+        ∙ ap₂ (λ (x y : F). x ⊙ y)
+        (value-element ov (places c ⊛ places s) l (inverses (length w) k) (λ i h. evaluator .product (omega arith) i (omega arith)))
+        (element-inverse _ (valueOf-octet de ((l + 1) / 2) _) ∙ ap inv
+        (ap (λ (y : ℕ). element (valueOf de ((l + 1) / 2) y)) (sym (octet-mul _ _)) ∙ derivative-element (inverses (length w) k)))
 
     divided : (j : ℕ) → j < l
         → element (errorOf ov de l (octet (inverses (length w) (getD at j 0)))) ⊙ ev elements l (deriv elements (places c)) (inverses (length w) (getD at j 0))
@@ -142,7 +142,7 @@ module _ (e : ℕ) (w s c : List ℕ) (l : ℕ) (n-small : length w ≤ longestW
         ∙ ⊙-assoc elements _ _ _
         ∙ ap (λ (x : F). ev elements l (places c ⊛ places s) (inverses (length w) (getD at j 0)) ⊙ x)
         (⊙-comm elements _ _ ∙ ⊙-inv elements _
-        (divisor-ne elements distinct inverse (lo .state) (λ i. getD at i 0) (se .search) j h))
+        (scaled-divisor elements distinct inverse (located .state) (λ i. getD at i 0) (se .search) j h))
         ∙ ⊙-𝟙 elements _
 
     module _ (before : List ℕ) (u : List ℕ) (room : length w ≤ length before) (co : Corrected (length w) l l at ov de (written before 0 w) u) where
@@ -191,7 +191,7 @@ module _ (e : ℕ) (w s c : List ℕ) (l : ℕ) (n-small : length w ≤ longestW
       sound : ((i : ℕ) → i < 2 * e → psum elements (length w) (difference w (take (length w) u)) (locators (length w)) (suc i) ≡ places s i)
           × (weight elements (length w) (difference w (take (length w) u)) ≡ l)
       sound =
-          search-sound elements distinct inverse (lo .state) (λ i. getD at i 0) (se .search)
+          scaled-sound elements distinct inverse (located .state) (λ i. getD at i 0) (se .search)
           (difference w (take (length w) u)) (omega arith) elsewhere valued
 
       octets-repaired : Octets (take (length w) u)
@@ -207,7 +207,7 @@ module _ (e : ℕ) (w s c : List ℕ) (l : ℕ) (n-small : length w ≤ longestW
       places-listed : Lists (length w) (length (take l at)) (λ p. getD w p 0 ≢ getD (take (length w) u) p 0) (λ j. getD (take l at) j 0)
       places-listed = rw at-long (lists-as (length w) l _ (λ p. getD w p 0 ≢ getD (take (length w) u) p 0) (λ j. getD at j 0) _
           (λ p h ne q. ne (same-none p (sym q))) (λ p h ne z. ne (differ p z)) (λ j h. sym (getD-take l at j 0 h))
-          (search-lists elements distinct inverse (lo .state) (λ i. getD at i 0) (se .search)
+          (scaled-lists elements distinct inverse (located .state) (λ i. getD at i 0) (se .search)
           (difference w (take (length w) u)) (omega arith) elsewhere valued))
 
       zero-value : (i : ℕ) → i < 2 * e → value (take (length w) u) (pow elements α (suc i)) ≡ 𝟘

@@ -27,7 +27,7 @@ use Rattle.codeword.specs.Element.{elements, element, octet}
 use Rattle.codeword.specs.Element.Laws.{octet-element, octet-same, octet-nil, octet-pow, element-sum, element-product, element-zero}
 use Rattle.codeword.specs.CodeWord.{longestWord}
 use Rattle.codeword.specs.Places.{places, inverses}
-use Rattle.codeword.specs.Rows.{lanes}
+use Rattle.codeword.specs.Lanes.{lanes}
 use Rattle.codeword.specs.Search.{valueOf, TurnedAt, SearchIs}
 use Rattle.codeword.proofs.Arrays.{zeros}
 use Rattle.codeword.proofs.Word.{places-at, inverses-at}

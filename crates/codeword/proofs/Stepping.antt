@@ -1,108 +1,194 @@
 -- The steps of Berlekamp and Massey's algorithm, on octets.
 --
---   massey-start     before the first syndrome
---   massey-zero      no discrepancy
---   massey-keep      mended at the same length
---   massey-grow      mended, and longer
---   massey-done      after the last
+--   massey-start      before the first syndrome
+--   massey-zero       no discrepancy
+--   massey-keep       mended at the same length
+--   massey-grow       mended, and longer
+--   massey-far        how long it would be
+--   stepped, stepped-far   a step to a state, and to a length alone
+--   located-near, located-far   what is known after the last
 --
 -- Assumes nothing.
-use mathlib.Core.Path.{_≡_, sym, ap, fun-ext, _∙_}
-use mathlib.Core.Logic.{_≢_}
+use mathlib.Core.Path.{_≡_, sym, ap, ap₂, fun-ext, _∙_}
+use mathlib.Core.Logic.{_≢_, inl, inr}
+use mathlib.Core.Bool.{true}
 use mathlib.Core.List.{List}
-use Prim.Native.Nat.{ℕ, zero, suc, _+_, _-_, _≤_, _<_}
+use Prim.Native.Nat.{ℕ, zero, suc, _+_, _*_, _-_, _/_, _≤_, _<_}
 use native.Mathlib.Numerals.{add-one}
 use native.Mathlib.Omega.{arith}
 use lib.Dec.{lit<}
-use lib.ListN.{set}
+use lib.ListN.{length, getD, set, replicate, length-replicate}
 use lib.Seq.{getD-set-same, getD-set-other}
+use Rattle.octets.specs.Written.{written, written-inside, written-outside}
 use Rattle.algebra.specs.Field.{Field}
-use Rattle.algebra.specs.Series.{Operations, operations}
+use Rattle.algebra.specs.Series.{Series, Below, Operations, operations}
 use Rattle.algebra.specs.Polynomial.{raised}
-use Rattle.algebra.specs.Massey.{MasseyState}
-use Rattle.algebra.proofs.Laws.{⊙-comm, ⊙-assoc, ⊙-inv, ⊙-𝟙, unit-zero, unit-suc, raised-zero, raised-suc, ⊛-dot-below, state-start}
-use Rattle.algebra.proofs.Laws.{state-zero, state-keep, state-grow}
+use Rattle.algebra.specs.Massey.{Least, ScaledState}
+use Rattle.algebra.proofs.Laws.{unit-zero, unit-suc, unit-⊛, mixed-⊛, raised-zero, raised-suc, raised-high, raised-⊛, raised-local}
+use Rattle.algebra.proofs.Laws.{scaled-start, scaled-below, scaled-zero, scaled-keep, scaled-grow}
 use Rattle.field.specs.Octet as Octet
 use Rattle.codeword.specs.Element.{elements, element}
-use Rattle.codeword.specs.Element.Laws.{octet-lt, element-octet, element-product, element-inverse, element-zero, element-one, element-ne}
+use Rattle.codeword.specs.Element.Laws.{element-zero, element-one, element-ne}
+use Rattle.codeword.specs.CodeWord.{longestWord}
+use Rattle.codeword.specs.Lanes.{lanes}
 use Rattle.codeword.specs.Places.{places}
-use Rattle.codeword.specs.Locator.{MasseyStateIs, Mended, LocatorIs, discrepancyOf}
-use Rattle.codeword.proofs.Arrays.{zeros, zeros-at}
+use Rattle.codeword.specs.Locator.{margin, Margin, behind, ProductTo, MasseyStateIs, Mended, Kept, Stepped, LocatorIs, EvaluatorIs}
+use Rattle.codeword.proofs.Arrays.{zeros, replicate-at}
 use Rattle.codeword.proofs.Word.{places-at}
-use Rattle.codeword.proofs.Mending.{mended-whole}
+use Rattle.codeword.proofs.Mending.{behind-at, mended-at, mended-whole, kept-at, kept-whole, kept-margin}
 
-infixl 60 _⊞_
+infixl 60 _⊕_ _⊞_
 infixl 70 _⊙_ _⊛_
 infixr 80 _⊡_
-open Field elements using (Carrier as F, mul as _⊙_, inv, nil as 𝟘)
+open Field elements using (Carrier as F, add as _⊕_, mul as _⊙_, nil as 𝟘)
 open Operations (operations elements) using (_⊞_, _⊡_, _⊛_, unit, sh)
 
--- the polynomial 1
+-- ---- before the first syndrome
+
+-- the polynomial 1, in an array of n from place i on
+one-at : (n i : ℕ) → i < n → (k : ℕ) → element (getD (set (replicate n 0) i 1) (i + k) 0) ≡ unit k
+one-at n i l zero =
+    let e : i + 0 ≡ i = omega arith in
+    rw e (ap element (getD-set-same (replicate n 0) i 1 0 (rw length-replicate l)) ∙ element-one ∙ sym (unit-zero elements))
+one-at n i l (suc k) =
+    ap element (getD-set-other (replicate n 0) i (i + suc k) 1 0 (omega arith) ∙ replicate-at n (i + suc k)) ∙ element-zero ∙ sym (unit-suc elements k)
+
 one-places : places (set zeros 0 1) ≡ unit
-one-places = fun-ext at
-  where
-    at : (k : ℕ) → places (set zeros 0 1) k ≡ unit k
-    at zero = places-at _ 0 ∙ ap element (getD-set-same zeros 0 1 0 (lit< tt)) ∙ element-one ∙ sym (unit-zero elements)
-    at (suc k) =
-        places-at _ (suc k) ∙ ap element (getD-set-other zeros 0 (suc k) 1 0 (omega arith) ∙ zeros-at (suc k)) ∙ element-zero ∙ sym (unit-suc elements k)
+one-places = fun-ext (λ k. let e : k ≡ 0 + k = omega arith in places-at _ k ∙ ap (λ (i : ℕ). element (getD (set zeros 0 1) i 0)) e ∙ one-at longestWord 0 (lit< tt) k)
 
-pub massey-start : (s : List ℕ) → MasseyStateIs s (set zeros 0 1) (set zeros 0 1) 0 0 1 1
-massey-start s = record {
-  q-octet = lit< tt;
+one-behind : (n : ℕ) → margin < n → behind (set (replicate n 0) margin 1) ≡ unit
+one-behind n l = fun-ext (λ k. behind-at _ k ∙ one-at n margin l k)
+
+pub massey-start : (m n v u : ℕ) (s d t : List ℕ) → m ≤ length s → margin < n → length s ≤ v → margin + length s ≤ u
+    → d ≡ written (replicate v 0) 0 s → t ≡ written (replicate u 0) margin s
+    → MasseyStateIs m s (set zeros 0 1) d (set (replicate n 0) margin 1) t 0 0 1 1
+massey-start m n v u s d t few room-b room-d room-t d-is t-is = record {
   shift-small = omega arith;
-  state = rw (one-places, raised-suc elements 0 unit, raised-zero elements unit, element-one) (state-start elements (places s));
+  product = λ k l. let e : k ≡ 0 + k = omega arith in
+      places-at d k ∙ ap₂ (λ (x : List ℕ) (i : ℕ). element (getD x i 0)) d-is e
+      ∙ ap element (written-inside (replicate v 0) 0 s (rw length-replicate (omega arith)) k 0 (omega arith)) ∙ syndrome k ∙ product-one one-places k;
+  b-margin = λ k l. getD-set-other (replicate n 0) margin k 1 0 (omega arith) ∙ replicate-at n k;
+  t-margin = λ k l. rw t-is (written-outside (replicate u 0) margin s fits-t k 0 (inl l) ∙ replicate-at u k);
+  earlier = λ k l. behind-at t k ∙ ap (λ (x : List ℕ). element (getD x (margin + k) 0)) t-is
+      ∙ ap element (written-inside (replicate u 0) margin s fits-t k 0 (omega arith)) ∙ syndrome k ∙ product-one (one-behind n room-b) k;
+  state = rw (one-places, one-behind n room-b, raised-suc elements 0 unit, raised-zero elements unit, element-one) (scaled-start elements (places s));
 }
+  where
+    fits-t : margin + length s ≤ length (replicate {A = ℕ} u 0)
+    fits-t = rw length-replicate room-t
 
-module _ {s c b : List ℕ} {r l shift q d : ℕ} (h : MasseyStateIs s c b r l shift q) (d-is : d ≡ discrepancyOf c s r l) where
-  d-octet : d < Octet.size
-  unfolding discrepancyOf
-  d-octet = rw d-is (octet-lt _)
+    syndrome : (k : ℕ) → element (getD s k 0) ≡ places s k
+    syndrome k = sym (places-at s k)
 
-  d-element : element d ≡ (places c ⊛ places s) r
-  unfolding discrepancyOf
-  d-element = ap element d-is ∙ element-octet _ ∙ sym (⊛-dot-below elements (places c) (places s) r l (h .state .c-below) (h .state .short))
+    product-one : {f : Series elements} → f ≡ unit → (k : ℕ) → places s k ≡ (f ⊛ places s) k
+    product-one e k = ap (λ (g : Series elements). g k) (sym (ap (λ (f : Series elements). f ⊛ places s) e ∙ unit-⊛ elements (places s)))
+
+-- ---- one step
+
+module _ {m r l shift q x : ℕ} {s c d b t : List ℕ} (h : MasseyStateIs m s c d b t r l shift q) (x-is : x ≡ getD d r 0) (now : r < m) (small : m ≤ margin) where
+  x-element : element x ≡ (places c ⊛ places s) r
+  x-element = ap element x-is ∙ sym (places-at d r) ∙ h .product r now
 
   -- the length stays
-  kept : (c′ : List ℕ) → MasseyState elements (places s) (places c′) (sh (raised elements shift (places b))) (suc r) l (element q)
-      → MasseyStateIs s c′ b (r + 1) l (shift + 1) q
-  kept c′ st = rw (add-one r, add-one shift) (record {
-    q-octet = h .q-octet;
+  kept : {c′ d′ : List ℕ} → ProductTo m s (places c′) (places d′)
+      → ScaledState elements (places s) (places c′) (sh (raised elements shift (behind b))) (suc r) l (element q)
+      → MasseyStateIs m s c′ d′ b t (r + 1) l (shift + 1) q
+  kept p st = rw (add-one r, add-one shift) (record {
     shift-small = omega (arith, h .shift-small);
+    product = p;
+    b-margin = h .b-margin;
+    t-margin = h .t-margin;
+    earlier = h .earlier;
     state = rw raised-suc st;
   })
 
-  pub massey-zero : d ≡ 0 → MasseyStateIs s c b (r + 1) l (shift + 1) q
-  massey-zero e = kept c (state-zero elements (h .state) (sym d-element ∙ ap element e ∙ element-zero))
+  pub massey-zero : x ≡ 0 → MasseyStateIs m s c d b t (r + 1) l (shift + 1) q
+  massey-zero e = kept (h .product) (scaled-zero elements (h .state) (sym x-element ∙ ap element e ∙ element-zero))
 
-  w : ℕ
-  w = Octet.product d (Octet.inverse q)
+  shift-fits : shift ≤ margin
+  shift-fits = omega (arith, h .shift-small)
 
-  w-mends : element w ⊙ element q ≡ (places c ⊛ places s) r
-  unfolding w
-  w-mends =
-      ap (λ (x : F). x ⊙ element q)
-      (element-product d (Octet.inverse q) ∙ ap (λ (x : F). element d ⊙ x) (element-inverse q (h .q-octet)))
-      ∙ ⊙-assoc elements _ _ _ ∙ ap (λ (x : F). element d ⊙ x) (⊙-comm elements _ _ ∙ ⊙-inv elements (element q) (h .state .b-ne)) ∙ ⊙-𝟙 elements _ ∙ d-element
+  -- b, not yet shifted, is as short
+  b-short : (k : ℕ) → suc r < k + l → behind b k ≡ 𝟘
+  b-short k o =
+      let e : k + shift - shift ≡ k = omega arith in
+      ap (behind b) (sym e) ∙ sym (raised-high elements shift (behind b) (k + shift) (omega arith)) ∙ h .state .state .b-below (k + shift) (omega arith)
 
-  module _ {top : ℕ} {c′ : List ℕ} (room : r + 1 < top) (mended : Mended top (Octet.product d (Octet.inverse q)) shift c b c′) where
-    c-is : places c′ ≡ places c ⊞ element w ⊡ raised elements shift (places b)
-    unfolding w
-    c-is = mended-whole top w shift c b c′ mended (λ k m. h .state .b-below k (omega arith))
+  -- mended, as far as the coefficients below w go: nothing of c and b lies beyond
+  module _ {w v : ℕ} {c′ d′ : List ℕ} (c-mended : Mended 0 w shift q x c b c′) (d-mended : Mended 0 v shift q x d t d′) (all : m ≤ v)
+      (long : l < w) (far : suc r < w + l) where
+    c-beyond : (k : ℕ) → w ≤ k → places c k ≡ 𝟘
+    c-beyond k o = scaled-below elements (h .state) k (omega arith)
 
-    pub massey-keep : r < l + l → MasseyStateIs s c′ b (r + 1) l (shift + 1) q
-    massey-keep e = kept c′ (rw c-is (state-keep elements (h .state) (element w) w-mends e))
+    c-is : places c′ ≡ element q ⊡ places c ⊞ element x ⊡ raised elements shift (behind b)
+    c-is = mended-whole c-mended (h .b-margin) shift-fits c-beyond (λ k o. h .state .state .b-below k (omega arith))
 
-    pub massey-grow : d ≢ 0 → l + l ≤ r → MasseyStateIs s c′ c (r + 1) (r + 1 - l) 1 d
-    massey-grow n e = rw (add-one r) (record {
-      q-octet = d-octet;
-      shift-small = omega arith;
-      state = rw (raised-suc elements 0 (places c), raised-zero elements (places c), c-is, d-element)
-          (state-grow elements (h .state) (element w) w-mends (λ z. element-ne d d-octet n (d-element ∙ z)) e);
-    })
+    d-is : ProductTo m s (places c′) (places d′)
+    d-is k o =
+        mended-at d-mended (h .t-margin) shift-fits k (omega arith)
+        ∙ ap₂ (λ (y z : F). element q ⊙ y ⊕ element x ⊙ z) (h .product k o)
+        (raised-local elements shift m _ _ (h .earlier) k o ∙ ap (λ (f : Series elements). f k) (sym (raised-⊛ elements shift (behind b) (places s))))
+        ∙ sym (ap (λ (f : Series elements). (f ⊛ places s) k) c-is ∙ mixed-⊛ elements _ _ _ _ _ k)
 
-pub massey-done : {m : ℕ} {s c b : List ℕ} {r l shift q : ℕ} → r ≡ m → MasseyStateIs s c b r l shift q → LocatorIs m s c l
-massey-done {b = b} {shift = shift} {q = q} e h = record {
-  B = raised elements shift (places b);
-  q = element q;
-  state = rw e at (h .state);
+    pub massey-keep : r < l + l → {b′ t′ : List ℕ} → b′ ≡ b → t′ ≡ t → MasseyStateIs m s c′ d′ b′ t′ (r + 1) l (shift + 1) q
+    massey-keep e b-same t-same = rw (b-same, t-same) (kept d-is (rw (c-is, x-element) (scaled-keep elements (h .state) e)))
+
+    module _ (octet : x < Octet.size) (ne : x ≢ 0) (e : l + l ≤ r) {b′ t′ : List ℕ} (b-kept : Kept true 0 w c b b′) (t-kept : Kept true 0 v d t t′) where
+      b-is : behind b′ ≡ places c
+      b-is = kept-whole b-kept c-beyond (λ k o. b-short k (omega arith))
+
+      pub massey-grow : MasseyStateIs m s c′ d′ b′ t′ (r + 1) (r + 1 - l) 1 x
+      massey-grow = rw (add-one r) (record {
+        shift-small = omega arith;
+        product = d-is;
+        b-margin = kept-margin b-kept (h .b-margin);
+        t-margin = kept-margin t-kept (h .t-margin);
+        earlier = λ k o. kept-at t-kept k (omega arith) ∙ h .product k o ∙ ap (λ (f : Series elements). (f ⊛ places s) k) (sym b-is);
+        state = rw (raised-suc elements 0 (behind b′), raised-zero elements (behind b′), b-is, c-is, x-element)
+            (scaled-grow elements (h .state) (λ z. element-ne x octet ne (x-element ∙ z)) e);
+      })
+
+  pub massey-far : x < Octet.size → x ≢ 0 → l + l ≤ r → Least elements (r + 1) (r + 1 - l) (places s)
+  massey-far octet ne e = rw (add-one r) (scaled-grow elements (h .state) (λ z. element-ne x octet ne (x-element ∙ z)) e .state .least)
+
+module _ {e r : ℕ} {c d b t : List ℕ} {l shift q : ℕ} {c′ d′ b′ t′ : List ℕ} {l′ shift′ q′ : ℕ} where
+  pub stepped : ((s : List ℕ) → MasseyStateIs (2 * e) s c d b t r l shift q → MasseyStateIs (2 * e) s c′ d′ b′ t′ (r + 1) l′ shift′ q′)
+      → Stepped e r c d b t l shift q c′ d′ b′ t′ l′ shift′ q′
+  stepped f = record {
+    least = λ s h. f s h .state .state .least;
+    below = λ s h. scaled-below elements (f s h .state);
+    next = λ s h o. f s h;
+  }
+
+pub stepped-far : {e r x : ℕ} {c d b t : List ℕ} {l shift q : ℕ} → x ≡ getD d r 0 → r < 2 * e → 2 * e ≤ margin → x < Octet.size → x ≢ 0 → l + l ≤ r
+    → e < r + 1 - l → Stepped e r c d b t l shift q c d b t (r + 1 - l) 1 x
+stepped-far x-is now small octet ne few far = record {
+  least = λ s h. massey-far h x-is now small octet ne few;
+  below = λ s h k o. scaled-below elements (h .state) k (omega arith);
+  next = λ s h o. absurd (omega arith);
 }
+
+-- ---- after the last
+
+pub located-near : {m r l shift q : ℕ} {s c d b t : List ℕ} → r ≡ m → MasseyStateIs m s c d b t r l shift q
+    → LocatorIs m s c l × EvaluatorIs m s c d l
+located-near {m} {r} {l} {shift} {q} {s} {c} {d} {b} {t} e h = (
+  record {
+    least = rw e at (h .state .state .least);
+    below = scaled-below elements (h .state);
+    located = λ o. record { B = raised elements shift (behind b); q = element q; state = rw e at (h .state) };
+  },
+  record { product = λ o. h .product },
+)
+
+pub located-far : {e r l shift q l′ shift′ q′ : ℕ} {c d b t c′ d′ b′ t′ : List ℕ} (s : List ℕ) → r < 2 * e → e < l′
+    → MasseyStateIs (2 * e) s c d b t r l shift q → Stepped e r c d b t l shift q c′ d′ b′ t′ l′ shift′ q′
+    → LocatorIs (2 * e) s c′ l′ × EvaluatorIs (2 * e) s c′ d′ l′
+located-far s now far h st = (
+  record {
+    least = λ v Λ o d a. st .least s h v Λ o d (λ k p u. a k p (omega arith));
+    below = st .below s h;
+    located = λ o. absurd (omega arith);
+  },
+  record { product = λ o. absurd (omega arith) },
+)

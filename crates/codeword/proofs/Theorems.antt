@@ -122,7 +122,7 @@ lostUntouched e w before after p = p .same
 pub unusedZero : UnusedZero
 unusedZero e w s c l sy lo o = (
   sy .unused,
-  λ i h. sym (octet-element _ (o i)) ∙ ap octet (sym (places-at c i) ∙ lo .state .c-below i h) ∙ octet-nil,
+  λ i h. sym (octet-element _ (o i)) ∙ ap octet (sym (places-at c i) ∙ lo .below i h) ∙ octet-nil,
 )
 
 pub repairedUnique : RepairedUnique

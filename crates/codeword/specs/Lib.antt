@@ -6,6 +6,7 @@ pub mod Register
 pub mod Changed
 pub mod Repair
 pub mod Places
+pub mod Lanes
 pub mod Rows
 pub mod Syndromes
 pub mod Locator

@@ -1,11 +1,9 @@
 -- What the steps on the way to the syndromes answer. The word, with zeros in front to 255 octets, stands in 17 rows of 15; a row is 16 octets
 -- side by side, of which the last is of no use.
 --
---   lanes                     how many octets go side by side
---   Loaded s o a              a is those of s from o on
---   Added n o a f g           g is f, with n octets of a added to those from o on
+--   RowAdded n o a f g           g is f, with n octets of a added to those from o on
 --   spaced f s k              the series of f's entries k, s + k, 2 s + k, ..
---   Stepped k j a f o b       one turn of Horner's rule, in lane i at the point αᵏ⁺ʲⁱ: a becomes αᵏ⁺ʲⁱ a + f₍ₒ₊ᵢ₎
+--   Ahead k j a f o b       one turn of Horner's rule, in lane i at the point αᵏ⁺ʲⁱ: a becomes αᵏ⁺ʲⁱ a + f₍ₒ₊ᵢ₎
 --   Evaluated n k j f s o a   lane i of a is the value at αᵏ⁺ʲⁱ of the polynomial of n coefficients f₍ₒ₊ᵢ₎, f₍ₛ₊ₒ₊ᵢ₎, ..
 --   column w q                column q of the word w: the coefficients of x^q, x^(15 + q), .. of its polynomial
 --   RowsAre w f               row d of f has the coefficients of x^(15 d + 14), .., x^(15 d) of the word w
@@ -17,7 +15,7 @@
 --   Worth w n r f             n rows of f are worth at α^15r what the columns of w are
 --   Filling n f c roots m v u   u is v with the values of the n rows of f filled in, at each α^15r for those of the c roots r that are up to m
 --   Repeated n v u            in n rows of v entries 1 to 16 are repeated from entry 18 on
---   ValuesAre m w v           the values of the columns of w are filled in up to m, and twice round
+--   ColumnsAre m w v           the values of the columns of w are filled in up to m, and twice round
 --
 -- Assumes nothing.
 use mathlib.Core.Path.{_≡_}
@@ -31,16 +29,10 @@ use Rattle.algebra.specs.Polynomial.{polynomial}
 use Rattle.algebra.specs.Value.{ev, terms}
 use Rattle.field.specs.Octet as Octet
 use Rattle.codeword.specs.Element.{elements, element, α}
+use Rattle.codeword.specs.Lanes.{lanes}
 use Rattle.codeword.specs.CodeWord.{word}
 
-abbrev pub lanes : ℕ
-lanes = 16
-
-pub record Loaded (s : List ℕ) (o : ℕ) (a : List ℕ) : Type 0 where
-  pub long : length a ≡ lanes
-  pub used : (i : ℕ) → i < lanes → getD a i 0 ≡ getD s (o + i) 0
-
-pub record Added (n o : ℕ) (a f g : List ℕ) : Type 0 where
+pub record RowAdded (n o : ℕ) (a f g : List ℕ) : Type 0 where
   pub long : length g ≡ length f
   pub done : (i : ℕ) → i < n → getD g (o + i) 0 ≡ Octet.sum (getD f (o + i) 0) (getD a i 0)
   pub left : (k : ℕ) → (k < o) ⊎ (o + n ≤ k) → getD g k 0 ≡ getD f k 0
@@ -48,7 +40,7 @@ pub record Added (n o : ℕ) (a f g : List ℕ) : Type 0 where
 unfoldable pub spaced : List ℕ → ℕ → ℕ → Series elements
 spaced f s k d = element (getD f (s * d + k) 0)
 
-pub record Stepped (k j : ℕ) (a f : List ℕ) (o : ℕ) (b : List ℕ) : Type 0 where
+pub record Ahead (k j : ℕ) (a f : List ℕ) (o : ℕ) (b : List ℕ) : Type 0 where
   pub long : length b ≡ lanes
   pub used : (i : ℕ) → i < lanes
       → getD b i 0 ≡ Octet.sum (Octet.product (Octet.power Octet.α (k + j * i)) (getD a i 0)) (getD f (o + i) 0)
@@ -94,5 +86,5 @@ pub record Repeated (n : ℕ) (v u : List ℕ) : Type 0 where
   pub behind : (q i : ℕ) → q < n → i < lanes → getD u (48 * q + 18 + i) 0 ≡ getD v (48 * q + 1 + i) 0
   pub left : (q i : ℕ) → i < 18 → getD u (48 * q + i) 0 ≡ getD v (48 * q + i) 0
 
-abbrev pub ValuesAre : ℕ → List ℕ → List ℕ → Type 0
-ValuesAre m w v = (r : ℕ) → 0 < r → r < 33 → r ≤ m → Filled w r v
+abbrev pub ColumnsAre : ℕ → List ℕ → List ℕ → Type 0
+ColumnsAre m w v = (r : ℕ) → 0 < r → r < 33 → r ≤ m → Filled w r v

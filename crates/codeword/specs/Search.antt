@@ -16,7 +16,7 @@ use Rattle.field.specs.Octet as Octet
 use Rattle.codeword.specs.Element.{elements, element, octet}
 use Rattle.codeword.specs.CodeWord.{longestWord}
 use Rattle.codeword.specs.Places.{places, inverses}
-use Rattle.codeword.specs.Rows.{lanes}
+use Rattle.codeword.specs.Lanes.{lanes}
 
 unfoldable pub valueOf : List ℕ → ℕ → ℕ → ℕ
 valueOf c n x = octet (ev elements n (places c) (element x))

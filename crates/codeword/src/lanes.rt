@@ -1,20 +1,31 @@
-// 16 octets side by side: a loop of 16 over them becomes a few instructions that work on all of them at once.
+// Sixteen octets at a time, as a processor takes them: a loop over a local array of 16, with no branch in it, becomes a few instructions on
+// whole registers.
 ghost use Prim.Native.Nat.{_+_, _≤_};
 ghost use lib.ListN.{length};
-ghost use Rattle.codeword.specs.Rows.{lanes, Loaded};
+ghost use Rattle.codeword.specs.Lanes.{Loaded, Stored};
 
-pub(crate) const LANES: usize = 16;
-
-// 16 octets of s from o on.
-pub(crate) fn load(s: &[u8], o: usize) -> [u8; LANES]
-    requires { ⌜ o + lanes ≤ length (now s) ⌝ }
+// The 16 octets of s from o on.
+pub(crate) fn load(s: &[u8], o: usize) -> [u8; 16]
+    requires { ⌜ o + 16 ≤ length (now s) ⌝ }
     ensures { λ r. ⌜ Loaded (now (s .entry)) o r ⌝ }
 {
-    let mut a = [0u8; LANES];
-    let mut i: usize = 0;
-    while i < LANES {
-        a[i] = s[o + i];
-        i += 1;
+    let mut a = [0u8; 16];
+    let mut k: usize = 0;
+    while k < 16 {
+        a[k] = s[o + k];
+        k += 1;
     }
     a
+}
+
+// Writes a over the 16 octets of s from o on.
+pub(crate) fn store(s: &mut [u8], o: usize, a: [u8; 16])
+    requires { ⌜ o + 16 ≤ length (now s) ⌝ }
+    ensures { λ _. ⌜ Stored (now (s .entry)) o a (now (s .exit)) ⌝ }
+{
+    let mut k: usize = 0;
+    while k < 16 {
+        s[o + k] = a[k];
+        k += 1;
+    }
 }

@@ -58,7 +58,7 @@ fn decode(
         (record { repair = now (repaired .exit); places = now (places .exit) }) ⌝ }
 {
     let n = received.len();
-    let recurrence = locator::locator(s, 2 * e);
+    let recurrence = locator::locator(s, e);
     let l = recurrence.degree;
     if e < l {
         return Reach::OutOfReach;
@@ -70,8 +70,8 @@ fn decode(
         return Reach::OutOfReach;
     }
     let at = roots.at;
-    let o = values::evaluator(&c, s, l);
-    let d = values::derivative(&c, l);
+    let o = recurrence.evaluator;
+    let d = values::odds(&c, l);
     octets::write(repaired, 0, received);
     values::correct(repaired, n, &at, l, &o, &d);
     octets::write(places, 0, &at[..l]);

@@ -1,115 +1,166 @@
-// Find the error locator: the algorithm of Berlekamp and Massey, for the shortest recurrence that the syndromes obey.
+// Find the error locator: the algorithm of Berlekamp and Massey, for the shortest recurrence that the syndromes s obey.
+//
+// Beside the recurrence c, and the one from before its length last grew, b, their products with the syndromes are kept, d = c s and t = b s. So
+// the discrepancy at r is there to be read, d[r], and once all syndromes are taken in, the first coefficients of d are the error evaluator.
+// Where the textbook adds x^shift b times d[r] over what b failed by to c, here what b failed by times c is taken instead, and d[r] times
+// x^shift b is added: no division, and c comes out as the locator times a constant that is not zero. Such a constant changes no root, and
+// in Forney's quotient it cancels.
+//
+// A length that passes e never comes back, so the loop ends there. b and t stand behind 256 zeros: shifting them is reading further down.
 use crate::LONGEST_WORD;
+use crate::lanes;
 ghost use mathlib.Core.Path.{_≡_};
-ghost use Prim.Native.Nat.{_+_, _<_, _≤_};
+ghost use Prim.Native.Nat.{_+_, _*_, _<_, _≤_};
+ghost use lib.ListN.{length, getD};
+ghost use Rattle.field.specs.Octet.{size};
 ghost use Rattle.codeword.specs.CodeWord.{longestWord};
-ghost use Rattle.codeword.specs.Locator.{MasseyStateIs, Mended, LocatorIs, discrepancyOf};
+ghost use Rattle.codeword.specs.Lanes.{lanes};
+ghost use Rattle.codeword.specs.Locator.{margin, Mixed, Saved, Mended, Kept, Stepped, LocatorIs, EvaluatorIs};
 
-// What the loop keeps beside the recurrence c and the one from before its length last grew, b: the length of c, how far b is to be
-// shifted, and what b failed by.
+// How many zeros b and t stand behind.
+const MARGIN: usize = 256;
+
+// What the loop keeps beside c, d, b and t: the length of c, how far b is to be shifted, and what b failed by.
 pub struct Progress {
     pub long: usize,
     pub shift: usize,
     pub failed: u8,
 }
 
-// The shortest recurrence for the syndromes, from its constant coefficient on, zero where unused; and its length.
+// The shortest recurrence for the syndromes times a constant, from its constant coefficient on, zero where unused; its product with the
+// syndromes, of which the first coefficients are the error evaluator; and its length.
 pub struct Recurrence {
     pub coefficients: [u8; LONGEST_WORD],
+    pub evaluator: [u8; 256],
     pub degree: usize,
 }
 
-// c[0] s[r] + c[1] s[r - 1] + .. + c[l] s[r - l]: what the recurrence c of length l fails by at r.
-pub(crate) fn discrepancy(c: &[u8; LONGEST_WORD], s: &[u8; LONGEST_WORD], r: usize, l: usize) -> u8
-    requires { ⌜ (l ≤ r) × (r < longestWord) ⌝ }
-    ensures { λ d. ⌜ d ≡ discrepancyOf (now (c .entry)) (now (s .entry)) r l ⌝ }
+// What the recurrence fails by at r: the coefficient of its product d with the syndromes.
+fn discrepancy(d: &[u8], r: usize) -> u8
+    requires { ⌜ r < length (now d) ⌝ }
+    ensures { λ x. ⌜ (x ≡ getD (now (d .entry)) r 0) × (x < size) ⌝ }
 {
-    let mut d: u8 = 0;
-    let mut j = 0;
-    while j <= l {
-        d = field::sum(d, field::product(c[j], s[r - j]));
-        j += 1;
-    }
-    d
+    d[r]
 }
 
-// Adds q x^shift b to c, as far as the coefficients below top go.
-fn mend(c: &mut [u8; LONGEST_WORD], b: &[u8; LONGEST_WORD], q: u8, shift: usize, top: usize)
-    requires { ⌜ (shift ≤ top) × (top ≤ longestWord) ⌝ }
-    ensures { λ _. ⌜ Mended top q shift (now (c .entry)) (now (b .entry)) (now (c .exit)) ⌝ }
+// a x + q y, for 16 coefficients.
+fn mix(x: [u8; 16], y: [u8; 16], a: u8, q: u8) -> [u8; 16]
+    ensures { λ r. ⌜ Mixed a q x y r ⌝ }
 {
-    let c = &mut c[..];
-    let mut j = shift;
-    while j < top {
-        c[j] = field::sum(c[j], field::product(q, b[j - shift]));
-        j += 1;
+    let mut z = [0u8; 16];
+    let mut k: usize = 0;
+    while k < 16 {
+        z[k] = field::sum(field::product(a, x[k]), field::product(q, y[k]));
+        k += 1;
+    }
+    z
+}
+
+// Where the length grows, x is written over the 16 octets of b from o on.
+fn keep(b: &mut [u8], o: usize, x: [u8; 16], grows: bool)
+    requires { ⌜ o + lanes ≤ length (now b) ⌝ }
+    ensures { λ _. ⌜ Saved grows o x (now (b .entry)) (now (b .exit)) ⌝ }
+{
+    if grows {
+        lanes::store(b, o, x);
     }
 }
 
-// One step: the recurrence is made to hold at r too.
+// c becomes a c + q x^shift b, as far as 16 coefficients a block go, and where the length grows, b becomes the c from before. From the top: a
+// block of b is still wanted by the ones above it.
+fn mend(c: &mut [u8], b: &mut [u8], shift: usize, blocks: usize, a: u8, q: u8, grows: bool)
+    requires { ⌜ (lanes * blocks ≤ length (now c)) × (margin + lanes * blocks ≤ length (now b)) × (shift ≤ margin) ⌝ }
+    ensures { λ _. ⌜ Mended 0 (lanes * blocks) shift a q (now (c .entry)) (now (b .entry)) (now (c .exit))
+        × Kept grows 0 (lanes * blocks) (now (c .entry)) (now (b .entry)) (now (b .exit)) ⌝ }
+{
+    let mut o = blocks;
+    while 0 < o {
+        o -= 1;
+        let x = lanes::load(c, 16 * o);
+        let y = lanes::load(b, MARGIN + 16 * o - shift);
+        keep(b, MARGIN + 16 * o, x, grows);
+        lanes::store(c, 16 * o, mix(x, y, a, q));
+    }
+}
+
+// One step: the recurrence is made to hold at r too. Where its length would be above e, only that length is told.
 fn step(
-    s: &[u8; LONGEST_WORD],
     c: &mut [u8; LONGEST_WORD],
-    b: &mut [u8; LONGEST_WORD],
+    d: &mut [u8; 256],
+    b: &mut [u8; 384],
+    t: &mut [u8; 512],
     r: usize,
-    top: usize,
+    e: usize,
     g: Progress,
 ) -> Progress
-    requires { ⌜ (r + 1 < top) × (top ≤ longestWord) × MasseyStateIs (now s) (now c) (now b) r (g .long) (g .shift) (g .failed) ⌝ }
-    ensures { λ o. ⌜ MasseyStateIs (now (s .entry)) (now (c .exit)) (now (b .exit)) (r + 1) (o .long) (o .shift) (o .failed) ⌝ }
+    requires { ⌜ (r < 2 * e) × (2 * e < longestWord) × (g .long ≤ e) × (g .long ≤ r) × (g .shift ≤ r + 1) ⌝ }
+    ensures { λ o. ⌜ Stepped e r (now (c .entry)) (now (d .entry)) (now (b .entry)) (now (t .entry)) (g .long) (g .shift) (g .failed)
+        (now (c .exit)) (now (d .exit)) (now (b .exit)) (now (t .exit)) (o .long) (o .shift) (o .failed) ⌝ }
 {
     let l = g.long;
     let shift = g.shift;
     let failed = g.failed;
-    let d = discrepancy(c, s, r, l);
-    if d == 0 {
-        return Progress {
-            long: l,
-            shift: shift + 1,
-            failed,
-        };
-    }
-    let q = field::product(d, field::inverse(failed));
-    if l + l <= r {
-        let old = *c;
-        mend(c, b, q, shift, top);
-        *b = old;
-        return Progress {
-            long: r + 1 - l,
-            shift: 1,
-            failed: d,
-        };
-    }
-    mend(c, b, q, shift, top);
-    Progress {
+    let blocks = (2 * e + 15) / 16;
+    let x = discrepancy(d, r);
+    let kept = Progress {
         long: l,
         shift: shift + 1,
         failed,
+    };
+    if x == 0 {
+        return kept;
     }
+    if r < l + l {
+        mend(d, t, shift, blocks, failed, x, false);
+        mend(c, b, shift, l / 16 + 1, failed, x, false);
+        return kept;
+    }
+    let long = r + 1 - l;
+    let grown = Progress {
+        long,
+        shift: 1,
+        failed: x,
+    };
+    if e < long {
+        return grown;
+    }
+    mend(d, t, shift, blocks, failed, x, true);
+    mend(c, b, shift, long / 16 + 1, failed, x, true);
+    grown
 }
 
-// The shortest recurrence for the first m syndromes.
-pub(crate) fn locator(s: &[u8; LONGEST_WORD], m: usize) -> Recurrence
-    requires { ⌜ m < longestWord ⌝ }
-    ensures { λ r. ⌜ LocatorIs m (now (s .entry)) (r .coefficients) (r .degree) ⌝ }
+// The shortest recurrence for the first 2e syndromes; where its length is above e, that, and nothing else.
+pub(crate) fn locator(s: &[u8; LONGEST_WORD], e: usize) -> Recurrence
+    requires { ⌜ 2 * e < longestWord ⌝ }
+    ensures { λ r. ⌜ LocatorIs (2 * e) (now (s .entry)) (r .coefficients) (r .degree)
+        × EvaluatorIs (2 * e) (now (s .entry)) (r .coefficients) (r .evaluator) (r .degree) ⌝ }
 {
     let mut c = [0u8; LONGEST_WORD];
     c[0] = 1;
-    let mut b = [0u8; LONGEST_WORD];
-    b[0] = 1;
+    let mut b = [0u8; 384];
+    b[MARGIN] = 1;
+    let mut d = [0u8; 256];
+    octets::write(&mut d, 0, s);
+    let mut t = [0u8; 512];
+    octets::write(&mut t, MARGIN, s);
     let mut g = Progress {
         long: 0,
         shift: 1,
         failed: 1,
     };
-    let mut r = 0;
-    while r < m {
-        g = step(s, &mut c, &mut b, r, m + 1, g);
+    let mut r: usize = 0;
+    while r < 2 * e {
+        g = step(&mut c, &mut d, &mut b, &mut t, r, e, g);
+        let l = g.long;
+        if e < l {
+            break;
+        }
         r += 1;
     }
     let degree = g.long;
     Recurrence {
         coefficients: c,
+        evaluator: d,
         degree,
     }
 }

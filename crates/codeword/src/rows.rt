@@ -9,14 +9,14 @@
 // changes, and 17 rows become 8.
 use crate::LONGEST_WORD;
 use crate::lanes;
-use crate::lanes::LANES;
 use field::LAID;
 ghost use mathlib.Core.Path.{_≡_};
 ghost use Prim.Native.Nat.{ℕ, _+_, _-_, _*_, _≤_, _<_};
 ghost use lib.ListN.{length, getD};
 ghost use Rattle.field.specs.Octet.Table.{laid, Laid};
 ghost use Rattle.codeword.specs.CodeWord.{longestWord};
-ghost use Rattle.codeword.specs.Rows.{lanes as wide, Added, Stepped, Evaluated, RowsAre, RowFolded, Folded, Spread, Filling, Repeated, ValuesAre};
+ghost use Rattle.codeword.specs.Lanes.{lanes};
+ghost use Rattle.codeword.specs.Rows.{RowAdded, Ahead, Evaluated, RowsAre, RowFolded, Folded, Spread, Filling, Repeated, ColumnsAre};
 
 // 17 rows of 16 octets, of which 15 count.
 const ROWS: usize = 272;
@@ -26,7 +26,7 @@ pub(crate) const VALUES: usize = 720;
 
 // Row d: the octets of the word that stand for x^(15 d + 14), .., x^(15 d).
 fn lay(w: &[u8; 256]) -> [u8; ROWS]
-    ensures { λ r. ⌜ ((d i : ℕ) → d < 17 → i < wide → getD r (16 * d + i) 0 ≡ getD (now (w .entry)) (15 * (16 - d) + i) 0) ⌝ }
+    ensures { λ r. ⌜ ((d i : ℕ) → d < 17 → i < lanes → getD r (16 * d + i) 0 ≡ getD (now (w .entry)) (15 * (16 - d) + i) 0) ⌝ }
 {
     let mut f = [0u8; ROWS];
     let mut d: usize = 0;
@@ -39,13 +39,13 @@ fn lay(w: &[u8; 256]) -> [u8; ROWS]
 }
 
 // Adds a to 16 octets of f from o on.
-fn add(f: &mut [u8; ROWS], o: usize, a: [u8; LANES])
+fn add(f: &mut [u8; ROWS], o: usize, a: [u8; 16])
     requires { ⌜ o + 16 ≤ 272 ⌝ }
-    ensures { λ _. ⌜ Added wide o a (now (f .entry)) (now (f .exit)) ⌝ }
+    ensures { λ _. ⌜ RowAdded lanes o a (now (f .entry)) (now (f .exit)) ⌝ }
 {
     let f = &mut f[..];
     let mut i: usize = 0;
-    while i < LANES {
+    while i < 16 {
         f[o + i] = field::sum(f[o + i], a[i]);
         i += 1;
     }
@@ -79,13 +79,13 @@ fn fold(rows: &[u8; ROWS], taps: &[usize]) -> [u8; ROWS]
 }
 
 // One turn of Horner's rule at α^k, for 16 columns.
-fn ahead(a: [u8; LANES], powers: &[u8; LAID], k: usize, f: &[u8; ROWS], o: usize) -> [u8; LANES]
+fn ahead(a: [u8; 16], powers: &[u8; LAID], k: usize, f: &[u8; ROWS], o: usize) -> [u8; 16]
     requires { ⌜ Laid (now powers) × (k + 8 ≤ laid) × (o + 16 ≤ 272) ⌝ }
-    ensures { λ r. ⌜ Stepped k 0 a (now (f .entry)) o r ⌝ }
+    ensures { λ r. ⌜ Ahead k 0 a (now (f .entry)) o r ⌝ }
 {
-    let mut b = [0u8; LANES];
+    let mut b = [0u8; 16];
     let mut i: usize = 0;
-    while i < LANES {
+    while i < 16 {
         b[i] = field::sum(field::product_at(powers, k, a[i]), f[o + i]);
         i += 1;
     }
@@ -93,7 +93,7 @@ fn ahead(a: [u8; LANES], powers: &[u8; LAID], k: usize, f: &[u8; ROWS], o: usize
 }
 
 // The values at α^k of 16 columns of n rows, by Horner's rule.
-fn column(f: &[u8; ROWS], n: usize, k: usize, powers: &[u8; LAID]) -> [u8; LANES]
+fn column(f: &[u8; ROWS], n: usize, k: usize, powers: &[u8; LAID]) -> [u8; 16]
     requires { ⌜ Laid (now powers) × (k + 8 ≤ laid) × (0 < n) × (n ≤ 17) ⌝ }
     ensures { λ r. ⌜ Evaluated n k 0 (now (f .entry)) 16 0 r ⌝ }
 {
@@ -108,7 +108,7 @@ fn column(f: &[u8; ROWS], n: usize, k: usize, powers: &[u8; LAID]) -> [u8; LANES
 }
 
 // Lane i of a becomes entry r of row 14 - i.
-fn spread(a: [u8; LANES], r: usize, v: &mut [u8; VALUES])
+fn spread(a: [u8; 16], r: usize, v: &mut [u8; VALUES])
     requires { ⌜ r < 48 ⌝ }
     ensures { λ _. ⌜ Spread 15 r a (now (v .entry)) (now (v .exit)) ⌝ }
 {
@@ -174,7 +174,7 @@ fn rows_of(word: &[u8]) -> [u8; ROWS]
 // The values of the word's columns at α^15, α^30, .., as far as m syndromes ask for them.
 pub(crate) fn values(word: &[u8], m: usize, powers: &[u8; LAID]) -> [u8; VALUES]
     requires { ⌜ (length (now word) ≤ longestWord) × Laid (now powers) ⌝ }
-    ensures { λ r. ⌜ ValuesAre m (now (word .entry)) r ⌝ }
+    ensures { λ r. ⌜ ColumnsAre m (now (word .entry)) r ⌝ }
 {
     let rows = rows_of(word);
     let mut v = [0u8; VALUES];

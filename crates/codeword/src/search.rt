@@ -1,7 +1,6 @@
 // Search for the roots of the error locator among the inverses of the places' locators: α^(256 - n), α^(257 - n), .. for the places of n
 // from the first on. Its values at 16 places in a row are worked out side by side.
 use crate::LONGEST_WORD;
-use crate::lanes::LANES;
 use field::LAID;
 use field::ORDER;
 ghost use mathlib.Core.Path.{_≡_};
@@ -12,7 +11,7 @@ ghost use Rattle.field.specs.Octet.Table.{laid, Laid};
 ghost use Rattle.codeword.specs.CodeWord.{longestWord};
 ghost use Rattle.codeword.specs.Element.{octet};
 ghost use Rattle.codeword.specs.Places.{inverses};
-ghost use Rattle.codeword.specs.Rows.{lanes};
+ghost use Rattle.codeword.specs.Lanes.{lanes};
 ghost use Rattle.codeword.specs.Search.{valueOf, TurnedAt, SearchIs};
 
 // The places found, rising from the front; zero where unused.
@@ -44,13 +43,13 @@ pub(crate) fn inverse_locator(n: usize, p: usize) -> u8
 }
 
 // One turn of Horner's rule at the 16 points α^k, α^(k + 1), ..
-fn turn(a: [u8; LANES], powers: &[u8; LAID], k: usize, x: u8) -> [u8; LANES]
+fn turn(a: [u8; 16], powers: &[u8; LAID], k: usize, x: u8) -> [u8; 16]
     requires { ⌜ Laid (now powers) × (k + 23 ≤ laid) ⌝ }
     ensures { λ r. ⌜ TurnedAt k x a r ⌝ }
 {
-    let mut b = [0u8; LANES];
+    let mut b = [0u8; 16];
     let mut i: usize = 0;
-    while i < LANES {
+    while i < 16 {
         b[i] = field::sum(field::product_at(powers, k + i, a[i]), x);
         i += 1;
     }
@@ -66,11 +65,11 @@ fn coefficient(c: &[u8; LONGEST_WORD], j: usize) -> u8
 }
 
 // c[0] + c[1] x + .. + c[l] x^l at these 16 points, by Horner's rule.
-fn values(c: &[u8; LONGEST_WORD], l: usize, k: usize, powers: &[u8; LAID]) -> [u8; LANES]
+fn values(c: &[u8; LONGEST_WORD], l: usize, k: usize, powers: &[u8; LAID]) -> [u8; 16]
     requires { ⌜ (l < longestWord) × Laid (now powers) × (k + 23 ≤ laid) ⌝ }
     ensures { λ r. ⌜ ((i : ℕ) → i < lanes → getD r i 0 ≡ valueOf (now (c .entry)) (l + 1) (Octet.power Octet.α (k + i))) ⌝ }
 {
-    let mut a = [coefficient(c, l); LANES];
+    let mut a = [coefficient(c, l); 16];
     let mut j = l;
     while 0 < j {
         j -= 1;
@@ -91,7 +90,7 @@ fn all_values(c: &[u8; LONGEST_WORD], l: usize, n: usize) -> [u8; 272]
     while p < n {
         let a = values(c, l, ORDER + 1 - n + p, &powers);
         octets::write(&mut v, p, &a);
-        p += LANES;
+        p += 16;
     }
     v
 }

@@ -5,7 +5,6 @@
 // points in a row take 16 entries in a row.
 use crate::LONGEST_WORD;
 use crate::lanes;
-use crate::lanes::LANES;
 use crate::rows;
 use crate::rows::VALUES;
 use field::LAID;
@@ -14,17 +13,17 @@ ghost use Prim.Native.Nat.{ℕ, _+_, _<_, _≤_};
 ghost use lib.ListN.{length, getD};
 ghost use Rattle.field.specs.Octet.Table.{laid, Laid};
 ghost use Rattle.codeword.specs.CodeWord.{longestWord};
-ghost use Rattle.codeword.specs.Rows.{Stepped, Evaluated};
+ghost use Rattle.codeword.specs.Rows.{Ahead, Evaluated};
 ghost use Rattle.codeword.specs.Syndromes.{SyndromesAre, allZero};
 
 // One turn of Horner's rule at the 16 points α^k, α^(k + 1), ..
-fn along(a: [u8; LANES], powers: &[u8; LAID], k: usize, f: &[u8; VALUES], o: usize) -> [u8; LANES]
+fn along(a: [u8; 16], powers: &[u8; LAID], k: usize, f: &[u8; VALUES], o: usize) -> [u8; 16]
     requires { ⌜ Laid (now powers) × (k + 23 ≤ laid) × (o + 16 ≤ 720) ⌝ }
-    ensures { λ r. ⌜ Stepped k 1 a (now (f .entry)) o r ⌝ }
+    ensures { λ r. ⌜ Ahead k 1 a (now (f .entry)) o r ⌝ }
 {
-    let mut b = [0u8; LANES];
+    let mut b = [0u8; 16];
     let mut i: usize = 0;
-    while i < LANES {
+    while i < 16 {
         b[i] = field::sum(field::product_at(powers, k + i, a[i]), f[o + i]);
         i += 1;
     }
@@ -32,7 +31,7 @@ fn along(a: [u8; LANES], powers: &[u8; LAID], k: usize, f: &[u8; VALUES], o: usi
 }
 
 // The values at α^k, α^(k + 1), .. of the polynomials whose coefficients stand in the rows of v, from entry o on.
-fn join(v: &[u8; VALUES], o: usize, k: usize, powers: &[u8; LAID]) -> [u8; LANES]
+fn join(v: &[u8; VALUES], o: usize, k: usize, powers: &[u8; LAID]) -> [u8; 16]
     requires { ⌜ Laid (now powers) × (k + 23 ≤ laid) × (o + 16 ≤ 48) ⌝ }
     ensures { λ r. ⌜ Evaluated 15 k 1 (now (v .entry)) 48 o r ⌝ }
 {
@@ -68,7 +67,7 @@ pub(crate) fn syndromes(word: &[u8], m: usize) -> [u8; LONGEST_WORD]
     while from < m {
         let a = join(&v, from % 17 + 1, from + 1, &powers);
         octets::write(&mut s, from, &a);
-        from += LANES;
+        from += 16;
     }
     first(s, m)
 }

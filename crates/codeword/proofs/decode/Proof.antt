@@ -20,7 +20,7 @@ returns c =
       none =
           λ fits. long-lost (a .e) (now (a .received)) (now (a .s)) _ _ (search needs)
           (λ i. c .before .before .before .before .shared-slice-known .given i .fits)
-          (start .pre .syndromes) (c .before .locator .ensures) (c .if1 .taken);
+          (start .pre .syndromes) (c .before .locator .ensures .0) (c .if1 .taken);
       same = refl;
     }
 
@@ -33,14 +33,14 @@ returns-2 c =
       none =
           λ fits. roots-lost (a .e) (now (a .received)) (now (a .s)) _ _ (search needs)
           (λ i. located .before .before .before .shared-slice-known .given i .fits)
-          (start .pre .syndromes) (located .locator .ensures) _ _ (c .before .search .ensures) (c .if2 .taken);
+          (start .pre .syndromes) (located .locator .ensures .0) _ _ (c .before .before .before .before .if1 .left) (c .before .search .ensures) (c .if2 .taken);
       same = refl;
     }
 
 correct-requires : tie.Need-correct-requires
 correct-requires c κs =
     let copied = c .before .before .before .before .before .before in
-    let all = copied .before .before .before .before .before .before .before in
+    let all = copied .before .before .before .before .before .before in
     let short = all .before .before .before .before .if1 .left in
     let start = all .before .before .before .before .before .before .before .before .before in
     let s = all .before .search .ensures in
@@ -52,7 +52,7 @@ correct-requires c κs =
 -- the places that are written are the first of those found, and no more than e
 module _ (c : tie.After-write-arg2) where
   abbrev found : tie.Else2
-  found = c .before .before .before .before .before .before .before .before .before .before .before .before .before .before .before .before .before
+  found = c .before .before .before .before .before .before .before .before .before .before .before .before .before .before .before .before
 
   abbrev degree : ℕ
   degree = found .before .before .before .before .before .locator .result .degree
@@ -76,8 +76,7 @@ returns-3 c =
     let fixed = noted .before .before .before .before .before in
     let copied = fixed .before .before .before .before .before .before .before in
     let derived = copied .before .before in
-    let evaluated = derived .before .before in
-    let all = evaluated .before .before .before in
+    let all = derived .before .before .before .before in
     let located = all .before .before .before .before .before in
     let start = located .before .before .before .before in
     let a = start .args in
@@ -89,7 +88,7 @@ returns-3 c =
     subst (λ (k : ℕ). SearchIs n n (l .result .degree) (l .result .coefficients) (s .result .at) k) (all .if2 .left) (s .ensures) in
     corrected-found (a .e) (now (a .received)) (now (a .s)) _ _ (pre .short)
     (λ i. located .before .before .before .shared-slice-known .given i .fits) (pre .syndromes)
-    (l .ensures) _ _ _ every (all .before .before .before .before .if1 .left) (evaluated .evaluator .ensures) (derived .derivative .ensures)
+    (l .ensures .0) _ _ _ every (all .before .before .before .before .if1 .left) (l .ensures .1) (derived .odds .ensures)
     (now (a .repaired)) _ (pre .room)
     (rw (copied .write .ensures) at (fixed .correct .ensures)) (omega (arith, pre)) (now (a .places)) _
     (reads-true n (a .e) (lending (now (a .repaired)) (now (a .places))) (pre .short) (pre .parity) (pre .room) (pre .list)) (noted .write2 .ensures)
@@ -97,6 +96,5 @@ returns-3 c =
 pub decode-spec : {M : Type 1} → statement M
 decode-spec =
     tie.close
-    (tie.spec (λ c. search needs) (λ c κs. search needs) returns (λ c κs. search needs) returns-2 (λ c κs. search needs)
-    (λ c κs. search needs) (λ c κs. search needs) correct-requires inside (λ c. sym (listed (c .before)))
+    (tie.spec (λ c κs. search needs) returns (λ c κs. search needs) returns-2 (λ c κs. search needs) (λ c κs. search needs) correct-requires inside (λ c. sym (listed (c .before)))
     write-requires-2 (λ c. search needs) (λ c. search needs) returns-3)

@@ -1,29 +1,47 @@
--- The discrepancy decides which of the three steps of the theory this is. Assumes nothing.
+-- The discrepancy decides which of the steps of the theory this is. Assumes nothing.
 use borrow.Author.Needs.{needs}
-use Rattle.codeword.proofs.Stepping.{massey-zero, massey-keep, massey-grow}
+use mathlib.Core.Path.{refl}
+use native.Mathlib.Omega.{arith}
+use Rattle.codeword.proofs.Stepping.{massey-zero, massey-keep, massey-grow, stepped, stepped-far}
 use Rattle.codeword.proofs.locator.step.Statement.{statement}
 use Rattle.codeword.proofs.locator.step.Tie as tie
 
 returns : tie.Need-returns
-returns c = massey-zero (c .before .before .before .pre .2) (c .before .discrepancy .ensures) (c .if1 .taken)
+returns c =
+    let found = c .before in
+    let pre = found .before .before .before .pre in
+    stepped (λ s h. massey-zero h (found .discrepancy .ensures .0) (pre .0) (omega (arith, pre .1)) (c .if1 .taken))
 
 returns-2 : tie.Need-returns-2
 returns-2 c =
-    let grows = c .before .before .before .before in
-    let start = grows .before .before .before .before .before .before in
-    massey-grow (start .pre .2) (grows .before .before .before .before .discrepancy .ensures) (start .pre .0)
-    (rw (grows .before .product .ensures, grows .before .before .inverse .ensures) at (c .mend .ensures))
-    (grows .before .before .before .if1 .left) (grows .if2 .taken)
+    let mended = c .before .before .before in
+    let keeps = mended .before .before .before in
+    let found = keeps .before .before in
+    let pre = found .before .before .before .pre in
+    stepped (λ s h. massey-keep h (found .discrepancy .ensures .0) (pre .0) (omega (arith, pre .1)) (c .mend2 .ensures .0) (mended .mend .ensures .0)
+    (omega arith) (omega arith) (omega (arith, keeps .if2 .taken)) (keeps .if2 .taken) (c .mend2 .ensures .1 .same refl) (mended .mend .ensures .1 .same refl))
 
 returns-3 : tie.Need-returns-3
 returns-3 c =
-    let keeps = c .before .before .before in
-    let start = keeps .before .before .before .before .before .before in
-    massey-keep (start .pre .2) (keeps .before .before .before .before .discrepancy .ensures) (start .pre .0)
-    (rw (keeps .before .product .ensures, keeps .before .before .inverse .ensures) at (c .mend2 .ensures)) (keeps .if2 .left)
+    let grows = c .before in
+    let found = grows .before .before in
+    let pre = found .before .before .before .pre in
+    stepped-far (found .discrepancy .ensures .0) (pre .0) (omega (arith, pre .1)) (found .discrepancy .ensures .1) (grows .before .if1 .left)
+    (grows .if2 .left) (c .if3 .taken)
+
+returns-4 : tie.Need-returns-4
+returns-4 c =
+    let grown = c .before .before .before in
+    let grows = grown .before .before .before .before in
+    let found = grows .before .before in
+    let pre = found .before .before .before .pre in
+    stepped (λ s h. massey-grow h (found .discrepancy .ensures .0) (pre .0) (omega (arith, pre .1)) (c .mend4 .ensures .0) (grown .mend3 .ensures .0)
+    (omega arith) (omega (arith, grows .if2 .left)) (omega (arith, grows .if2 .left)) (found .discrepancy .ensures .1) (grows .before .if1 .left)
+    (grows .if2 .left) (c .mend4 .ensures .1) (grown .mend3 .ensures .1))
 
 pub step-spec : {M : Type 1} → statement M
 step-spec =
     tie.close
-    (tie.spec (λ c κs. search needs) (λ c. search needs) returns (λ c κs. search needs) (λ c κs. search needs) (λ c. search needs)
-    (λ c κs. search needs) (λ c. search needs) (λ c. search needs) returns-2 (λ c κs. search needs) (λ c. search needs) returns-3)
+    (tie.spec (λ c. search needs) (λ c. search needs) (λ c κs. search needs) (λ c. search needs) returns (λ c. search needs)
+    (λ c κs. search needs) (λ c. search needs) (λ c κs. search needs) returns-2 (λ c. search needs) (λ c. search needs) returns-3
+    (λ c κs. search needs) (λ c. search needs) (λ c κs. search needs) returns-4)

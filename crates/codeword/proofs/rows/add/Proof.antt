@@ -3,13 +3,14 @@ use borrow.Author.Needs.{needs}
 use Prim.Native.Nat.{_-_, _≤_}
 use native.Mathlib.Omega.{arith}
 use mathlib.Core.Path.{_≡_}
-use Rattle.codeword.specs.Rows.{lanes, Added}
+use Rattle.codeword.specs.Lanes.{lanes}
+use Rattle.codeword.specs.Rows.{RowAdded}
 use Rattle.codeword.proofs.Columns.{added-start, added-next}
 use Rattle.codeword.proofs.rows.add.Statement.{statement}
 use Rattle.codeword.proofs.rows.add.Tie as tie
 
 abbrev Inv-loop : tie.InvT-loop
-Inv-loop o a f₀ i₀ f i = (i ≤ lanes) × Added i o a f₀ f
+Inv-loop o a f₀ i₀ f i = (i ≤ lanes) × RowAdded i o a f₀ f
 
 abbrev μ-loop : tie.MeasureT-loop
 μ-loop o a f₀ i₀ f i = lanes - i

@@ -1,14 +1,14 @@
 -- The values at the places below p are there. Assumes nothing.
 use borrow.Author.Needs.{needs}
 use mathlib.Core.Path.{_≡_, refl, sym, ap, _∙_}
-use Prim.Native.Nat.{_+_, _-_, _%_, _<_}
+use Prim.Native.Nat.{ℕ, _+_, _-_, _%_, _<_}
 use native.Mathlib.Omega.{arith}
 use lib.ListN.{length}
 use denote.Ref.{now}
 use Rattle.field.specs.Octet as Octet
 use Rattle.codeword.specs.Element.{octet}
 use Rattle.codeword.specs.Places.{inverses}
-use Rattle.codeword.specs.Rows.{lanes}
+use Rattle.codeword.specs.Lanes.{lanes}
 use Rattle.codeword.specs.Search.{valueOf}
 use Rattle.codeword.proofs.Columns.{Blocks, blocks-next}
 use Rattle.codeword.proofs.Searching.{inverse-power}

@@ -3,7 +3,7 @@ use borrow.Author.Needs.{needs}
 use mathlib.Core.Path.{_≡_, _∙_}
 use Prim.Native.Nat.{_+_, _-_, _≤_}
 use native.Mathlib.Omega.{arith}
-use Rattle.codeword.specs.Rows.{lanes}
+use Rattle.codeword.specs.Lanes.{lanes}
 use Rattle.codeword.proofs.Arrays.{replicate-is}
 use Rattle.codeword.proofs.Searching.{HornerAt, horner-first, horner-turned, horner-done}
 use Rattle.codeword.proofs.search.values.Statement.{statement}

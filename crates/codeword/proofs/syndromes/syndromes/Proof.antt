@@ -5,7 +5,7 @@ use Prim.Native.Nat.{_+_, _-_, _%_, _<_}
 use native.Mathlib.Omega.{arith}
 use lib.ListN.{length}
 use denote.Ref.{now}
-use Rattle.codeword.specs.Rows.{lanes}
+use Rattle.codeword.specs.Lanes.{lanes}
 use Rattle.codeword.proofs.Columns.{Blocks, blocks-next}
 use Rattle.codeword.proofs.Joining.{Syndrome, joined-lane, joined-done}
 use Rattle.codeword.proofs.syndromes.syndromes.Statement.{statement}

@@ -1,11 +1,8 @@
 -- The first j places have been corrected. Assumes nothing.
 use borrow.Author.Needs.{needs}
-use mathlib.Core.Path.{_≡_, refl, ap, _∙_}
+use mathlib.Core.Path.{_≡_}
 use Prim.Native.Nat.{_-_, _≤_}
 use native.Mathlib.Omega.{arith}
-use denote.Ref.{now}
-use lib.ListN.{getD}
-use Rattle.field.specs.Octet as Octet
 use Rattle.codeword.proofs.Correcting.{corrected-start, corrected-next, corrected-done}
 use Rattle.codeword.specs.Values.{Corrected}
 use Rattle.codeword.proofs.values.correct.Statement.{statement}
@@ -20,40 +17,40 @@ abbrev μ-loop : tie.MeasureT-loop
 loop-holds : tie.Need-loop-holds Inv-loop μ-loop
 loop-holds c = (search needs, corrected-start (λ i. c .slice-known .given i .fits))
 
-cast-p : tie.Need-cast-p Inv-loop μ-loop
-cast-p c =
-    let start = c .before .before .before .before in
-    omega (arith, start .pre .1 .0 (c .before .before .loop .j) (c .before .loop-test .taken), start .pre .0)
+points-requires : tie.Need-points-requires Inv-loop μ-loop
+points-requires c κs =
+    let pre = c .before .before .before .before .pre in
+    let few = c .at-once .ensures in
+    ((few .1, omega (arith, few, pre .0), pre .0 .0), λ i h. pre .1 .0 i (omega (arith, few)))
 
-inverse-locator-requires : tie.Need-inverse-locator-requires Inv-loop μ-loop
-inverse-locator-requires c κs =
-    (c .before .before .before .before .pre .1 .0 (c .before .before .loop .j) (c .before .loop-test .taken), search needs)
+add-requires : tie.Need-add-requires Inv-loop μ-loop
+add-requires c κs =
+    let taken = c .before .before .before in
+    let looped = taken .before .before in
+    let pre = looped .before .before .pre in
+    let few = taken .at-once .ensures in (
+      (few .1, omega (arith, few, pre .0)),
+      (λ i h. omega (arith, pre .1 .0 i (omega (arith, few)), pre .0, looped .loop .inv .1 .long), λ h i o m. pre .1 .1 h i o (omega (arith, few))),
+    )
 
-slice-read-sum : tie.Need-slice-read-sum Inv-loop μ-loop
-slice-read-sum c =
-    let turn = c .before .before .before .before in
-    let l = turn .before .loop in
-    omega (arith, turn .before .before .before .pre .1 .0 (l .j) (turn .loop-test .taken), l .inv .1 .long)
-
-slice-write-w : tie.Need-slice-write-w Inv-loop μ-loop
-slice-write-w c =
-    let turn = c .before .before .before .before .before in
-    let l = turn .before .loop in
-    omega (arith, turn .before .before .before .pre .1 .0 (l .j) (turn .loop-test .taken), l .inv .1 .long)
+loop-less : tie.Need-loop-less Inv-loop μ-loop
+loop-less c =
+    let taken = c .before .before .before .before .before .before in
+    let some = taken .at-once .ensures .2 (omega (arith, taken .before .loop-test .taken)) in
+    omega (arith, some, taken .at-once .ensures .0)
 
 loop-again : tie.Need-loop-again Inv-loop μ-loop
 loop-again c =
-    let turn = c .before .before .before .before .before in
-    let l = turn .before .loop in
-    let start = turn .before .before .before in
-    let a = start .args in
-    let pre = start .pre .1 in
-    let in-loop = turn .loop-test .taken in (
-      search needs,
-      corrected-next refl (omega (arith, pre .0 (l .j) in-loop))
-          (λ i h. pre .1 i (l .j) h in-loop)
-          (c .sum .ensures ∙ ap (Octet.sum (getD (l .w) (getD (now (a .at)) (l .j) 0) 0))
-          (c .before .before .error .ensures ∙ (rw (c .before .before .before .inverse-locator .ensures)))) (l .inv .1),
+    let added = c .before .before in
+    let valued = added .before .before in
+    let pointed = valued .before in
+    let taken = pointed .before in
+    let looped = taken .before .before in
+    let pre = looped .before .before .pre in
+    let few = taken .at-once .ensures in (
+      omega (arith, few),
+      corrected-next (few .1) (λ i. c .slice-known2 .given i .fits) (λ h i o m. pre .1 .1 h i o (omega (arith, few)))
+          (pointed .points .ensures) (valued .errors .ensures) (added .add .ensures) (looped .loop .inv .1),
     )
 
 returns : tie.Need-returns Inv-loop μ-loop
@@ -64,5 +61,5 @@ returns c =
 pub correct-spec : {M : Type 1} → statement M
 correct-spec =
     tie.close
-    (tie.spec Inv-loop μ-loop loop-holds (λ c. search needs) cast-p inverse-locator-requires (λ c κs. search needs) slice-read-sum
-    (λ c κs. search needs) slice-write-w (λ c. search needs) (λ c. search needs) loop-again (λ c. search needs) returns)
+    (tie.spec Inv-loop μ-loop loop-holds (λ c. search needs) (λ c κs. search needs) points-requires (λ c κs. search needs) add-requires
+    (λ c. search needs) loop-less loop-again (λ c. search needs) returns)

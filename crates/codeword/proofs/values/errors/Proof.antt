@@ -1,0 +1,32 @@
+-- By what the values and their quotient are. Assumes nothing.
+use borrow.Author.Needs.{needs}
+use mathlib.Core.Path.{ap, ap₂, _∙_}
+use Prim.Native.Nat.{_+_, _/_}
+use denote.Ref.{now}
+use Rattle.field.specs.Octet as Octet
+use Rattle.codeword.specs.Search.{valueOf}
+use Rattle.codeword.specs.Values.{errorOf}
+use Rattle.codeword.proofs.Correcting.{valueOf-octet}
+use Rattle.codeword.proofs.values.errors.Statement.{statement}
+use Rattle.codeword.proofs.values.errors.Tie as tie
+
+returns : tie.Need-returns
+unfolding errorOf
+returns c =
+    let inverted = c .before in
+    let below = inverted .before in
+    let squared = below .before in
+    let above = squared .before .before in
+    let a = above .before .before .args in
+    record {
+      is = λ k h. c .products2 .ensures .is k h
+          ∙ ap₂ Octet.product (above .horner .ensures .is k h)
+          (inverted .inverses .ensures .is k h (rw (below .horner2 .ensures .is k h) (valueOf-octet _ _ _))
+          ∙ ap Octet.inverse (below .horner2 .ensures .is k h ∙ ap (valueOf (now (a .d)) ((a .l + 1) / 2)) (squared .products .ensures .is k h)));
+    }
+
+pub errors-spec : {M : Type 1} → statement M
+errors-spec =
+    tie.close
+    (tie.spec (λ c κs. search needs) (λ c. search needs) (λ c κs. search needs) (λ c κs. search needs) (λ c κs. search needs)
+    (λ c κs. search needs) returns)

@@ -1,0 +1,45 @@
+-- The first k points are there. Assumes nothing.
+use borrow.Author.Needs.{needs}
+use Prim.Native.Nat.{_+_, _-_, _≤_}
+use native.Mathlib.Omega.{arith}
+use lib.ListN.{getD}
+use Rattle.codeword.specs.Element.{octet}
+use Rattle.codeword.specs.Places.{inverses}
+use Rattle.codeword.proofs.Loading.{FilledTo, filled-start, filled-next}
+use Rattle.codeword.proofs.values.points.Statement.{statement}
+use Rattle.codeword.proofs.values.points.Tie as tie
+
+abbrev Inv-loop : tie.InvT-loop
+Inv-loop at j count n x₀ k₀ x k = (k ≤ count) × FilledTo 16 k x (λ i. octet (inverses n (getD at (j + i) 0)))
+
+abbrev μ-loop : tie.MeasureT-loop
+μ-loop at j count n x₀ k₀ x k = count - k
+
+loop-holds : tie.Need-loop-holds Inv-loop μ-loop
+loop-holds c = (search needs, filled-start)
+
+cast-p : tie.Need-cast-p Inv-loop μ-loop
+cast-p c =
+    let turn = c .before in
+    let start = turn .before .before in
+    omega (arith, start .pre .1 (start .args .j + turn .before .loop .k) (omega (arith, turn .loop-test .taken)), start .pre .0)
+
+inverse-locator-requires : tie.Need-inverse-locator-requires Inv-loop μ-loop
+inverse-locator-requires c κs =
+    let turn = c .before in
+    let start = turn .before .before in
+    (start .pre .1 (start .args .j + turn .before .loop .k) (omega (arith, turn .loop-test .taken)), start .pre .0 .2)
+
+loop-again : tie.Need-loop-again Inv-loop μ-loop
+loop-again c =
+    let turn = c .before .before in
+    (search needs, filled-next (omega (arith, turn .loop-test .taken, turn .before .before .pre .0)) (c .inverse-locator .ensures) (turn .before .loop .inv .1))
+
+returns : tie.Need-returns Inv-loop μ-loop
+returns c = record { used = λ k o. c .before .loop .inv .1 .is k (omega arith) }
+
+pub points-spec : {M : Type 1} → statement M
+points-spec =
+    tie.close
+    (tie.spec Inv-loop μ-loop loop-holds (λ c. search needs) (λ c. search needs) cast-p inverse-locator-requires (λ c. search needs)
+    (λ c. search needs) (λ c. search needs) loop-again returns)
