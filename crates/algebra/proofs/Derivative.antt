@@ -1,7 +1,6 @@
 -- The formal derivative, in characteristic 2.
 --
---   deriv-even, deriv-odd    it is f₁, 0, f₃, 0, ..
---   odds-at, deriv-odds      .. so its value at x is that of f₁, f₃, .. at x²
+--   odds-at, deriv-odds      it is f₁, 0, f₃, 0, .., so its value at x is that of f₁, f₃, .. at x²
 --   deriv-⊡                  it is linear
 --   deriv-loc                the locator's derivative at Zₖ is Xₖ skip: Forney's divisor
 --
@@ -40,19 +39,6 @@ module _ (𝓕 : Field) where
 
   deriv-two : (f : Series 𝓕) (n : ℕ) → deriv 𝓕 f (suc (suc n)) ≡ deriv 𝓕 (tl (tl f)) n
   deriv-two f n = rw (deriv-suc f (suc n), deriv-suc (tl f) n, tl-at) (⊕-cancel 𝓕 _ _)
-
-  pub deriv-even : (h : ℕ) (f : Series 𝓕) → deriv 𝓕 f (2 * h) ≡ f (2 * h + 1)
-  deriv-even zero f = deriv-zero f
-  deriv-even (suc h) f =
-      let e : 2 * suc h ≡ suc (suc (2 * h)) = omega arith in
-      let o : suc (suc (2 * h)) + 1 ≡ suc (suc (2 * h + 1)) = omega arith in
-      rw (e, o) (deriv-two f (2 * h) ∙ deriv-even h _ ∙ tl-at 𝓕 _ (2 * h + 1) ∙ tl-at 𝓕 f (suc (2 * h + 1)))
-
-  pub deriv-odd : (h : ℕ) (f : Series 𝓕) → deriv 𝓕 f (2 * h + 1) ≡ 𝟘
-  deriv-odd zero f = deriv-one f
-  deriv-odd (suc h) f =
-      let e : 2 * suc h + 1 ≡ suc (suc (2 * h + 1)) = omega arith in
-      rw e (deriv-two f (2 * h + 1) ∙ deriv-odd h _)
 
   pub odds-at : (f : Series 𝓕) (n : ℕ) → odds 𝓕 f n ≡ f (2 * n + 1)
   unfolding odds

@@ -2,8 +2,7 @@
 -- and (C, L) is what Berlekamp and Massey's algorithm made of the first t of them.
 --
 --   least-weight          no error with the syndromes S has a smaller weight than the shortest recurrence's length
---   length-complete       if S are the syndromes of an error of weight w with 2 w ≤ t, then L = w
---   search-complete       .. and the search finds L places
+--   search-complete       if S are the syndromes of an error of weight w with 2 w ≤ t, the search finds L places
 --   divisor-ne            if it finds L places, Forney's divisor is not zero there
 --   search-sound          .. and the error with Forney's values there has the syndromes S, and weight L
 --   search-lists          .. and is not zero at just the places found
@@ -171,9 +170,6 @@ module _ (𝓕 : Field) where
           (listed-distinct D I (weight 𝓕 n E) at (su .lists .inside) (su .lists .rises)) (listed-inverses D I (weight 𝓕 n E) at (su .lists .inside) (su .lists .rises))
           (λ k l. rw pick-at (su .lists .each k l))
           (λ i l. syn i l ∙ su .sums A (suc i) ∙ sym (synd-at 𝓕 (weight 𝓕 n E) (pick 𝓕 E at) (pick 𝓕 A at) i)) st few
-
-      pub length-complete : L ≡ weight 𝓕 n E
-      length-complete = located .0
 
       value-at : (p : ℕ) → ev 𝓕 (suc L) C (Z p) ≡ prod 𝓕 (weight 𝓕 n E) (pick 𝓕 A at) (Z p)
       value-at p = ap₂ (λ (l : ℕ) (c : Series 𝓕). ev 𝓕 (suc l) c (Z p)) (located .0) (located .1) ∙ ev-loc 𝓕 (weight 𝓕 n E) (pick 𝓕 A at) (Z p)

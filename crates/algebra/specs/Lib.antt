@@ -6,7 +6,6 @@ pub mod Power
 pub mod Division
 pub mod Remainder
 pub mod Value
-pub mod Convolution
 pub mod Derivative
 pub mod Points
 pub mod PowerSum

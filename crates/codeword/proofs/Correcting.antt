@@ -9,10 +9,9 @@
 -- Assumes nothing.
 use mathlib.Core.Path.{_≡_, refl, sym, ap, _∙_, subst}
 use mathlib.Core.List.{List}
-use Prim.Native.Nat.{ℕ, _+_, _*_, _-_, _≤_, _<_}
+use Prim.Native.Nat.{ℕ, _+_, _-_, _≤_, _<_}
 use native.Mathlib.Omega.{arith}
 use native.Mathlib.Decide.{ℕ-discrete, decLt}
-use lib.Dec.{lit<}
 use lib.ListN.{length, getD, set, replicate, length-set}
 use lib.Seq.{getD-set-same, getD-set-other}
 use Rattle.field.specs.Octet as Octet
@@ -85,9 +84,6 @@ corrected-next {n} {l} {j} {m} {at} {o} {d} {w} {u} {v} {x} {y} few octets rises
   same = λ p h. added .same p (λ k o. h (j + k) (omega arith)) ∙ t .same p (λ i o. h i (omega arith));
 }
   where
-    value : ℕ → ℕ
-    value p = errorOf o d l (octet (inverses n p))
-
     new : (k : ℕ) → k < m → getD v (getD at (j + k) 0) 0 ≡ Octet.sum (getD w (getD at (j + k) 0) 0) (errorOf o d l (octet (inverses n (getD at (j + k) 0))))
     new k h =
         added .changed k h

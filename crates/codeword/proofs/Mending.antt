@@ -2,12 +2,13 @@
 --
 --   mended-start, mended-next       one block after another
 --   kept-start, kept-next           .. of c into b
+--   behind-at                       the coefficients behind the zeros
 --   mended-at, mended-whole         what c then is, as a series; the whole of it, where nothing lies beyond
 --   kept-at, kept-whole, kept-margin    what b then is
 --
 -- Assumes nothing.
 use mathlib.Core.Path.{_≡_, refl, sym, ap, ap₂, fun-ext, _∙_}
-use mathlib.Core.Logic.{_⊎_, inl, inr, ⊎-elim}
+use mathlib.Core.Logic.{inl, inr, ⊎-elim}
 use mathlib.Core.Bool.{Bool, true, false, true≢false}
 use mathlib.Core.List.{List}
 use Prim.Native.Nat.{ℕ, _+_, _*_, _-_, _≤_, _<_}
@@ -23,7 +24,7 @@ use Rattle.codeword.specs.Element.{elements, element}
 use Rattle.codeword.specs.Element.Laws.{element-sum, element-product, element-zero}
 use Rattle.codeword.specs.Lanes.{lanes, Loaded, Stored}
 use Rattle.codeword.specs.Places.{places}
-use Rattle.codeword.specs.Locator.{margin, Margin, behind, Mixed, Saved, Mended, Kept}
+use Rattle.codeword.specs.Locator.{margin, HasMargin, behind, Mixed, Saved, Mended, Kept}
 use Rattle.codeword.proofs.Word.{places-at}
 
 infixl 60 _⊕_ _⊞_
@@ -103,21 +104,21 @@ unfolding behind
 behind-at b k = places-at b (margin + k)
 
 -- what is read below b's first coefficient is zero
-shifted-at : (n : ℕ) (b : List ℕ) (k : ℕ) → Margin b → n ≤ margin → element (getD b (margin + k - n) 0) ≡ raised elements n (behind b) k
+shifted-at : (n : ℕ) (b : List ℕ) (k : ℕ) → HasMargin b → n ≤ margin → element (getD b (margin + k - n) 0) ≡ raised elements n (behind b) k
 shifted-at n b k h l = elim (decLt k n) [
   | yes p ↦ ap element (h (margin + k - n) (omega arith)) ∙ element-zero ∙ sym (raised-low elements n (behind b) k p)
   | no p ↦ (let e : margin + k - n ≡ margin + (k - n) = omega arith in
       ap (λ (i : ℕ). element (getD b i 0)) e ∙ sym (raised-high elements n (behind b) k (omega arith) ∙ behind-at b (k - n)))
 ]
 
-pub mended-at : {hi n a q : ℕ} {c b d : List ℕ} → Mended 0 hi n a q c b d → Margin b → n ≤ margin → (k : ℕ) → k < hi
+pub mended-at : {hi n a q : ℕ} {c b d : List ℕ} → Mended 0 hi n a q c b d → HasMargin b → n ≤ margin → (k : ℕ) → k < hi
     → places d k ≡ element a ⊙ places c k ⊕ element q ⊙ raised elements n (behind b) k
 mended-at {hi} {n} {a} {q} {c} {b} {d} h z l k m =
     places-at d k ∙ ap element (h .done k (omega arith) m) ∙ element-sum _ _
     ∙ ap₂ (λ (x y : F). x ⊕ y) (element-product a _ ∙ ap (λ (x : F). element a ⊙ x) (sym (places-at c k)))
     (element-product q _ ∙ ap (λ (x : F). element q ⊙ x) (shifted-at n b k z l))
 
-pub mended-whole : {hi n a q : ℕ} {c b d : List ℕ} → Mended 0 hi n a q c b d → Margin b → n ≤ margin
+pub mended-whole : {hi n a q : ℕ} {c b d : List ℕ} → Mended 0 hi n a q c b d → HasMargin b → n ≤ margin
     → ((k : ℕ) → hi ≤ k → places c k ≡ 𝟘) → ((k : ℕ) → hi ≤ k → raised elements n (behind b) k ≡ 𝟘)
     → places d ≡ element a ⊡ places c ⊞ element q ⊡ raised elements n (behind b)
 mended-whole {hi} {n} {a} {q} {c} {b} {d} h z l cz bz = fun-ext (λ k. go k (decLe hi k) ∙ sym (⊞-at elements _ _ k ∙ ap₂ (λ (x y : F). x ⊕ y) (⊡-at elements _ _ k) (⊡-at elements _ _ k)))
@@ -138,5 +139,5 @@ kept-whole {hi} {c} {b} {d} h cz bz = fun-ext (λ k. elim (decLe hi k) [
   | no m ↦ kept-at h k (omega arith)
 ])
 
-pub kept-margin : {grows : Bool} {hi : ℕ} {c b d : List ℕ} → Kept grows 0 hi c b d → Margin b → Margin d
+pub kept-margin : {grows : Bool} {hi : ℕ} {c b d : List ℕ} → Kept grows 0 hi c b d → HasMargin b → HasMargin d
 kept-margin h z k l = h .left k (inl (omega arith)) ∙ z k l

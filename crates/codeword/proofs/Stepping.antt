@@ -10,10 +10,10 @@
 --
 -- Assumes nothing.
 use mathlib.Core.Path.{_≡_, sym, ap, ap₂, fun-ext, _∙_}
-use mathlib.Core.Logic.{_≢_, inl, inr}
+use mathlib.Core.Logic.{_≢_, inl}
 use mathlib.Core.Bool.{true}
 use mathlib.Core.List.{List}
-use Prim.Native.Nat.{ℕ, zero, suc, _+_, _*_, _-_, _/_, _≤_, _<_}
+use Prim.Native.Nat.{ℕ, zero, suc, _+_, _*_, _-_, _≤_, _<_}
 use native.Mathlib.Numerals.{add-one}
 use native.Mathlib.Omega.{arith}
 use lib.Dec.{lit<}
@@ -21,7 +21,7 @@ use lib.ListN.{length, getD, set, replicate, length-replicate}
 use lib.Seq.{getD-set-same, getD-set-other}
 use Rattle.octets.specs.Written.{written, written-inside, written-outside}
 use Rattle.algebra.specs.Field.{Field}
-use Rattle.algebra.specs.Series.{Series, Below, Operations, operations}
+use Rattle.algebra.specs.Series.{Series, Operations, operations}
 use Rattle.algebra.specs.Polynomial.{raised}
 use Rattle.algebra.specs.Massey.{Least, ScaledState}
 use Rattle.algebra.proofs.Laws.{unit-zero, unit-suc, unit-⊛, mixed-⊛, raised-zero, raised-suc, raised-high, raised-⊛, raised-local}
@@ -30,9 +30,8 @@ use Rattle.field.specs.Octet as Octet
 use Rattle.codeword.specs.Element.{elements, element}
 use Rattle.codeword.specs.Element.Laws.{element-zero, element-one, element-ne}
 use Rattle.codeword.specs.CodeWord.{longestWord}
-use Rattle.codeword.specs.Lanes.{lanes}
 use Rattle.codeword.specs.Places.{places}
-use Rattle.codeword.specs.Locator.{margin, Margin, behind, ProductTo, MasseyStateIs, Mended, Kept, Stepped, LocatorIs, EvaluatorIs}
+use Rattle.codeword.specs.Locator.{margin, behind, ProductTo, MasseyStateIs, Mended, Kept, Stepped, LocatorIs, EvaluatorIs}
 use Rattle.codeword.proofs.Arrays.{zeros, replicate-at}
 use Rattle.codeword.proofs.Word.{places-at}
 use Rattle.codeword.proofs.Mending.{behind-at, mended-at, mended-whole, kept-at, kept-whole, kept-margin}

@@ -1,7 +1,7 @@
 -- What the locator step answers.
 --
 --   margin                    how many zeros b and t stand behind
---   Margin b                  these are zeros
+--   HasMargin b               these are zeros
 --   behind b                  the series of what stands behind them
 --   ProductTo m s c d         d is the product of c and the syndromes s, as far as the first m coefficients
 --   MasseyStateIs m s c d b t r l shift q    the state of Berlekamp and Massey's algorithm after r of m syndromes s, as the code keeps it: the
@@ -13,8 +13,8 @@
 --   Kept grows lo hi c b d    d is b, but where the length grows for those coefficients, which are c's
 --   Stepped e r ..            one step: from the state after r syndromes to that after r + 1; where its length is above e, that length alone
 --   Located m s c l           c is the shortest recurrence for the first m of the syndromes s, times a constant that is not zero; l its length
---   LocatorIs m s c l         no recurrence for them is shorter than l; and where l is at most m / 2, c is that one
---   EvaluatorIs m s c o l     .. and o is its product with s
+--   LocatorIs m s c l         no recurrence for them is shorter than l, and c has no coefficient past l; where l is at most m / 2, c is as above
+--   EvaluatorIs m s c o l     .. and o is then its product with s, whose first l coefficients are the error evaluator
 --
 -- Assumes nothing.
 use mathlib.Core.Path.{_≡_}
@@ -35,8 +35,8 @@ use Rattle.codeword.specs.Places.{places}
 abbrev pub margin : ℕ
 margin = 256
 
-abbrev pub Margin : List ℕ → Type 0
-Margin b = (k : ℕ) → k < margin → getD b k 0 ≡ 0
+abbrev pub HasMargin : List ℕ → Type 0
+HasMargin b = (k : ℕ) → k < margin → getD b k 0 ≡ 0
 
 unfoldable pub behind : List ℕ → Series elements
 behind b k = places b (margin + k)
@@ -47,8 +47,8 @@ ProductTo m s c d = (k : ℕ) → k < m → d k ≡ Ser._⊛_ elements c (places
 pub record MasseyStateIs (m : ℕ) (s c d b t : List ℕ) (r l shift q : ℕ) : Type 0 where
   pub shift-small : shift ≤ suc r
   pub product : ProductTo m s (places c) (places d)
-  pub b-margin : Margin b
-  pub t-margin : Margin t
+  pub b-margin : HasMargin b
+  pub t-margin : HasMargin t
   pub earlier : ProductTo m s (behind b) (behind t)
   pub state : ScaledState elements (places s) (places c) (raised elements shift (behind b)) r l (element q)
 
@@ -70,7 +70,7 @@ pub record Kept (grows : Bool) (lo hi : ℕ) (c b d : List ℕ) : Type 0 where
   pub left : (i : ℕ) → (i < margin + lo) ⊎ (margin + hi ≤ i) → getD d i 0 ≡ getD b i 0
   pub same : grows ≡ false → d ≡ b
 
--- of any syndromes that the state is of
+-- of any syndromes s that the state before it is of
 pub record Stepped (e r : ℕ) (c d b t : List ℕ) (l shift q : ℕ) (c′ d′ b′ t′ : List ℕ) (l′ shift′ q′ : ℕ) : Type 0 where
   pub least : (s : List ℕ) → MasseyStateIs (2 * e) s c d b t r l shift q → Least elements (r + 1) l′ (places s)
   pub below : (s : List ℕ) → MasseyStateIs (2 * e) s c d b t r l shift q → Below elements (suc l′) (places c′)

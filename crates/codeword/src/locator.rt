@@ -6,7 +6,8 @@
 // x^shift b is added: no division, and c comes out as the locator times a constant that is not zero. Such a constant changes no root, and
 // in Forney's quotient it cancels.
 //
-// A length that passes e never comes back, so the loop ends there. b and t stand behind 256 zeros: shifting them is reading further down.
+// A length that passes e never comes back, so the loop ends there: c and b have at most 128 coefficients, and d and t, for at most 254 syndromes,
+// 256, since 16 are taken at a time. b and t stand behind 256 zeros: shifting them is reading further down.
 use crate::LONGEST_WORD;
 use crate::lanes;
 ghost use mathlib.Core.Path.{_≡_};

@@ -5,7 +5,6 @@
 // so its value at x is that of c[1], c[3], c[5], .. at x^2. Sixteen places are taken at once.
 use crate::LONGEST_WORD;
 use crate::search;
-ghost use mathlib.Core.Path.{_≡_};
 ghost use Prim.Native.Nat.{ℕ, _+_, _<_, _≤_};
 ghost use lib.ListN.{length, getD};
 ghost use Rattle.codeword.specs.CodeWord.{longestWord};
