@@ -3,6 +3,7 @@
 --   Places κ      the three places of the generator's terms, counted from the first coefficient below the highest
 --   turn          the octet at i is added to those at its places behind it: what is left of the octets from i on is what is left of
 --                 those behind it
+--   turn-octets   .. and octets they stay
 --   rest          the last 16 octets, as they are cut out
 --   started       a start of two octets, added to the first two
 --   folds8, folds16     the rule, tested of every octet
@@ -18,8 +19,8 @@ use native.Mathlib.Nat.{zero-add}
 use native.Mathlib.Omega.{arith}
 use lib.Bits.{bitXor}
 use lib.Dec.{T, eqb→eq, lit<}
-use lib.ListN.{length, getD, set, take, drop, replicate, length-set, length-replicate, length-take, length-drop}
-use lib.Seq.{drop-cons, getD-take, length-take-le}
+use lib.ListN.{length, getD, set, take, drop, replicate, length-set, length-replicate, length-drop, getD-replicate}
+use lib.Seq.{drop-cons, getD-take, getD-set-other, length-take-le}
 use Rattle.algebra.specs.Division.{sum, lowered, divided, remainder}
 use Rattle.codeword.specs.CodeWord.{Octets}
 use Rattle.octets.specs.Parts.{part-next}
@@ -28,7 +29,7 @@ use Rattle.octets.specs.Same.{same, same-equal}
 use Rattle.adaptation.specs.Bits.{isOdd, bitsOf, bits, number, octetsOf}
 use Rattle.adaptation.specs.Check.{Kind, generator, plain, eight, sixteen}
 use Rattle.adaptation.specs.Steps.{left}
-use Rattle.adaptation.proofs.Fold.{added, Folds, fold, flip, added-none, added-set, flip-part, part-octets, xors-nothing}
+use Rattle.adaptation.proofs.Fold.{added, Folds, fold, flip, added-none, added-set, flip-part, flip-octets, part-octets, xors-nothing}
 use Rattle.adaptation.proofs.Octets.{xors}
 
 abbrev none : ℕ → List Bool
@@ -46,6 +47,26 @@ pub record Places (κ : Kind) : Type 0 where
   pub free-first : getD (none all) first false ≡ false
   pub free-second : getD (set (none all) first true) second false ≡ false
   pub free-third : getD (set (set (none all) first true) second true) third false ≡ false
+
+abbrev places-at : (κ : Kind) (all j k l : ℕ) → generator κ ≡ set (set (set (none all) j true) k true) l true → j < k → k < l → l < all → Places κ
+places-at κ all j k l is jk kl la = record {
+  all = all;
+  first = j;
+  second = k;
+  third = l;
+  is = is;
+  in-first = omega arith;
+  in-second = omega arith;
+  in-third = la;
+  free-first = getD-replicate all j false false (omega arith);
+  free-second = getD-set-other (none all) j k true false (λ e. omega arith) ∙ getD-replicate all k false false (omega arith);
+  free-third =
+      getD-set-other (set (none all) j true) k l true false (λ e. omega arith) ∙ getD-set-other (none all) j l true false (λ e. omega arith)
+      ∙ getD-replicate all l false false la;
+}
+
+pub turn-octets : (a x y z : ℕ) (w : List ℕ) → a < 256 → Octets w → Octets (flip a z (flip a y (flip a x w)))
+turn-octets a x y z w l o = flip-octets a z (flip a y (flip a x w)) l (flip-octets a y (flip a x w) l (flip-octets a x w l o))
 
 module _ (κ : Kind) (rule : Folds κ) (p : Places κ) where
   places-length : length (generator κ) ≡ p .all
@@ -138,32 +159,8 @@ folds16 = record { at = folds-at sixteen tt; nothing = refl; some = 1; octets = 
 
 unfoldable pub places8 : Places eight
 unfolding generator eight
-places8 = record {
-  all = 8;
-  first = 5;
-  second = 6;
-  third = 7;
-  is = refl;
-  in-first = lit< tt;
-  in-second = lit< tt;
-  in-third = lit< tt;
-  free-first = refl;
-  free-second = refl;
-  free-third = refl;
-}
+places8 = places-at eight 8 5 6 7 refl (lit< tt) (lit< tt) (lit< tt)
 
 unfoldable pub places16 : Places sixteen
 unfolding generator sixteen
-places16 = record {
-  all = 16;
-  first = 3;
-  second = 10;
-  third = 15;
-  is = refl;
-  in-first = lit< tt;
-  in-second = lit< tt;
-  in-third = lit< tt;
-  free-first = refl;
-  free-second = refl;
-  free-third = refl;
-}
+places16 = places-at sixteen 16 3 10 15 refl (lit< tt) (lit< tt) (lit< tt)

@@ -11,7 +11,7 @@ use Rattle.codeword.specs.CodeWord.{Octets}
 use Rattle.adaptation.specs.Check.{sixteen}
 use Rattle.adaptation.specs.Steps.{held, left}
 use Rattle.adaptation.proofs.Fold.{held-left, flip, flip-octets}
-use Rattle.adaptation.proofs.Turns.{turn, rest, started, folds16, places16}
+use Rattle.adaptation.proofs.Turns.{turn, turn-octets, rest, started, folds16, places16}
 use Rattle.adaptation.proofs.checks.folded16.Statement.{statement}
 use Rattle.adaptation.proofs.checks.folded16.Tie as tie
 
@@ -53,8 +53,7 @@ loop-again c =
     let a = getD (l .w) i 0 in
     let o = l .inv .1 in (
       turn sixteen folds16 places16 n i (l .w) o (omega arith) (omega arith) (i + 4) (i + 11) (i + 16) (omega arith) (omega arith) (omega arith) ∙ l .inv .0,
-      flip-octets a (i + 16) (flip a (i + 11) (flip a (i + 4) (l .w))) (o i)
-          (flip-octets a (i + 11) (flip a (i + 4) (l .w)) (o i) (flip-octets a (i + 4) (l .w) (o i) o)),
+      turn-octets a (i + 4) (i + 11) (i + 16) (l .w) (o i) o,
       search needs,
       search needs,
     )

@@ -9,8 +9,7 @@ use lib.ListN.{length, getD, take, drop}
 use Rattle.codeword.specs.CodeWord.{Octets}
 use Rattle.adaptation.specs.Check.{eight}
 use Rattle.adaptation.specs.Steps.{left}
-use Rattle.adaptation.proofs.Fold.{flip, flip-octets}
-use Rattle.adaptation.proofs.Turns.{turn, rest, folds8, places8}
+use Rattle.adaptation.proofs.Turns.{turn, turn-octets, rest, folds8, places8}
 use Rattle.adaptation.proofs.checks.folded8.Statement.{statement}
 use Rattle.adaptation.proofs.checks.folded8.Tie as tie
 
@@ -36,8 +35,7 @@ loop-again c =
     let a = getD (l .w) i 0 in
     let o = l .inv .1 in (
       turn eight folds8 places8 n i (l .w) o (omega arith) (omega arith) (i + 6) (i + 7) (i + 8) (omega arith) (omega arith) (omega arith) ∙ l .inv .0,
-      flip-octets a (i + 8) (flip a (i + 7) (flip a (i + 6) (l .w))) (o i)
-          (flip-octets a (i + 7) (flip a (i + 6) (l .w)) (o i) (flip-octets a (i + 6) (l .w) (o i) o)),
+      turn-octets a (i + 6) (i + 7) (i + 8) (l .w) (o i) o,
       search needs,
       search needs,
     )
