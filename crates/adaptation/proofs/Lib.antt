@@ -4,6 +4,8 @@ pub mod Octets
 pub mod Remainders
 pub mod Residue
 pub mod Rule
+pub mod Fold
+pub mod Turns
 pub mod Behind
 pub mod Assembled
 pub mod Coding

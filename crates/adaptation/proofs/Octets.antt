@@ -8,7 +8,7 @@
 --   octetsOf-cons, octetsOf-snoc    eight bits in front are an octet in front; eight zeros behind are the octet 0
 --   bits-octetsOf, octetsOf-bits    bits by octets are those bits, and octets by their bits those octets
 --   octetsOf-sum                    octet by octet
---   not-sum, sum-zeros              the sum with ones is the ones' complement, and with zeros it is nothing new
+--   not-sum, sum-zeros, sum-nothing the sum with ones is the ones' complement, and with zeros, or nothing, it is nothing new
 --   xors u v                        exclusive or of octets, one by one
 --
 -- Assumes nothing.
@@ -147,7 +147,7 @@ octetsOf-bits (a ∷ u) o =
     octetsOf-cons (length u) (bitsOf 8 a) (bits u) (bitsOf-length 8 a)
     ∙ ap₂ (λ (x : ℕ) (v : List ℕ). x ∷ v) (number-bitsOf 8 a (o 0)) (octetsOf-bits u (λ i. o (suc i)))
 
-sum-nothing : (p : List Bool) → sum 𝔹 p [] ≡ p
+pub sum-nothing : (p : List Bool) → sum 𝔹 p [] ≡ p
 unfolding sum
 sum-nothing [] = refl
 sum-nothing (a ∷ p) = refl

@@ -1,19 +1,29 @@
-// The checks of 8 and 16 bits (000, 7.3.3.2.3 and 7.4.3.2.3), an octet a step. The definitions are in specs/Check.antt.
+// The checks of 8 and 16 bits (000, 7.3.3.2.3 and 7.4.3.2.3). The definitions are in specs/Check.antt.
 //
-// Both keep a register of the remainder, its highest coefficient in bit 1 of the first octet. The octet that comes is added to the
-// first octet of the register; the remainder of that sum is added to the register's other octets, which move up.
+// First the content is folded. The generator at x^8 is the generator to the 8th power, since in characteristic 2 a square is the sum of the
+// squares: so the remainder by the generator stays where the content is divided by that, whose coefficients are octets. They are 0 and 1,
+// and an octet that goes is only added to three octets behind it: 16 - 12, 16 - 5 and 16 octets on, or 8 - 2, 8 - 1 and 8. The next octet
+// does not wait for that, as each would in the register.
+//
+// Then a register of the remainder, its highest coefficient in bit 1 of the first octet, takes the octets that are left. The octet that
+// comes is added to the first octet of the register; the remainder of that sum is added to the register's other octets, which move up.
 //
 // A remainder is worked out by shifting and adding. An octet's highest coefficient is its lowest bit, so that a shift to the right by k
 // bits is the product with x^k, and a shift to the left what x^-k times the octet has at x^0 and above. The octet times x^w is q times the
 // generator, and a remainder below x^w: q is the octet, and what the generator's lower terms times q have at x^w and above; the remainder
 // is what they have below it.
+use crate::LONGEST_UNIT;
 ghost use mathlib.Core.Path.{_≡_};
 ghost use mathlib.Core.List.{[], _∷_, _++_};
-ghost use Prim.Native.Nat.{_-_};
-ghost use lib.ListN.{replicate};
+ghost use Prim.Native.Nat.{_+_, _-_, _≤_};
+ghost use lib.ListN.{length, take, drop, replicate};
+ghost use Rattle.codeword.specs.CodeWord.{Octets};
 ghost use Rattle.adaptation.specs.Check.{eight, sixteen, checkOf};
-ghost use Rattle.adaptation.specs.Steps.{remainderOf};
+ghost use Rattle.adaptation.specs.Steps.{held, left, remainderOf};
 ghost use Rattle.adaptation.specs.Width.{kindOf, widthOf};
+
+// How many octets a fold leaves.
+const LEFT: usize = 16;
 
 // The width of a check: 0 bits are no check.
 pub enum Width {
@@ -67,9 +77,9 @@ fn remainder16(x: u8) -> [u8; 2]
     [(q >> 4) ^ (q << 3), q ^ (q >> 5)]
 }
 
-// The check of 8 bits.
-pub fn check8(content: &[u8]) -> u8
-    ensures { λ r. ⌜ r ∷ [] ≡ checkOf eight (now (content .entry)) ⌝ }
+// What the division by the generator of the check of 8 bits holds, started with a zero, once it has taken the content.
+fn divide8(content: &[u8]) -> u8
+    ensures { λ r. ⌜ r ∷ [] ≡ held eight (0 ∷ []) (now (content .entry)) ⌝ }
 {
     let mut first = 0u8;
     let mut i = 0;
@@ -80,12 +90,12 @@ pub fn check8(content: &[u8]) -> u8
     first
 }
 
-// The check of 16 bits: the register starts with ones, and its complement is the check.
-pub fn check16(content: &[u8]) -> [u8; 2]
-    ensures { λ r. ⌜ r ≡ checkOf sixteen (now (content .entry)) ⌝ }
+// .. of 16 bits, started with the octet `start` twice.
+fn divide16(content: &[u8], start: u8) -> [u8; 2]
+    ensures { λ r. ⌜ r ≡ held sixteen (start ∷ start ∷ []) (now (content .entry)) ⌝ }
 {
-    let mut first = 255u8;
-    let mut second = 255u8;
+    let mut first = start;
+    let mut second = start;
     let mut i = 0;
     while i < content.len() {
         let r = remainder16(first ^ content[i]);
@@ -93,7 +103,96 @@ pub fn check16(content: &[u8]) -> [u8; 2]
         second = r[1];
         i += 1;
     }
-    [first ^ 255, second ^ 255]
+    [first, second]
+}
+
+// The content, at the front of zeros.
+fn laid(content: &[u8]) -> [u8; LONGEST_UNIT]
+    requires { ⌜ length (now content) ≤ 1024 ⌝ }
+    ensures { λ r. ⌜ take (length (now (content .entry))) r ≡ now (content .entry) × Octets r ⌝ }
+{
+    let mut w = [0u8; LONGEST_UNIT];
+    octets::write(&mut w, 0, content);
+    w
+}
+
+// The 16 octets from `at` on.
+fn last(w: &[u8; LONGEST_UNIT], at: usize) -> [u8; LEFT]
+    requires { ⌜ at + 16 ≤ 1024 ⌝ }
+    ensures { λ r. ⌜ r ≡ take 16 (drop at (now (w .entry))) ⌝ }
+{
+    let all = &w[..];
+    let mut r = [0u8; LEFT];
+    octets::write(&mut r, 0, &all[at..at + LEFT]);
+    r
+}
+
+// Sixteen octets that leave what the content leaves, by the generator of the check of 8 bits.
+fn folded8(content: &[u8]) -> [u8; LEFT]
+    requires { ⌜ 16 ≤ length (now content) × length (now content) ≤ 1024 ⌝ }
+    ensures { λ r. ⌜ left eight r ≡ left eight (now (content .entry)) ⌝ }
+{
+    let mut w = laid(content);
+    let n = content.len();
+    let mut i: usize = 0;
+    while i + LEFT < n {
+        let a = w[i];
+        w[i + 6] = w[i + 6] ^ a;
+        w[i + 7] = w[i + 7] ^ a;
+        w[i + 8] = w[i + 8] ^ a;
+        i += 1;
+    }
+    last(&w, i)
+}
+
+// .. and by that of the check of 16 bits, with ones added to its first two octets.
+fn folded16(content: &[u8]) -> [u8; LEFT]
+    requires { ⌜ 16 ≤ length (now content) × length (now content) ≤ 1024 ⌝ }
+    ensures { λ r. ⌜ left sixteen r ≡ held sixteen (255 ∷ 255 ∷ []) (now (content .entry)) ⌝ }
+{
+    let mut w = laid(content);
+    w[0] = w[0] ^ 255;
+    w[1] = w[1] ^ 255;
+    let n = content.len();
+    let mut i: usize = 0;
+    while i + LEFT < n {
+        let a = w[i];
+        w[i + 4] = w[i + 4] ^ a;
+        w[i + 11] = w[i + 11] ^ a;
+        w[i + 16] = w[i + 16] ^ a;
+        i += 1;
+    }
+    last(&w, i)
+}
+
+// The check of 8 bits.
+pub fn check8(content: &[u8]) -> u8
+    ensures { λ r. ⌜ r ∷ [] ≡ checkOf eight (now (content .entry)) ⌝ }
+{
+    if content.len() < LEFT || LONGEST_UNIT < content.len() {
+        return divide8(content);
+    }
+    let rest = folded8(content);
+    divide8(&rest)
+}
+
+// What the division for the check of 16 bits holds in the end: it starts with ones.
+fn held16(content: &[u8]) -> [u8; 2]
+    ensures { λ r. ⌜ r ≡ held sixteen (255 ∷ 255 ∷ []) (now (content .entry)) ⌝ }
+{
+    if content.len() < LEFT || LONGEST_UNIT < content.len() {
+        return divide16(content, 255);
+    }
+    let rest = folded16(content);
+    divide16(&rest, 0)
+}
+
+// The check of 16 bits: the complement of that.
+pub fn check16(content: &[u8]) -> [u8; 2]
+    ensures { λ r. ⌜ r ≡ checkOf sixteen (now (content .entry)) ⌝ }
+{
+    let r = held16(content);
+    [r[0] ^ 255, r[1] ^ 255]
 }
 
 // The check of a width: its octets, and zeros behind them.

@@ -15,7 +15,7 @@
 --                   geometric-ratio: its coefficients, where the Xᵢ are α, α², ..
 --   remainders      divides-nothing, with ⊞-none; remainder-unique, remainder-step, turned-small; the claims of specs/Remainder.antt:
 --                   remainderOnly, divisionLeaves
---   long division   sum-length, remainder-length, remainder-raised, polynomial-zeros; register-length, register-is, register-none, register-more, register-zeros
+--   long division   sum-length, remainder-length, remainder-raised, remainder-sum, polynomial-zeros; register-length, register-is, register-none, register-more, register-zeros
 --   loops           from-zero, horner of Horner's rule
 --   derivative      odds-at, deriv-odds
 --   weight          weight-zero, weight-suc; left-ne: a factor of 1 is not zero; light-is-none: the distance of the code
@@ -39,7 +39,7 @@ pub use Rattle.algebra.proofs.Roots.{rooted-top, below-rooted, divides-
 pub use Rattle.algebra.proofs.Geometric.{geometric-ratio}
 pub use Rattle.algebra.proofs.Division.{sum-length, ⊞-none, divides-nothing, remainder-length, polynomial-zeros}
 pub use Rattle.algebra.proofs.Theorems.{remainderOnly, divisionLeaves}
-pub use Rattle.algebra.proofs.Register.{remainder-raised, register-length, register-is, register-none, register-more, register-zeros}
+pub use Rattle.algebra.proofs.Register.{remainder-raised, remainder-sum, register-length, register-is, register-none, register-more, register-zeros}
 pub use Rattle.algebra.proofs.Loop.{from-zero, horner}
 pub use Rattle.algebra.proofs.Derivative.{odds-at, deriv-odds}
 unfoldable pub use Rattle.algebra.proofs.Listing.{front}

@@ -3,6 +3,7 @@
 --   remainder-raised   the remainder of x^n c, by long division of c and n zeros
 --   register-length    it holds w coefficients
 --   register-is        the register is the remainder of what it took, and so the one list of w coefficients that is
+--   remainder-sum      the remainder of a sum, the shorter list under the highest coefficients of the longer
 --   register-zeros     started with zeros, it is the remainder of x^w c
 --   register-none      with no content it is what it started with
 --   register-more      n coefficients more, at once: the n highest that it held go through the division with the new ones,
@@ -71,6 +72,24 @@ module _ (𝓕 : Field) where
 
     padded-remainder : (c : List F) (n : ℕ) → w ≤ length c + n → length (remainder 𝓕 g (c ++ zeros n)) ≡ w
     padded-remainder c n l = remainder-length 𝓕 g (c ++ zeros n) (rw padded-length l)
+
+    pub remainder-sum : (c d : List F) (n k : ℕ) → length d ≤ length c → length d + k ≡ length c + n → w ≤ length c + n
+        → remainder 𝓕 g (sum 𝓕 c d ++ zeros n) ≡ sum 𝓕 (remainder 𝓕 g (c ++ zeros n)) (remainder 𝓕 g (d ++ zeros k))
+    remainder-sum c d n k short e l =
+        let m : length c - length d + n ≡ k = omega arith in
+        let summed : raised 𝓕 n (polynomial 𝓕 (sum 𝓕 c d)) ≡ raised 𝓕 n (polynomial 𝓕 c) ⊞ raised 𝓕 k (polynomial 𝓕 d) =
+        ap (raised 𝓕 n) (polynomial-sum 𝓕 c d short)
+        ∙ raised-⊞ 𝓕 n (polynomial 𝓕 c) (raised 𝓕 (length c - length d) (polynomial 𝓕 d))
+        ∙ ap (λ (h : Series 𝓕). raised 𝓕 n (polynomial 𝓕 c) ⊞ h)
+        (raised-add 𝓕 (length c - length d) n (polynomial 𝓕 d) ∙ ap (λ (j : ℕ). raised 𝓕 j (polynomial 𝓕 d)) m) in
+        let lc : length (remainder 𝓕 g (c ++ zeros n)) ≡ w = padded-remainder c n l in
+        let ld : length (remainder 𝓕 g (d ++ zeros k)) ≡ w = padded-remainder d k (omega arith) in
+        let ls : length (sum 𝓕 c d) ≡ length c = sum-length 𝓕 c d in
+        remainder-same 𝓕 g (raised 𝓕 n (polynomial 𝓕 (sum 𝓕 c d))) _ _ (padded-remainder (sum 𝓕 c d) n (omega arith))
+        (sum-length 𝓕 (remainder 𝓕 g (c ++ zeros n)) (remainder 𝓕 g (d ++ zeros k)) ∙ lc)
+        (remainder-raised (sum 𝓕 c d) n (omega arith))
+        (rw (summed, polynomial-plus (remainder 𝓕 g (c ++ zeros n)) (remainder 𝓕 g (d ++ zeros k)) (lc ∙ sym ld))
+        (remainder-⊞ (divisor 𝓕 g) _ _ _ _ w (remainder-raised c n l) (remainder-raised d k (omega arith))))
 
     module _ (s : List F) (full : length s ≡ w) where
       pub register-length : (c : List F) → length (register 𝓕 g s c) ≡ w

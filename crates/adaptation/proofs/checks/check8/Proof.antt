@@ -1,51 +1,22 @@
--- After i turns the register is what the first i octets leave: a turn is `residues-turn`. Assumes nothing.
-use mathlib.Core.Path.{_≡_, refl, sym, ap, _∙_}
-use mathlib.Core.List.{[], _∷_}
-use Prim.Native.Nat.{ℕ, _-_, _≤_}
-use native.Mathlib.Numerals.{add-one}
-use native.Mathlib.Omega.{arith}
+-- What the register holds, of the content or of what it is folded to. Assumes nothing.
 use borrow.Author.Needs.{needs}
-use lib.Bits.{xor-zero-r}
-use lib.ListN.{length, take}
-use Rattle.adaptation.specs.Bits.{number, octetsOf}
+use mathlib.Core.Path.{_≡_, sym, _∙_}
 use Rattle.adaptation.specs.Check.{eight}
-use Rattle.adaptation.proofs.Residue.{residues, residues-none, residues-turn, start, residues-end}
-use denote.Ref.{now}
-use Rattle.adaptation.specs.Steps.{remainderOf}
+use Rattle.adaptation.proofs.Residue.{check-is-8}
+use Rattle.adaptation.proofs.Fold.{left-held}
 use Rattle.adaptation.proofs.checks.check8.Statement.{statement}
 use Rattle.adaptation.proofs.checks.check8.Tie as tie
 
-abbrev Inv-loop : tie.InvT-loop
-Inv-loop content first₀ i₀ first i = (first ∷ [] ≡ residues eight (take i content)) × (i ≤ length content)
+returns : tie.Need-returns
+returns c = check-is-8 _ _ (c .divide8 .ensures)
 
-abbrev μ-loop : tie.MeasureT-loop
-μ-loop content first₀ i₀ first i = length content - i
-
-loop-holds : tie.Need-loop-holds Inv-loop μ-loop
-unfolding number octetsOf eight start
-loop-holds c = (sym (residues-none eight), search needs)
-
-loop-again : tie.Need-loop-again Inv-loop μ-loop
-unfolding octetsOf remainderOf eight
-loop-again c =
-    let a = c .before .before .before in
-    let l = a .loop in
-    let s = a .before .before in (
-      c .remainder8 .ensures ∙ (rw add-one
-          (residues-turn eight 0 refl (now (s .args .content)) (l .i) (l .first) [] (omega arith) (c .before .shared-slice-known2 .given (l .i) .fits)
-          (l .inv .0))),
-      search needs,
-    )
-
-returns : tie.Need-returns Inv-loop μ-loop
-unfolding number octetsOf eight start
-returns c =
-    let l = c .before .loop in
-    sym (ap (λ (x : ℕ). x ∷ []) (xor-zero-r (l .first))) ∙ residues-end eight (now (c .before .before .before .args .content)) (l .i) _ (omega arith)
-    (l .inv .0)
+returns-2 : tie.Need-returns-2
+unfolding eight
+returns-2 c =
+    let f = c .before .before .folded8 in
+    check-is-8 _ _ (c .divide82 .ensures ∙ sym (left-held eight (f .result)) ∙ f .ensures ∙ left-held eight _)
 
 pub check8-spec : {M : Type 1} → statement M
 check8-spec =
     tie.close
-    (tie.spec Inv-loop μ-loop loop-holds (λ c. search needs) (λ c κs. search needs) (λ c. search needs) (λ c. search needs)
-    loop-again returns)
+    (tie.spec (λ c κs. search needs) returns (λ c κs. search needs) (λ c. search needs) (λ c κs. search needs) returns-2)
