@@ -1,20 +1,26 @@
 -- The formal derivative, in characteristic 2.
 --
 --   deriv-even, deriv-odd    it is f₁, 0, f₃, 0, ..
+--   deriv-quo                at a root r of f it is the quotient of f by x - r
+--   ev-deriv                 its value at x, by the odd coefficients of f, is one at x²
 --   deriv-loc                the locator's derivative at Zₖ is Xₖ skip: Forney's divisor
 --
 -- Assumes nothing.
-use mathlib.Core.Path.{_≡_, refl, sym, _∙_, fun-ext}
+use mathlib.Core.Path.{_≡_, refl, sym, _∙_, ap, fun-ext}
 use Prim.Native.Nat.{ℕ, zero, suc, _+_, _*_, _<_}
 use native.Mathlib.Omega.{arith}
 use Rattle.algebra.specs.Field.{Field}
+use Rattle.algebra.specs.Series as Ser
 use Rattle.algebra.specs.Series.{Series, Below, Operations, operations}
+use Rattle.algebra.specs.Polynomial.{root}
 use Rattle.algebra.specs.Value.{ev}
 use Rattle.algebra.specs.Locator.{lin, loc, prod, skip}
-use Rattle.algebra.specs.Derivative.{deriv}
+use Rattle.algebra.specs.Derivative.{deriv, odd}
+use Rattle.algebra.specs.Interpolation.{quo}
 use Rattle.algebra.proofs.Ring.{ring, ⊕-𝟘, ⊕-self, ⊕-cancel}
 use Rattle.algebra.proofs.Product.{below-tl, tl-at, tl-⊞, tl-⊡, tl-sh, ⊞-at, ⊡-at, sh-zero, sh-suc}
-use Rattle.algebra.proofs.Value.{ev-⊞, ev-⊡}
+use Rattle.algebra.proofs.Value.{ev-zero, ev-suc, ev-⊞, ev-⊡}
+use Rattle.algebra.proofs.Roots.{root-is, ev-root, quo-splits, below-quo}
 use Rattle.algebra.proofs.Locator.{lin-is, ev-lin, loc-suc, below-loc, ev-loc, prod-root}
 use Rattle.algebra.proofs.Forney.{skip-zero, skip-suc}
 
@@ -38,6 +44,17 @@ module _ (𝓕 : Field) where
 
   deriv-two : (f : Series 𝓕) (n : ℕ) → deriv 𝓕 f (suc (suc n)) ≡ deriv 𝓕 (tl (tl f)) n
   deriv-two f n = rw (deriv-suc f (suc n), deriv-suc (tl f) n, tl-at) (⊕-cancel 𝓕 _ _)
+
+  tl-deriv : (f : Series 𝓕) → tl (tl (deriv 𝓕 f)) ≡ deriv 𝓕 (tl (tl f))
+  tl-deriv f = fun-ext (λ n. tl-at 𝓕 _ n ∙ tl-at 𝓕 _ (suc n) ∙ deriv-two f n)
+
+  odd-zero : (f : Series 𝓕) → odd 𝓕 f 0 ≡ f 1
+  unfolding odd
+  odd-zero f = refl
+
+  tl-odd : (f : Series 𝓕) → tl (odd 𝓕 f) ≡ odd 𝓕 (tl (tl f))
+  unfolding odd Ser.tl
+  tl-odd f = fun-ext (λ h. ap f (omega arith))
 
   pub deriv-even : (h : ℕ) (f : Series 𝓕) → deriv 𝓕 f (2 * h) ≡ f (2 * h + 1)
   deriv-even zero f = deriv-zero f
@@ -74,6 +91,23 @@ module _ (𝓕 : Field) where
   below-deriv zero f h (suc n) l =
       rw (deriv-suc, h (suc (suc n)) (omega arith), below-deriv 0 (tl f) (λ k m. tl-at 𝓕 f k ∙ h (suc k) (omega arith)) n (omega arith)) (⊕-𝟘 𝓕 𝟘)
   below-deriv (suc d) f h (suc n) l = rw (deriv-suc, h (suc (suc n)) (omega arith), below-deriv d (tl f) (below-tl 𝓕 (suc d) f h) n (omega arith)) (⊕-𝟘 𝓕 𝟘)
+
+  -- ((x - r) q)′ = q + (x - r) q′
+  deriv-root : (r : F) (q : Series 𝓕) → deriv 𝓕 (root 𝓕 r q) ≡ q ⊞ root 𝓕 r (deriv 𝓕 q)
+  deriv-root r q = fun-ext (λ n. rw (root-is 𝓕 r q, root-is 𝓕 r (deriv 𝓕 q), deriv-⊞-at, deriv-⊡-at, deriv-sh-at) (simp (⊞-at, ⊡-at, ring)))
+
+  pub deriv-quo : (d : ℕ) (f : Series 𝓕) (r : F) → Below 𝓕 (suc d) f → ev 𝓕 (suc d) f r ≡ 𝟘 → ev 𝓕 d (quo 𝓕 d f r) r ≡ ev 𝓕 d (deriv 𝓕 f) r
+  deriv-quo zero f r h e = rw (ev-zero 𝓕 (quo 𝓕 0 f r), ev-zero 𝓕 (deriv 𝓕 f))
+  deriv-quo (suc d) f r h e =
+      sym (ap (λ (g : Series 𝓕). ev 𝓕 (suc d) (deriv 𝓕 g) r) (quo-splits 𝓕 (suc d) f r h e)
+      ∙ (rw (deriv-root, ev-⊞, ev-root 𝓕 d r _ r (below-deriv d _ (below-quo 𝓕 (suc d) f r))) (simp ring)))
+
+  pub ev-deriv : (e : ℕ) (f : Series 𝓕) (x : F) → ev 𝓕 (2 * e) (deriv 𝓕 f) x ≡ ev 𝓕 e (odd 𝓕 f) (x ⊙ x)
+  ev-deriv zero f x = rw (ev-zero 𝓕 (deriv 𝓕 f), ev-zero 𝓕 (odd 𝓕 f))
+  ev-deriv (suc e) f x =
+      let z : 2 * suc e ≡ suc (suc (2 * e)) = omega arith in
+      rw (z, ev-suc 𝓕 (suc (2 * e)), ev-suc 𝓕 (2 * e), tl-at, deriv-zero, deriv-one, tl-deriv f, ev-deriv e (tl (tl f)) x, ev-suc 𝓕 e (odd 𝓕 f), odd-zero, tl-odd)
+      (simp ring)
 
   -- Λ′ at the inverse of Xₖ
   pub deriv-loc : (v : ℕ) (X : Series 𝓕) (k : ℕ) (z : F) → k < v → X k ⊙ z ≡ 𝟙 → ev 𝓕 v (deriv 𝓕 (loc 𝓕 v X)) z ≡ X k ⊙ skip 𝓕 v X k z

@@ -1,7 +1,7 @@
 -- The face of this crate to others: the laws that they cite, passed on from the files that prove them. No other file of these
 -- proofs is imported from outside.
 --
---   the field       ring, for `simp ring`; ⊕-comm, ⊕-𝟘, ⊕-self, ⊕-cancel, ⊙-comm, ⊙-assoc, ⊙-𝟘, ⊙-𝟙, ⊙-inv; eq-of-sum, sum-of-eq
+--   the field       ring, for `simp ring`; ⊕-comm, ⊕-𝟘, ⊕-self, ⊕-cancel, ⊙-comm, ⊙-assoc, ⊙-𝟘, ⊙-𝟙, 𝟙-⊙, ⊙-inv, ⊙-cancel; eq-of-sum, sum-of-eq
 --   series          the clauses of their operations: tl-⊞, ⊞-at, ⊡-at, none-at, unit-zero, unit-suc, sh-zero, sh-suc;
 --                   below-⊞, below-more of degrees
 --   values          ev-zero, ev-⊞ of the operations; ev-monomial; ev-more, ev-local: which coefficients are read
@@ -11,8 +11,10 @@
 --                   raised-zero, raised-suc, raised-⊞, raised-sh, raised-monomial, raised-none, raised-low, raised-high of
 --                   x^n f; below-polynomial, below-raised of degrees; monomial-below
 --   roots           rooted-top, below-rooted of (x - X₀) .. (x - Xₘ₋₁); divides-root, roots-divide: what it divides;
---                   geometric-ratio: its coefficients, where the Xᵢ are α, α², ..
---   remainders      divides-nothing, with ⊞-none; remainder-unique, remainder-step, turned-small; the claims of specs/Remainder.antt:
+--                   geometric-ratio, geometric-down, geometric-symmetric: its coefficients, where the Xᵢ are α, α², ..
+--   interpolation   total-zero, total-suc, total-same, total-more of sums; part-next, below-part, part-value, part-ne of the parts;
+--                   interpolated-at, interpolated-remainder of a sum of them
+--   remainders      divides-nothing, divides-lowered, with ⊞-none, ⊞-self; remainder-unique, remainder-step, turned-small; the claims of specs/Remainder.antt:
 --                   remainderOnly, divisionLeaves
 --   long division   sum-length, remainder-length, remainder-raised, polynomial-zeros; register-length, register-is, register-none, register-more, register-zeros
 --   loops           dot-zero, dot-suc, ⊛-dot, ⊛-dot-below of a product's coefficient; from-zero, horner of Horner's rule
@@ -23,7 +25,7 @@
 --   the repair      length-complete, search-complete, divisor-ne, search-sound, search-lists
 --
 -- Assumes nothing.
-pub use Rattle.algebra.proofs.Ring.{ring, ⊕-comm, ⊕-𝟘, ⊕-self, ⊕-cancel, ⊙-comm, ⊙-assoc, ⊙-𝟘, ⊙-𝟙, ⊙-inv, eq-of-sum, sum-of-eq}
+pub use Rattle.algebra.proofs.Ring.{ring, ⊕-comm, ⊕-𝟘, ⊕-self, ⊕-cancel, ⊙-comm, ⊙-assoc, ⊙-𝟘, ⊙-𝟙, 𝟙-⊙, ⊙-inv, ⊙-cancel, eq-of-sum, sum-of-eq}
 pub use Rattle.algebra.proofs.Product.{tl-⊞, ⊞-at, ⊡-at, none-at, unit-zero, unit-suc, sh-zero, sh-suc}
 pub use Rattle.algebra.proofs.Product.{below-⊞, below-more}
 pub use Rattle.algebra.proofs.Value.{ev-zero, ev-⊞, ev-monomial, ev-more, ev-local}
@@ -34,8 +36,10 @@ pub use Rattle.algebra.proofs.Polynomial.{polynomial-same, raised-zero,
 pub use Rattle.algebra.proofs.Polynomial.{raised-low, raised-high, below-polynomial, below-raised}
 pub use Rattle.algebra.proofs.Remainder.{monomial-below, remainder-unique, remainder-step, turned-small}
 pub use Rattle.algebra.proofs.Roots.{rooted-top, below-rooted, divides-root, roots-divide}
-pub use Rattle.algebra.proofs.Geometric.{geometric-ratio}
-pub use Rattle.algebra.proofs.Division.{sum-length, ⊞-none, divides-nothing, remainder-length, polynomial-zeros}
+pub use Rattle.algebra.proofs.Geometric.{geometric-ratio, geometric-down, geometric-symmetric}
+pub use Rattle.algebra.proofs.Interpolation.{total-zero, total-suc, total-same, total-more, part-next, below-part, part-value, part-ne}
+pub use Rattle.algebra.proofs.Interpolation.{interpolated-at, interpolated-remainder}
+pub use Rattle.algebra.proofs.Division.{sum-length, ⊞-none, ⊞-self, divides-nothing, divides-lowered, remainder-length, polynomial-zeros, polynomial-raised}
 pub use Rattle.algebra.proofs.Theorems.{remainderOnly, divisionLeaves}
 pub use Rattle.algebra.proofs.Register.{remainder-raised, register-length, register-is, register-none, register-more, register-zeros}
 pub use Rattle.algebra.proofs.Loop.{dot-zero, dot-suc, ⊛-dot, ⊛-dot-below, from-zero, horner}
