@@ -1,6 +1,7 @@
 -- The formal derivative, in characteristic 2.
 --
 --   deriv-even, deriv-odd    it is f₁, 0, f₃, 0, ..
+--   odd-at                   the clause of `odd`
 --   deriv-quo                at a root r of f it is the quotient of f by x - r
 --   ev-deriv                 its value at x, by the odd coefficients of f, is one at x²
 --   deriv-loc                the locator's derivative at Zₖ is Xₖ skip: Forney's divisor
@@ -48,9 +49,9 @@ module _ (𝓕 : Field) where
   tl-deriv : (f : Series 𝓕) → tl (tl (deriv 𝓕 f)) ≡ deriv 𝓕 (tl (tl f))
   tl-deriv f = fun-ext (λ n. tl-at 𝓕 _ n ∙ tl-at 𝓕 _ (suc n) ∙ deriv-two f n)
 
-  odd-zero : (f : Series 𝓕) → odd 𝓕 f 0 ≡ f 1
+  pub odd-at : (f : Series 𝓕) (h : ℕ) → odd 𝓕 f h ≡ f (2 * h + 1)
   unfolding odd
-  odd-zero f = refl
+  odd-at f h = refl
 
   tl-odd : (f : Series 𝓕) → tl (odd 𝓕 f) ≡ odd 𝓕 (tl (tl f))
   unfolding odd Ser.tl
@@ -106,7 +107,7 @@ module _ (𝓕 : Field) where
   ev-deriv zero f x = rw (ev-zero 𝓕 (deriv 𝓕 f), ev-zero 𝓕 (odd 𝓕 f))
   ev-deriv (suc e) f x =
       let z : 2 * suc e ≡ suc (suc (2 * e)) = omega arith in
-      rw (z, ev-suc 𝓕 (suc (2 * e)), ev-suc 𝓕 (2 * e), tl-at, deriv-zero, deriv-one, tl-deriv f, ev-deriv e (tl (tl f)) x, ev-suc 𝓕 e (odd 𝓕 f), odd-zero, tl-odd)
+      rw (z, ev-suc 𝓕 (suc (2 * e)), ev-suc 𝓕 (2 * e), tl-at, deriv-zero, deriv-one, tl-deriv f, ev-deriv e (tl (tl f)) x, ev-suc 𝓕 e (odd 𝓕 f), odd-at, tl-odd)
       (simp ring)
 
   -- Λ′ at the inverse of Xₖ

@@ -4,8 +4,10 @@ pub mod Word
 pub mod Criterion
 pub mod Absorbing
 pub mod Distance
-pub mod Register
+pub mod Laning
+pub mod Generating
 pub mod Parity
+pub mod Interpolating
 pub mod Systematic
 pub mod Remainder
 pub mod Mending

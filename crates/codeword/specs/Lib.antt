@@ -2,7 +2,10 @@ pub mod Element
 pub mod CodeWord
 pub mod Encoding
 pub mod Remainder
+pub mod Lanes
 pub mod Register
+pub mod Generator
+pub mod Interpolation
 pub mod Changed
 pub mod Repair
 pub mod Places
