@@ -3,6 +3,7 @@
 --   powers-at                        a power from the list
 --   spread-entry, spread-next        c, 2c, .. as exponents
 --   upper-start, upper-next          one block of ratios after another
+--   divisors-octets                  .. whose divisors are octets
 --   doubled-start, doubled-next      one block of products after another, from the top
 --   doubled-end, upper-doubled       .. which doubles the distance
 --   upper-half                       over the whole distance the coefficients are there
@@ -28,7 +29,7 @@ use Rattle.field.specs.Octet.Laws.{sum-octet, power-octet, power-zero, power-su
 use Rattle.codeword.specs.Element.{elements, element, octet, α}
 use Rattle.codeword.specs.Element.Laws.{element-sum, element-product, element-inverse, element-power, element-one, element-ne, octet-pow, octet-one}
 use Rattle.codeword.specs.CodeWord.{longestWord}
-use Rattle.codeword.specs.Lanes.{lanes, Lanes, Stored}
+use Rattle.codeword.specs.Lanes.{lanes, Lanes, OctetLanes, Stored}
 use Rattle.codeword.specs.Register.{G, ones, room, GeneratorIs}
 use Rattle.codeword.specs.Generator.{PowersAre, coefficient, Upper, Doubled, Half, rise}
 use Rattle.codeword.proofs.Laning.{stored-below}
@@ -126,6 +127,11 @@ upper-next {e} {o} {last} {r} {x} {y} {z} {a} {p} {q} h pw l el lx ly lz la st u
         let n : 2 * e + 1 ≡ suc (2 * e) = omega arith in
         rw (la .entry k b, ly .entry k b, lz .entry k b, lx .entry k b, el, pw .entry j (omega arith), pw .entry (2 * e + 1) (omega arith), above, there, n)
         (ratio-next (2 * e) (2 * e - j) j (omega arith) (omega arith) (omega arith))
+
+-- what they are divided by
+pub divisors-octets : {o : ℕ} {r x z : List ℕ} → PowersAre r → o < longestWord → Lanes (λ k. getD r (o + 1 + k) 0) x → Lanes (λ k. Octet.sum (getD x k 0) 1) z → OctetLanes z
+divisors-octets {o} pw b lx lz k l =
+    rw (lz .entry k l, lx .entry k l, pw .entry (o + 1 + k) (omega arith)) (sum-octet _ _ (power-octet _ (o + 1 + k)) (lit< tt))
 
 pub upper-end : {e s n : ℕ} {p : List ℕ} → e ≤ n → Upper e s (suc ones + n) p → Upper e s (suc ones + e) p
 upper-end l u = record { long = u .long; each = λ i b. u .each i (omega arith) }

@@ -5,6 +5,7 @@ pub mod Criterion
 pub mod Absorbing
 pub mod Distance
 pub mod Laning
+pub mod Inverting
 pub mod Generating
 pub mod Parity
 pub mod Interpolating

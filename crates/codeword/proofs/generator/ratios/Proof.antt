@@ -6,7 +6,7 @@ use Prim.Native.Nat.{suc, _+_, _*_}
 use lib.ListN.{getD}
 use Rattle.codeword.specs.Register.{ones}
 use Rattle.codeword.specs.Generator.{Upper}
-use Rattle.codeword.proofs.Generating.{upper-next, upper-end}
+use Rattle.codeword.proofs.Generating.{upper-next, divisors-octets, upper-end}
 use borrow.Author.Needs.{needs}
 use Rattle.codeword.proofs.generator.ratios.Statement.{statement}
 use Rattle.codeword.proofs.generator.ratios.Tie as tie
@@ -23,7 +23,11 @@ loop-again c = let l = c .before .before .before .before .before .before .before
 returns : tie.Need-returns Inv-loop μ-loop
 returns c = upper-end (search needs) (c .before .loop .inv .1)
 
+quotients-requires : tie.Need-quotients-requires Inv-loop μ-loop
+quotients-requires c κs =
+    divisors-octets (c .before .before .before .before .before .before .before .before .pre .1) (search needs) (c .before .before .before .load .ensures) (c .plus2 .ensures)
+
 pub ratios-spec : {M : Type 1} → statement M
 ratios-spec =
     tie.close
-    (tie.spec Inv-loop μ-loop (λ c. search needs) (λ c. search needs) (λ c. search needs) (λ c. (search needs, c .before .pre .2, refl)) (λ c. search needs) (λ c κs. search needs) (λ c. search needs) (λ c. search needs) (λ c κs. search needs) (λ c κs. search needs) (λ c κs. search needs) (λ c κs. search needs) (λ c. search needs) (λ c. search needs) loop-again returns)
+    (tie.spec Inv-loop μ-loop (λ c. search needs) (λ c. search needs) (λ c. search needs) (λ c. (search needs, c .before .pre .2, refl)) (λ c. search needs) (λ c κs. search needs) (λ c. search needs) (λ c. search needs) (λ c κs. search needs) (λ c κs. search needs) quotients-requires (λ c κs. search needs) (λ c. search needs) (λ c. search needs) loop-again returns)
