@@ -2,20 +2,24 @@
 --
 --   odds-at, deriv-odds      it is f₁, 0, f₃, 0, .., so its value at x is that of f₁, f₃, .. at x²
 --   deriv-⊡                  it is linear
+--   deriv-quo                at a root r of f it is the quotient of f by x - r
 --   deriv-loc                the locator's derivative at Zₖ is Xₖ skip: Forney's divisor
 --
 -- Assumes nothing.
-use mathlib.Core.Path.{_≡_, refl, sym, _∙_, fun-ext}
+use mathlib.Core.Path.{_≡_, refl, sym, ap, _∙_, fun-ext}
 use Prim.Native.Nat.{ℕ, zero, suc, _+_, _*_, _/_, _<_}
 use native.Mathlib.Omega.{arith}
 use Rattle.algebra.specs.Field.{Field}
 use Rattle.algebra.specs.Series.{Series, Below, Operations, operations}
+use Rattle.algebra.specs.Polynomial.{root}
 use Rattle.algebra.specs.Value.{ev}
 use Rattle.algebra.specs.Locator.{lin, loc, prod, skip}
 use Rattle.algebra.specs.Derivative.{deriv, odds}
+use Rattle.algebra.specs.Interpolation.{quo}
 use Rattle.algebra.proofs.Ring.{ring, ⊕-𝟘, ⊕-self, ⊕-cancel}
 use Rattle.algebra.proofs.Product.{below-tl, tl-at, tl-⊞, tl-⊡, tl-sh, ⊞-at, ⊡-at, sh-zero, sh-suc}
 use Rattle.algebra.proofs.Value.{ev-zero, ev-suc, ev-one, ev-⊞, ev-⊡}
+use Rattle.algebra.proofs.Roots.{root-is, ev-root, quo-splits, below-quo}
 use Rattle.algebra.proofs.Locator.{lin-is, ev-lin, loc-suc, below-loc, ev-loc, prod-root}
 use Rattle.algebra.proofs.Forney.{skip-zero, skip-suc}
 
@@ -96,6 +100,16 @@ module _ (𝓕 : Field) where
   below-deriv zero f h (suc n) l =
       rw (deriv-suc, h (suc (suc n)) (omega arith), below-deriv 0 (tl f) (λ k m. tl-at 𝓕 f k ∙ h (suc k) (omega arith)) n (omega arith)) (⊕-𝟘 𝓕 𝟘)
   below-deriv (suc d) f h (suc n) l = rw (deriv-suc, h (suc (suc n)) (omega arith), below-deriv d (tl f) (below-tl 𝓕 (suc d) f h) n (omega arith)) (⊕-𝟘 𝓕 𝟘)
+
+  -- ((x - r) q)′ = q + (x - r) q′
+  deriv-root : (r : F) (q : Series 𝓕) → deriv 𝓕 (root 𝓕 r q) ≡ q ⊞ root 𝓕 r (deriv 𝓕 q)
+  deriv-root r q = fun-ext (λ n. rw (root-is 𝓕 r q, root-is 𝓕 r (deriv 𝓕 q), deriv-⊞-at, deriv-⊡-at, deriv-sh-at) (simp (⊞-at, ⊡-at, ring)))
+
+  pub deriv-quo : (d : ℕ) (f : Series 𝓕) (r : F) → Below 𝓕 (suc d) f → ev 𝓕 (suc d) f r ≡ 𝟘 → ev 𝓕 d (quo 𝓕 d f r) r ≡ ev 𝓕 d (deriv 𝓕 f) r
+  deriv-quo zero f r h e = rw (ev-zero 𝓕 (quo 𝓕 0 f r), ev-zero 𝓕 (deriv 𝓕 f))
+  deriv-quo (suc d) f r h e =
+      sym (ap (λ (g : Series 𝓕). ev 𝓕 (suc d) (deriv 𝓕 g) r) (quo-splits 𝓕 (suc d) f r h e)
+      ∙ (rw (deriv-root, ev-⊞, ev-root 𝓕 d r _ r (below-deriv d _ (below-quo 𝓕 (suc d) f r))) (simp ring)))
 
   -- Λ′ at the inverse of Xₖ
   pub deriv-loc : (v : ℕ) (X : Series 𝓕) (k : ℕ) (z : F) → k < v → X k ⊙ z ≡ 𝟙 → ev 𝓕 v (deriv 𝓕 (loc 𝓕 v X)) z ≡ X k ⊙ skip 𝓕 v X k z

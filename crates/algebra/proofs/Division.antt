@@ -5,6 +5,7 @@
 --   polynomial-raised                     of u and n zeros: x^n times that of u
 --   raised-add, ⊞-none, ⊞-self            laws of raising, and of sums with 0 and with itself
 --   divides-nothing                       any g divides 0
+--   divides-lowered                       .. and with f + v also f + v + c x^n g: a step of a long division
 --   monic, monic-top                      x^w + g has degree w, and its highest coefficient is 1
 --   remainder-is                          `remainder g p` is the remainder of p by x^w + g
 --   remainder-same                        .. and the only list of w coefficients that is
@@ -126,6 +127,11 @@ module _ (𝓕 : Field) where
   divides-raised : (g f : Series 𝓕) (n : ℕ) → Divides 𝓕 g f → Divides 𝓕 g (raised 𝓕 n f)
   divides-raised g f zero d = rw raised-zero d
   divides-raised g f (suc n) d = rw raised-suc (divides-sh 𝓕 g _ (divides-raised g f n d))
+
+  pub divides-lowered : (g f v : Series 𝓕) (c : F) (n : ℕ) → Divides 𝓕 g (f ⊞ v) → Divides 𝓕 g (f ⊞ (v ⊞ raised 𝓕 n (c ⊡ g)))
+  divides-lowered g f v c n d =
+      let same : f ⊞ v ⊞ raised 𝓕 n (c ⊡ g) ≡ f ⊞ (v ⊞ raised 𝓕 n (c ⊡ g)) = fun-ext (λ k. simp (⊞-at, ring)) in
+      rw same at (divides-⊞ 𝓕 g (f ⊞ v) (raised 𝓕 n (c ⊡ g)) d (divides-raised g (c ⊡ g) n (divides-self 𝓕 g c)))
 
   divisor-scaled : (w : ℕ) (a : F) (f : Series 𝓕) → a ⊡ (monomial 𝓕 w 𝟙 ⊞ f) ≡ monomial 𝓕 w a ⊞ a ⊡ f
   divisor-scaled w a f =

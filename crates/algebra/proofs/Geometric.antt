@@ -1,24 +1,29 @@
--- The coefficients of G = (x - a) (x - a²) .. (x - aᵐ), each from the one above it.
+-- The coefficients of G = (x - a) (x - a²) .. (x - aᵐ), each from the one above it, and the lower half of them from the upper.
 --
---   geometric-ratio   since (x - aᵐ) G(a x) = aᵐ (x - 1) G(x), Gₖ (aᵏ - aᵐ) = aᵐ (aᵏ⁺¹ - 1) Gₖ₊₁
+--   geometric-ratio      since (x - aᵐ) G(a x) = aᵐ (x - 1) G(x), Gₖ (aᵏ - aᵐ) = aᵐ (aᵏ⁺¹ - 1) Gₖ₊₁
+--   geometric-down       .. which for a other than 0 is Gₖ (1 - aʲ) = (aᵐ⁺¹ - aʲ) Gₖ₊₁, where k + j = m
+--   geometric-symmetric  for m = 2e and a of an order over m, Gₑ₋ₖ = a^((m+1) k) Gₑ₊ₖ
 --
 -- Assumes nothing.
 use mathlib.Core.Path.{_≡_, refl, sym, _∙_, ap, fun-ext}
-use Prim.Native.Nat.{ℕ, zero, suc}
+use mathlib.Core.Logic.{_≢_}
+use Prim.Native.Nat.{ℕ, zero, suc, _+_, _-_, _*_, _≤_, _<_}
+use native.Mathlib.Nat.{add-zero, add-suc, sub-zero}
+use native.Mathlib.Omega.{arith}
 use Rattle.algebra.specs.Field.{Field}
 use Rattle.algebra.specs.Series.{Series, Operations, operations}
 use Rattle.algebra.specs.Polynomial.{root, rooted}
 use Rattle.algebra.specs.Power.{pow, rising}
-use Rattle.algebra.proofs.Ring.{ring, eq-of-sum, sum-of-eq}
+use Rattle.algebra.proofs.Ring.{ring, ⊙-comm, eq-of-sum, sum-of-eq, ⊙-cancel}
 use Rattle.algebra.proofs.Product.{⊞-at, ⊡-at, unit-zero, unit-suc, sh-⊞, sh-⊡}
 use Rattle.algebra.proofs.Roots.{root-is, root-at, root-first, rooted-zero, rooted-suc}
-use Rattle.algebra.proofs.Powers.{pow-zero, pow-suc, rising-at}
+use Rattle.algebra.proofs.Powers.{pow-zero, pow-suc, pow-ne, pow-add, rising-at}
 
 module _ (𝓕 : Field) where
   infixl 60 _⊕_
   infixl 70 _⊙_
   infixr 80 _⊡_
-  open Field 𝓕 using (Carrier as F, add as _⊕_, mul as _⊙_, one as 𝟙)
+  open Field 𝓕 using (Carrier as F, add as _⊕_, mul as _⊙_, nil as 𝟘, one as 𝟙)
   open Operations (operations 𝓕) using (_⊡_, unit)
 
   -- f(a x)
@@ -67,3 +72,35 @@ module _ (𝓕 : Field) where
       same : (G : Series 𝓕) → root 𝓕 (pow 𝓕 a m) (scaled a G) (suc k) ≡ (pow 𝓕 a m ⊡ root 𝓕 𝟙 G) (suc k)
           → pow 𝓕 a k ⊙ G k ⊕ pow 𝓕 a m ⊙ (pow 𝓕 a (suc k) ⊙ G (suc k)) ≡ pow 𝓕 a m ⊙ (G k ⊕ G (suc k))
       same G e = sym (rw (root-at, scaled-at, scaled-at)) ∙ e ∙ (rw (⊡-at, root-at) (simp ring))
+
+  module _ (a : F) (a-ne : a ≢ 𝟘) where
+    pub geometric-down : (m k j : ℕ) → k + j ≡ m → let G = rooted 𝓕 m (rising 𝓕 a) in
+        G k ⊙ (𝟙 ⊕ pow 𝓕 a j) ≡ (pow 𝓕 a (suc m) ⊕ pow 𝓕 a j) ⊙ G (suc k)
+    geometric-down m k j s =
+        let G = rooted 𝓕 m (rising 𝓕 a) in
+        let p : pow 𝓕 a m ≡ pow 𝓕 a k ⊙ pow 𝓕 a j = ap (pow 𝓕 a) (sym s) ∙ pow-add 𝓕 a k j in
+        ⊙-cancel 𝓕 (pow 𝓕 a k) _ _ (pow-ne 𝓕 a k a-ne)
+        (sym (rw p (simp ring)) ∙ geometric-ratio a m k ∙ (rw (pow-suc 𝓕 a m, pow-suc 𝓕 a k, p) (simp ring)))
+
+    module _ (e : ℕ) (order : (k : ℕ) → 0 < k → k ≤ 2 * e → 𝟙 ⊕ pow 𝓕 a k ≢ 𝟘) where
+      abbrev G : Series 𝓕
+      G = rooted 𝓕 (2 * e) (rising 𝓕 a)
+
+      abbrev c : F
+      c = pow 𝓕 a (suc (2 * e))
+
+      -- Gᵤ from Gᵥ₊₁, where Gᵤ₊₁ is known from Gᵥ
+      inward : (u v : ℕ) (x : F) → u + suc v ≡ 2 * e → G (suc u) ≡ x ⊙ G v → G u ≡ c ⊙ x ⊙ G (suc v)
+      inward u v x s h =
+          ⊙-cancel 𝓕 (𝟙 ⊕ pow 𝓕 a (suc v)) _ _ (order (suc v) (omega arith) (omega arith))
+          (⊙-comm 𝓕 _ _ ∙ geometric-down (2 * e) u (suc v) s
+          ∙ (rw (h, split) (sym (simp ring) ∙ ap (λ (y : F). pow 𝓕 a (suc v) ⊙ x ⊙ y) (geometric-down (2 * e) v (suc u) (omega arith)) ∙ (rw split (simp ring)))))
+        where
+          split : c ≡ pow 𝓕 a (suc v) ⊙ pow 𝓕 a (suc u)
+          split = ap (pow 𝓕 a) (omega (arith, s)) ∙ pow-add 𝓕 a (suc v) (suc u)
+
+      pub geometric-symmetric : (d : ℕ) → d ≤ e → G (e - d) ≡ pow 𝓕 c d ⊙ G (e + d)
+      geometric-symmetric zero l = rw (pow-zero, sub-zero, add-zero) (simp ring)
+      geometric-symmetric (suc d) l =
+          let z : e - d ≡ suc (e - suc d) = omega arith in
+          rw (pow-suc 𝓕 c d, add-suc) (inward (e - suc d) (e + d) (pow 𝓕 c d) (omega arith) (rw z at (geometric-symmetric d (omega arith))))

@@ -8,6 +8,7 @@ pub mod Locator
 pub mod Berlekamp
 pub mod Forney
 pub mod Derivative
+pub mod Interpolation
 pub mod Loop
 pub mod Rows
 pub mod Listing

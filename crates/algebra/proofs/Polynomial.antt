@@ -4,7 +4,6 @@
 --   below-polynomial                     its degree is below the list's length
 --   polynomial-at                        its coefficient at k is the list's element k from the end
 --   polynomial-append                    of u ++ p: x^n times that of u, plus that of p, which has n elements
---   polynomial-snoc                      of one element more
 --   polynomial-same                      two lists of one length with the same polynomial are equal
 --   raised-zero, raised-suc              the clauses of raising
 --   raised-⊞, raised-sh, raised-none,    it goes through sums and shifts, and raises 0 to 0 and a x^k to a x^(k+n)
@@ -121,12 +120,6 @@ module _ (𝓕 : Field) where
   polynomial-append (a ∷ u) p =
       rw (polynomial-cons a (u ++ p), polynomial-cons a u, raised-⊞, raised-monomial, polynomial-append u p, length-append)
       (fun-ext (λ k. simp (⊞-at, ring)))
-
-  pub polynomial-snoc : (u : List F) (a : F) → polynomial 𝓕 (u ++ a ∷ []) ≡ sh (polynomial 𝓕 u) ⊞ monomial 𝓕 0 a
-  polynomial-snoc u a =
-      polynomial-append u (a ∷ [])
-      ∙ (rw (raised-suc 0 (polynomial 𝓕 u), raised-zero, polynomial-cons a [], polynomial-none)
-      (fun-ext (λ k. ⊞-at 𝓕 _ _ k ∙ ap (λ (x : F). sh (polynomial 𝓕 u) k ⊕ x) (⊞-at 𝓕 _ none k ∙ (rw none-at (⊕-𝟘 𝓕 _))) ∙ sym (⊞-at 𝓕 _ _ k))))
 
   pub polynomial-same : (u w : List F) → length u ≡ length w → polynomial 𝓕 u ≡ polynomial 𝓕 w → u ≡ w
   polynomial-same u w e p = ext-getD 𝟘 u w e at

@@ -4,13 +4,10 @@
 --   monomial-below, monomial-suc           .. and x times it is a x^(n+1)
 --   divides-⊞, divides-sh, divides-self    sums, shifts and multiples of what g divides it divides too
 --   remainder-unique                       what a monic g of degree d divides is zero, if its degree is below d: there is one remainder
---   remainder-step                         from the remainder of f to that of x f + a x^d: one turn of the shift register of
---                                          figure D.3/H.223, with the feedback a + p₍d₋₁₎
---   turned-small                           .. which has degree below d
 --
 -- Assumes nothing.
 use mathlib.Core.Path.{_≡_, refl, sym, _∙_, ap, ap₂, fun-ext}
-use Prim.Native.Nat.{ℕ, zero, suc, _+_, _≤_, _<_}
+use Prim.Native.Nat.{ℕ, zero, suc, _+_, _<_}
 use native.Mathlib.Nat.{zero-add, suc-add}
 use native.Mathlib.Omega.{arith}
 use native.Mathlib.Decide.{decLe}
@@ -18,7 +15,7 @@ use Rattle.algebra.specs.Field.{Field}
 use Rattle.algebra.specs.Series.{Series, Below, Operations, operations}
 use Rattle.algebra.specs.Polynomial.{Divides, Remainder, monomial}
 use Rattle.algebra.proofs.Ring.{ring, ⊙-𝟙, eq-of-sum}
-use Rattle.algebra.proofs.Product.{tl-at, ⊞-at, ⊡-at, sh-zero, sh-suc, sh-⊞, unit-zero, none-at, ⊛-suc, ⊞-⊛, ⊡-⊛, sh-⊛, unit-⊛, none-⊛}
+use Rattle.algebra.proofs.Product.{tl-at, ⊞-at, ⊡-at, sh-zero, sh-suc, unit-zero, none-at, ⊛-suc, ⊞-⊛, ⊡-⊛, sh-⊛, unit-⊛, none-⊛}
 use Rattle.algebra.proofs.Product.{window, below-none, below-tl, below-⊞, below-⊡, below-sh, below-more}
 use Rattle.algebra.proofs.Roots.{below-unit}
 
@@ -107,32 +104,3 @@ module _ (𝓕 : Field) where
       zero-sum =
           divides-none d g (p ⊞ q) hg top (rw same at (divides-⊞ g (f ⊞ p) (f ⊞ q) (hp .divides) (hq .divides)))
           (below-⊞ 𝓕 d p q (hp .small) (hq .small))
-
-  -- ---- one turn of the shift register
-
-  module _ (d : ℕ) (g f p : Series 𝓕) (a : F) (hg : Below 𝓕 (suc (suc d)) g) (top : g (suc d) ≡ 𝟙) (r : Remainder 𝓕 g (suc d) f p) where
-    abbrev feedback : F
-    feedback = p d ⊕ a
-
-    abbrev turned : Series 𝓕
-    turned = sh p ⊞ monomial 𝓕 (suc d) a ⊞ (p d ⊕ a) ⊡ g
-
-    turned-at : (k : ℕ) → turned k ≡ sh p k ⊕ monomial 𝓕 (suc d) a k ⊕ (p d ⊕ a) ⊙ g k
-    turned-at k = rw (⊞-at, ⊞-at, ⊡-at)
-
-    pub turned-small : Below 𝓕 (suc d) turned
-    turned-small zero l = absurd (omega arith)
-    turned-small (suc k) l = turned-at (suc k) ∙ (rw sh-suc (go (decLe (suc d) k)))
-      where
-        go : Dec (suc d ≤ k) → p k ⊕ monomial 𝓕 (suc d) a (suc k) ⊕ (p d ⊕ a) ⊙ g (suc k) ≡ 𝟘
-        go (yes m) = rw (r .small k m, monomial-above (suc d) a (suc k) (omega arith), hg (suc k) (omega arith)) (simp ring)
-        go (no m) = let e : k ≡ d = omega arith in rw (e, monomial-top (suc d) a, top) (simp ring)
-
-    turned-sum : sh f ⊞ monomial 𝓕 (suc d) a ⊞ turned ≡ sh (f ⊞ p) ⊞ (p d ⊕ a) ⊡ g
-    turned-sum = rw sh-⊞ (fun-ext (λ k. simp (⊞-at, ⊡-at, ring)))
-
-    pub remainder-step : Remainder 𝓕 g (suc d) (sh f ⊞ monomial 𝓕 (suc d) a) turned
-    remainder-step = record {
-      small = turned-small;
-      divides = rw turned-sum (divides-⊞ g (sh (f ⊞ p)) ((p d ⊕ a) ⊡ g) (divides-sh g (f ⊞ p) (r .divides)) (divides-self g (p d ⊕ a)));
-    }

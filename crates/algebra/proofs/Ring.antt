@@ -6,7 +6,7 @@
 --   ⊙-𝟘, 𝟘-⊙, ⊙-⊕, ⊕-⊙                   zero, and distributive
 --   eq-of-sum, sum-of-eq, sum-ne           a + b = 0 says a = b
 --   ⊙-inv                                  inverses
---   factor, mul-ne, cancel                 no divisors of zero
+--   factor, mul-ne, ⊙-cancel               no divisors of zero
 --   ring                                   for `simp ring`, which sorts both sides of an equation: with a + a = 0 it brings any
 --                                          two equal sums of products to one form
 --
@@ -94,7 +94,7 @@ module _ (𝓕 : Field) where
   pub mul-ne : (a b : F) → a ≢ 𝟘 → b ≢ 𝟘 → a ⊙ b ≢ 𝟘
   mul-ne a b h k e = k (factor a b h e)
 
-  pub cancel : (a x y : F) → a ≢ 𝟘 → a ⊙ x ≡ a ⊙ y → x ≡ y
-  cancel a x y h e = eq-of-sum x y (factor a (x ⊕ y) h (⊙-⊕ a x y ∙ sum-of-eq _ _ e))
+  pub ⊙-cancel : (a b c : F) → a ≢ 𝟘 → a ⊙ b ≡ a ⊙ c → b ≡ c
+  ⊙-cancel a b c h e = eq-of-sum b c (factor a (b ⊕ c) h (⊙-⊕ a b c ∙ sum-of-eq _ _ e))
 
 pub ruleset ring = (⊕-assoc, ⊕-comm, ⊕-left, ⊕-𝟘, 𝟘-⊕, ⊕-self, ⊕-cancel, ⊙-assoc, ⊙-comm, ⊙-left, ⊙-𝟙, 𝟙-⊙, ⊙-𝟘, 𝟘-⊙, ⊙-⊕, ⊕-⊙)

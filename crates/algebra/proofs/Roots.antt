@@ -1,14 +1,17 @@
 -- Roots of polynomials.
 --
---   quo d f r                        the quotient of f, of degree at most d, by x - r
 --   factor-theorem                   f(x) - f(r) = (x - r) quo(x)
 --   quo-splits                       where f(r) = 0, f = (x - r) quo
+--   quo-next                         its coefficients, each from the one above it: synthetic division
+--   below-quo                        its degree
 --   distinct-tl                      distinct points, without the first
 --   roots                            d distinct points at which the first d coefficients evaluate to zero: all d are zero
 --   root-is, root-at, root-first     (x - r) f, and its coefficients
+--   ev-root                          .. and its value
 --   rooted-zero, rooted-suc          the clauses of (x - X₀) .. (x - Xₘ₋₁)
 --   below-unit, below-rooted         the degrees of 1 and of it
 --   rooted-top                       its highest coefficient is 1
+--   rooted-root                      it is zero at each Xᵢ
 --   divides-root                     what it divides is zero at each Xᵢ
 --   roots-divide                     and what is zero at each of the distinct Xᵢ it divides
 --
@@ -23,6 +26,7 @@ use Rattle.algebra.specs.Series as Ser
 use Rattle.algebra.specs.Series.{Series, Below, Operations, operations}
 use Rattle.algebra.specs.Polynomial.{Divides, root, rooted}
 use Rattle.algebra.specs.Value.{ev}
+use Rattle.algebra.specs.Interpolation.{quo}
 use Rattle.algebra.specs.Points.{Distinct}
 use Rattle.algebra.proofs.Ring.{ring, ⊙-𝟘, ⊙-comm, factor, mul-ne, sum-ne}
 use Rattle.algebra.proofs.Product.{tl-at, ⊞-at, ⊡-at, sh-zero, sh-suc, unit-zero, unit-suc, below-⊞, below-⊡, below-sh, below-more}
@@ -36,33 +40,27 @@ module _ (𝓕 : Field) where
   open Field 𝓕 using (Carrier as F, add as _⊕_, mul as _⊙_, nil as 𝟘, one as 𝟙)
   open Operations (operations 𝓕) using (_⊞_, _⊡_, _⊛_, unit, sh, tl)
 
-  -- the quotient of f, of degree ≤ d, by x ⊕ r
-  unfoldable pub quo : ℕ → Series 𝓕 → F → Series 𝓕
-  quo zero f r k = 𝟘
-  quo (suc d) f r zero = ev 𝓕 (suc d) (tl f) r
-  quo (suc d) f r (suc k) = quo d (tl f) r k
-
-  quo-head : (d : ℕ) (f : Series 𝓕) (r : F) → quo (suc d) f r 0 ≡ ev 𝓕 (suc d) (tl f) r
+  quo-head : (d : ℕ) (f : Series 𝓕) (r : F) → quo 𝓕 (suc d) f r 0 ≡ ev 𝓕 (suc d) (tl f) r
   unfolding quo
   quo-head d f r = refl
 
-  quo-tl : (d : ℕ) (f : Series 𝓕) (r : F) → tl (quo (suc d) f r) ≡ quo d (tl f) r
+  quo-tl : (d : ℕ) (f : Series 𝓕) (r : F) → tl (quo 𝓕 (suc d) f r) ≡ quo 𝓕 d (tl f) r
   unfolding quo Ser.tl
   quo-tl d f r = refl
 
-  pub factor-theorem : (d : ℕ) (f : Series 𝓕) (r x : F) → ev 𝓕 (suc d) f x ⊕ ev 𝓕 (suc d) f r ≡ (x ⊕ r) ⊙ ev 𝓕 d (quo d f r) x
+  pub factor-theorem : (d : ℕ) (f : Series 𝓕) (r x : F) → ev 𝓕 (suc d) f x ⊕ ev 𝓕 (suc d) f r ≡ (x ⊕ r) ⊙ ev 𝓕 d (quo 𝓕 d f r) x
   factor-theorem zero f r x = simp (ev-one, ev-zero, ring)
   factor-theorem (suc d) f r x =
       ev 𝓕 (suc (suc d)) f x ⊕ ev 𝓕 (suc (suc d)) f r
       ≡⟨ (rw (ev-suc 𝓕 (suc d) f x, ev-suc 𝓕 (suc d) f r) (simp ring)) ⟩
       x ⊙ (ev 𝓕 (suc d) (tl f) x ⊕ ev 𝓕 (suc d) (tl f) r) ⊕ (x ⊕ r) ⊙ ev 𝓕 (suc d) (tl f) r
       ≡⟨ (rw (factor-theorem d (tl f) r x) (simp ring)) ⟩
-      (x ⊕ r) ⊙ (ev 𝓕 (suc d) (tl f) r ⊕ x ⊙ ev 𝓕 d (quo d (tl f) r) x)
-      ≡⟨ (rw (ev-suc 𝓕 d (quo (suc d) f r) x, quo-head, quo-tl)) ⟩
-      (x ⊕ r) ⊙ ev 𝓕 (suc d) (quo (suc d) f r) x ∎
+      (x ⊕ r) ⊙ (ev 𝓕 (suc d) (tl f) r ⊕ x ⊙ ev 𝓕 d (quo 𝓕 d (tl f) r) x)
+      ≡⟨ (rw (ev-suc 𝓕 d (quo 𝓕 (suc d) f r) x, quo-head, quo-tl)) ⟩
+      (x ⊕ r) ⊙ ev 𝓕 (suc d) (quo 𝓕 (suc d) f r) x ∎
 
   -- a root whose quotient is zero (of f only the coefficients below suc d are seen)
-  quo-zero : (d : ℕ) (f : Series 𝓕) (r : F) → ev 𝓕 (suc d) f r ≡ 𝟘 → ((k : ℕ) → k < d → quo d f r k ≡ 𝟘) → (k : ℕ) → k < suc d → f k ≡ 𝟘
+  quo-zero : (d : ℕ) (f : Series 𝓕) (r : F) → ev 𝓕 (suc d) f r ≡ 𝟘 → ((k : ℕ) → k < d → quo 𝓕 d f r k ≡ 𝟘) → (k : ℕ) → k < suc d → f k ≡ 𝟘
   quo-zero zero f r e q zero l = sym (ev-one 𝓕 f r) ∙ e
   quo-zero zero f r e q (suc k) l = absurd (omega arith)
   quo-zero (suc d) f r e q zero l = sym (rw (ev-suc, ← quo-head d f r, q 0 (omega arith)) (simp ring)) ∙ e
@@ -77,9 +75,9 @@ module _ (𝓕 : Field) where
   -- d distinct points at which the first d coefficients evaluate to zero: all d are zero
   pub roots : (d : ℕ) (f X : Series 𝓕) → Distinct 𝓕 d X → ((k : ℕ) → k < d → ev 𝓕 d f (X k) ≡ 𝟘) → (k : ℕ) → k < d → f k ≡ 𝟘
   roots zero f X D e k l = absurd (omega arith)
-  roots (suc d) f X D e k l = quo-zero d f (X 0) (e 0 (omega arith)) (roots d (quo d f (X 0)) (tl X) (distinct-tl d X D) at) k l
+  roots (suc d) f X D e k l = quo-zero d f (X 0) (e 0 (omega arith)) (roots d (quo 𝓕 d f (X 0)) (tl X) (distinct-tl d X D) at) k l
     where
-      at : (k : ℕ) → k < d → ev 𝓕 d (quo d f (X 0)) (tl X k) ≡ 𝟘
+      at : (k : ℕ) → k < d → ev 𝓕 d (quo 𝓕 d f (X 0)) (tl X k) ≡ 𝟘
       at k l = rw tl-at (factor 𝓕 (X (suc k) ⊕ X 0) _ (sum-ne 𝓕 _ _ (λ p. D 0 (suc k) (omega arith) (omega arith) (sym p)))
           (sym (factor-theorem d f (X 0) (X (suc k))) ∙ (rw (e (suc k) (omega arith), e 0 (omega arith)) (simp ring))))
 
@@ -101,33 +99,36 @@ module _ (𝓕 : Field) where
   below-root : (d : ℕ) (r : F) (f : Series 𝓕) → Below 𝓕 d f → Below 𝓕 (suc d) (root 𝓕 r f)
   below-root d r f h = rw root-is (below-⊞ 𝓕 (suc d) (sh f) _ (below-sh 𝓕 d f h) (below-⊡ 𝓕 (suc d) r f (below-more 𝓕 d (suc d) f (omega arith) h)))
 
-  ev-root : (d : ℕ) (r : F) (f : Series 𝓕) (x : F) → Below 𝓕 d f → ev 𝓕 (suc d) (root 𝓕 r f) x ≡ (x ⊕ r) ⊙ ev 𝓕 d f x
+  pub ev-root : (d : ℕ) (r : F) (f : Series 𝓕) (x : F) → Below 𝓕 d f → ev 𝓕 (suc d) (root 𝓕 r f) x ≡ (x ⊕ r) ⊙ ev 𝓕 d f x
   ev-root d r f x h = rw (root-is, ev-⊞, ev-⊡, ev-sh, ev-more 𝓕 d (suc d) f x h (omega arith)) (simp ring)
 
   -- the quotient's first coefficient, and those behind it
-  quo-at : (d : ℕ) (f : Series 𝓕) (r : F) (k : ℕ) → quo (suc d) f r k ≡ sh (quo d (tl f) r) k ⊕ ev 𝓕 (suc d) (tl f) r ⊙ unit k
+  quo-at : (d : ℕ) (f : Series 𝓕) (r : F) (k : ℕ) → quo 𝓕 (suc d) f r k ≡ sh (quo 𝓕 d (tl f) r) k ⊕ ev 𝓕 (suc d) (tl f) r ⊙ unit k
   quo-at d f r zero = rw (quo-head, sh-zero, unit-zero) (simp ring)
-  quo-at d f r (suc k) = sym (tl-at 𝓕 (quo (suc d) f r) k) ∙ (rw (quo-tl, sh-suc, unit-suc) (simp ring))
+  quo-at d f r (suc k) = sym (tl-at 𝓕 (quo 𝓕 (suc d) f r) k) ∙ (rw (quo-tl, sh-suc, unit-suc) (simp ring))
 
-  quo-none : (f : Series 𝓕) (r : F) (k : ℕ) → quo 0 f r k ≡ 𝟘
+  quo-none : (f : Series 𝓕) (r : F) (k : ℕ) → quo 𝓕 0 f r k ≡ 𝟘
   unfolding quo
   quo-none f r k = refl
 
-  quo-splits-at : (d : ℕ) (f : Series 𝓕) (r : F) → Below 𝓕 (suc d) f → (k : ℕ) → f k ≡ root 𝓕 r (quo d f r) k ⊕ ev 𝓕 (suc d) f r ⊙ unit k
+  quo-splits-at : (d : ℕ) (f : Series 𝓕) (r : F) → Below 𝓕 (suc d) f → (k : ℕ) → f k ≡ root 𝓕 r (quo 𝓕 d f r) k ⊕ ev 𝓕 (suc d) f r ⊙ unit k
   quo-splits-at zero f r h zero = rw (root-first, quo-none, ev-one, unit-zero) (simp ring)
   quo-splits-at zero f r h (suc k) = rw (root-at, quo-none f r k, quo-none f r (suc k), unit-suc, h (suc k) (omega arith)) (simp ring)
   quo-splits-at (suc d) f r h zero = rw (root-first, quo-head, ev-suc 𝓕 (suc d) f r, unit-zero) (simp ring)
   quo-splits-at (suc d) f r h (suc k) =
       sym (tl-at 𝓕 f k) ∙ quo-splits-at d (tl f) r (below-tl 𝓕 (suc d) f h) k
-      ∙ (rw (root-is r (quo d (tl f) r), ⊞-at, ⊡-at, root-at, quo-at d f r k, ← tl-at 𝓕 (quo (suc d) f r) k, quo-tl, unit-suc) (simp ring))
+      ∙ (rw (root-is r (quo 𝓕 d (tl f) r), ⊞-at, ⊡-at, root-at, quo-at d f r k, ← tl-at 𝓕 (quo 𝓕 (suc d) f r) k, quo-tl, unit-suc) (simp ring))
 
-  pub quo-splits : (d : ℕ) (f : Series 𝓕) (r : F) → Below 𝓕 (suc d) f → ev 𝓕 (suc d) f r ≡ 𝟘 → f ≡ root 𝓕 r (quo d f r)
+  pub quo-splits : (d : ℕ) (f : Series 𝓕) (r : F) → Below 𝓕 (suc d) f → ev 𝓕 (suc d) f r ≡ 𝟘 → f ≡ root 𝓕 r (quo 𝓕 d f r)
   quo-splits d f r h e = fun-ext (λ k. quo-splits-at d f r h k ∙ (rw e (simp ring)))
 
-  below-quo : (d : ℕ) (f : Series 𝓕) (r : F) → Below 𝓕 d (quo d f r)
+  pub quo-next : (d : ℕ) (f : Series 𝓕) (r : F) → Below 𝓕 (suc d) f → (k : ℕ) → quo 𝓕 d f r k ≡ f (suc k) ⊕ r ⊙ quo 𝓕 d f r (suc k)
+  quo-next d f r h k = rw (quo-splits-at d f r h (suc k), root-at, unit-suc) (simp ring)
+
+  pub below-quo : (d : ℕ) (f : Series 𝓕) (r : F) → Below 𝓕 d (quo 𝓕 d f r)
   below-quo zero f r k l = quo-none f r k
   below-quo (suc d) f r zero l = absurd (omega arith)
-  below-quo (suc d) f r (suc k) l = sym (tl-at 𝓕 (quo (suc d) f r) k) ∙ (rw quo-tl (below-quo d (tl f) r k (omega arith)))
+  below-quo (suc d) f r (suc k) l = sym (tl-at 𝓕 (quo 𝓕 (suc d) f r) k) ∙ (rw quo-tl (below-quo d (tl f) r k (omega arith)))
 
   -- ---- the product of the factors x - Xᵢ
 
@@ -155,7 +156,7 @@ module _ (𝓕 : Field) where
   ev-rooted : (n : ℕ) (X : Series 𝓕) (x : F) → ev 𝓕 (suc (suc n)) (rooted 𝓕 (suc n) X) x ≡ (x ⊕ X n) ⊙ ev 𝓕 (suc n) (rooted 𝓕 n X) x
   ev-rooted n X x = rw rooted-suc (ev-root (suc n) (X n) (rooted 𝓕 n X) x (below-rooted n X))
 
-  rooted-root : (n : ℕ) (X : Series 𝓕) (i : ℕ) → i < n → ev 𝓕 (suc n) (rooted 𝓕 n X) (X i) ≡ 𝟘
+  pub rooted-root : (n : ℕ) (X : Series 𝓕) (i : ℕ) → i < n → ev 𝓕 (suc n) (rooted 𝓕 n X) (X i) ≡ 𝟘
   rooted-root zero X i l = absurd (omega arith)
   rooted-root (suc n) X i l = ev-rooted n X (X i) ∙ go (decLe n i) (rooted-root n X i)
     where
@@ -180,7 +181,7 @@ module _ (𝓕 : Field) where
     where
       next : Divides 𝓕 (rooted 𝓕 m X) f → Divides 𝓕 (rooted 𝓕 (suc m) X) f
       next d = record {
-        quotient = quo (d .degree) (d .quotient) (X m);
+        quotient = quo 𝓕 (d .degree) (d .quotient) (X m);
         degree = d .degree;
         finite = below-quo (d .degree) (d .quotient) (X m);
         is = d .is ∙ ap (λ (q : Series 𝓕). q ⊛ rooted 𝓕 m X) (quo-splits (d .degree) (d .quotient) (X m) fin zero-at) ∙ root-⊛ (X m) _ _

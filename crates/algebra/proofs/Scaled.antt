@@ -25,7 +25,7 @@ use Rattle.algebra.specs.Derivative.{deriv}
 use Rattle.algebra.specs.Support.{weight}
 use Rattle.algebra.specs.Lists.{Lists}
 use Rattle.algebra.specs.Search.{Search}
-use Rattle.algebra.proofs.Ring.{ring, factor, mul-ne, cancel, ⊙-𝟘, ⊙-𝟙, ⊙-assoc, ⊙-comm, ⊙-left, ⊙-inv}
+use Rattle.algebra.proofs.Ring.{ring, factor, mul-ne, ⊙-cancel, ⊙-𝟘, ⊙-𝟙, ⊙-assoc, ⊙-comm, ⊙-left, ⊙-inv}
 use Rattle.algebra.proofs.Product.{⊞-at, ⊡-at, ⊡-⊛, sh-⊡, below-⊡}
 use Rattle.algebra.proofs.Value.{ev-⊡}
 use Rattle.algebra.proofs.Derivative.{deriv-⊡}
@@ -152,7 +152,7 @@ module _ (𝓕 : Field) where
 
         -- the constant stands on both sides
         values-scaled : (j : ℕ) → j < L → E (at j) ⊙ ev 𝓕 L (deriv 𝓕 (st .C)) (Z (at j)) ≡ ev 𝓕 L (st .C ⊛ S) (Z (at j))
-        values-scaled j l = cancel 𝓕 (st .factor) _ _ (st .factor-ne)
+        values-scaled j l = ⊙-cancel 𝓕 (st .factor) _ _ (st .factor-ne)
             (⊙-left 𝓕 _ _ _ ∙ ap (λ x. E (at j) ⊙ x) (sym (divisor-scaled (Z (at j)))) ∙ values j l
             ∙ ap (λ (f : Series 𝓕). ev 𝓕 L (f ⊛ S) (Z (at j))) (st .c-is) ∙ (rw ⊡-⊛ (ev-⊡ 𝓕 L _ _ (Z (at j)))))
 

@@ -6,6 +6,7 @@ pub mod Power
 pub mod Division
 pub mod Remainder
 pub mod Value
+pub mod Interpolation
 pub mod Derivative
 pub mod Points
 pub mod PowerSum

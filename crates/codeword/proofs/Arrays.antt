@@ -7,19 +7,17 @@
 --   zeros-octets  .. which is an octet
 --   octets-set    a store of an octet keeps a list one of octets
 --   set-below     what holds of every place below i, and of what is stored at i, holds of every place below i + 1
---   take-next     the first i + 1 octets of a word are the first i and the next
 --
 -- Assumes nothing.
 use mathlib.Core.Path.{_≡_, refl}
-use mathlib.Core.List.{List, [], _∷_, _++_}
+use mathlib.Core.List.{List}
 use Prim.Native.Nat.{ℕ, zero, suc, _+_, _<_}
-use native.Mathlib.Numerals.{add-one}
 use native.Mathlib.Omega.{arith}
 use native.Mathlib.Decide.{ℕ-discrete, decLt}
 use borrow.Author.Count.{below-more}
 use lib.Dec.{lit<}
-use lib.ListN.{length, getD, set, take, replicate}
-use lib.Seq.{getD-set-same, getD-set-other, set-out, take-suc}
+use lib.ListN.{length, getD, set, replicate}
+use lib.Seq.{getD-set-same, getD-set-other, set-out}
 use Rattle.field.specs.Octet.{size}
 use Rattle.codeword.specs.CodeWord.{longestWord, Octets}
 
@@ -55,6 +53,3 @@ pub set-below : (P : ℕ → ℕ → Type 0) (x : List ℕ) (i v : ℕ) → i < 
 set-below P x i v room old new =
     below-more (λ j. P j (getD (set x i v) j 0)) i (λ j l. rw (getD-set-other x i j v 0 (omega arith)) (old j l))
     (rw (getD-set-same x i v 0 room) new)
-
-pub take-next : (w : List ℕ) (i a : ℕ) → i < length w → a ≡ getD w i 0 → take (i + 1) w ≡ take i w ++ a ∷ []
-take-next w i a l e = rw (add-one, e) (take-suc w i 0 l)

@@ -35,9 +35,8 @@ use Rattle.field.specs.Octet as Octet
 use Rattle.codeword.specs.Element.{elements, element, α}
 use Rattle.codeword.specs.Element.Laws.{element-sum, element-product, element-power, element-zero}
 use Rattle.codeword.specs.CodeWord.{longestWord, word}
-use Rattle.codeword.specs.Lanes.{lanes, Loaded}
-use Rattle.codeword.specs.Rows.{RowAdded, spaced, Ahead, Evaluated, column, RowsAre, Folding, RowFolded, Folded}
-use Rattle.codeword.proofs.Arrays.{set-below}
+use Rattle.codeword.specs.Lanes.{lanes, Lanes}
+use Rattle.codeword.specs.Rows.{RowAdded, spaced, Ahead, Evaluated, column, RowsAre, RowFolded, Folded}
 use Rattle.codeword.proofs.Word.{word-length, word-at, below-word}
 
 infixl 60 _⊕_
@@ -63,7 +62,7 @@ blocks-next P n m s a room long old new i l k = go (decLt i n)
 abbrev pub RowsLaid : ℕ → List ℕ → List ℕ → Type 0
 RowsLaid n w f = (d i : ℕ) → d < n → i < lanes → getD f (16 * d + i) 0 ≡ getD w (15 * (16 - d) + i) 0
 
-pub rows-next : (n : ℕ) (w f a : List ℕ) → 16 * n + lanes ≤ length f → Loaded w (15 * (16 - n)) a → RowsLaid n w f
+pub rows-next : (n : ℕ) (w f a : List ℕ) → 16 * n + lanes ≤ length f → Lanes (λ k. getD w (15 * (16 - n) + k) 0) a → RowsLaid n w f
     → RowsLaid (n + 1) w (written f (16 * n) a)
 rows-next n w f a room h old d i l m = go (ℕ-discrete d n)
   where
@@ -71,7 +70,7 @@ rows-next n w f a room h old d i l m = go (ℕ-discrete d n)
     fits = omega (arith, h .long)
 
     go : Dec (d ≡ n) → getD (written f (16 * n) a) (16 * d + i) 0 ≡ getD w (15 * (16 - d) + i) 0
-    go (yes e) = rw e (written-inside f (16 * n) a fits i 0 (omega (arith, h .long)) ∙ h .is i m)
+    go (yes e) = rw e (written-inside f (16 * n) a fits i 0 (omega (arith, h .long)) ∙ h .entry i m)
     go (no e) = written-outside f (16 * n) a fits (16 * d + i) 0 (inl (omega arith)) ∙ old d i (omega arith) m
 
 -- a word with zeros in front has its polynomial's coefficients, from the last octet on
@@ -137,12 +136,12 @@ pub spaced-at : (f : List ℕ) (s k d n : ℕ) → n ≡ s * d + k → spaced f 
 unfolding spaced
 spaced-at f s k d n e = ap (λ (k : ℕ). element (getD f k 0)) (sym e)
 
-pub horner-load : {n d k j s o at : ℕ} {f a : List ℕ} → d + 1 ≡ n → at ≡ s * d + o → Loaded f at a → HornerLanes n d k j f s o a
+pub horner-load : {n d k j s o at : ℕ} {f a : List ℕ} → d + 1 ≡ n → at ≡ s * d + o → Lanes (λ k. getD f (at + k) 0) a → HornerLanes n d k j f s o a
 horner-load {n} {d} {k} {j} {s} {o} {at} {f} {a} e w h = record {
   long = h .long;
   is = λ i l.
       let z : n - suc d ≡ 0 = omega arith in
-      ap element (h .is i l) ∙ sym (spaced-at f s (o + i) d (at + i) (omega arith))
+      ap element (h .entry i l) ∙ sym (spaced-at f s (o + i) d (at + i) (omega arith))
       ∙ sym (horner elements n d (spaced f s (o + i)) (pow elements α (k + j * i)) (omega arith) ∙ (rw (z, ev-zero) (simp ring)));
 }
 
@@ -151,7 +150,7 @@ pub horner-turn : {n d k j s o at : ℕ} {f a b : List ℕ} → d < n → at ≡
 horner-turn {n} {d} {k} {j} {s} {o} {at} {f} {a} {b} l w t h = record {
   long = t .long;
   is = λ i m.
-      ap element (t .used i m) ∙ element-sum _ _
+      ap element (t .entry i m) ∙ element-sum _ _
       ∙ ap₂ (λ (x y : F). x ⊕ y) (element-product _ _ ∙ ap₂ (λ (x y : F). x ⊙ y) (element-power (k + j * i)) (rw (add-one d) at (h .is i m)))
       (sym (spaced-at f s (o + i) d (at + i) (omega arith)))
       ∙ ⊕-comm elements _ _ ∙ sym (horner elements n d (spaced f s (o + i)) (pow elements α (k + j * i)) l);
@@ -197,13 +196,13 @@ folding-next {n} {d} {b} {t} {a} {f} {g} {h} l m e s w = record {
         apart (yes j) = inl (omega arith)
         apart (no j) = inr (omega arith)
 
-pub row-folded : {n d : ℕ} {t a f g : List ℕ} → n ≡ length t → 8 ≤ d → Loaded f (16 * d) a → FoldingTo n d t a f g → RowFolded d t f g
+pub row-folded : {n d : ℕ} {t a f g : List ℕ} → n ≡ length t → 8 ≤ d → Lanes (λ k. getD f (16 * d + k) 0) a → FoldingTo n d t a f g → RowFolded d t f g
 row-folded {n} {d} {t} {a} {f} {g} e l h w = record {
   worth = λ p y k y8.
       let s : d - 8 + 8 ≡ d = omega arith in
       let z : terms elements n (λ j. getD t j 0) y ≡ pow elements y 8 = rw e (sym y8) in
       w .worth p y k
-      ∙ (rw (z, ← pow-add elements y (d - 8) 8, s, add-one d, ev-snoc elements d (spaced f 16 p) y, spaced-at f 16 p d (16 * d + p) refl, h .is p k));
+      ∙ (rw (z, ← pow-add elements y (d - 8) 8, s, add-one d, ev-snoc elements d (spaced f 16 p) y, spaced-at f 16 p d (16 * d + p) refl, h .entry p k));
 }
 
 pub folded-start : {t f : List ℕ} → Folded 17 t f f

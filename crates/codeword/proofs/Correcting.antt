@@ -19,10 +19,10 @@ use Rattle.field.specs.Octet.Laws.{sum-octet, product-octet}
 use Rattle.codeword.specs.Element.{octet}
 use Rattle.codeword.specs.Element.Laws.{octet-lt}
 use Rattle.codeword.specs.CodeWord.{Octets}
-use Rattle.codeword.specs.Lanes.{lanes}
+use Rattle.codeword.specs.Lanes.{lanes, Filled, Lanes}
 use Rattle.codeword.specs.Places.{inverses}
 use Rattle.codeword.specs.Search.{valueOf}
-use Rattle.codeword.specs.Values.{errorOf, HornerTurned, ValuesAre, InversesAre, ErrorsAre, Added, Corrected}
+use Rattle.codeword.specs.Values.{errorOf, Added, Corrected}
 use Rattle.codeword.proofs.Arrays.{replicate-at}
 use Rattle.codeword.proofs.Searching.{HornerFrom, horner-start, horner-next, horner-done}
 
@@ -33,19 +33,21 @@ unfolding valueOf
 valueOf-octet p l x = octet-lt _
 
 pub record HornersFrom (f : List ℕ) (n : ℕ) (x : List ℕ) (i : ℕ) (v : List ℕ) : Type 0 where
+  pub long : length v ≡ lanes
   pub each : (k : ℕ) → k < lanes → HornerFrom f n (getD x k 0) i (getD v k 0)
 
 pub horners-start : {f : List ℕ} {n : ℕ} {x : List ℕ} → HornersFrom f n x n (replicate lanes 0)
-horners-start = record { each = λ k l. rw (replicate-at lanes k) horner-start }
+horners-start = record { long = refl; each = λ k l. rw (replicate-at lanes k) horner-start }
 
-pub horners-next : {f : List ℕ} {n i a : ℕ} {x v u : List ℕ} → i < n → a ≡ getD f i 0 → a < Octet.size → HornerTurned a x v u → HornersFrom f n x (i + 1) v
-    → HornersFrom f n x i u
+pub horners-next : {f : List ℕ} {n i a : ℕ} {x v u : List ℕ} → i < n → a ≡ getD f i 0 → a < Octet.size → Lanes (λ k. Octet.sum (Octet.product (getD x k 0) (getD v k 0)) a) u
+    → HornersFrom f n x (i + 1) v → HornersFrom f n x i u
 horners-next l e octet t h = record {
-  each = λ k m. horner-next l (rw (t .is k m) (sum-octet _ _ (product-octet _ _) octet)) (t .is k m ∙ ap (Octet.sum _) e) (h .each k m);
+  long = t .long;
+  each = λ k m. horner-next l (rw (t .entry k m) (sum-octet _ _ (product-octet _ _) octet)) (t .entry k m ∙ ap (Octet.sum _) e) (h .each k m);
 }
 
-pub horners-done : {f : List ℕ} {n : ℕ} {x v : List ℕ} → HornersFrom f n x 0 v → ValuesAre n f x v
-horners-done h = record { is = λ k l. horner-done (h .each k l) }
+pub horners-done : {f : List ℕ} {n : ℕ} {x v : List ℕ} → HornersFrom f n x 0 v → Lanes (λ k. valueOf f n (getD x k 0)) v
+horners-done h = record { long = h .long; entry = λ k l. horner-done (h .each k l) }
 
 -- ---- the corrections
 
@@ -75,7 +77,7 @@ corrected-start h = record { long = refl; octets = h; changed = λ j m. absurd (
 
 pub corrected-next : {n l j m : ℕ} {at o d w u v x y : List ℕ} → m ≤ lanes → Octets v
     → ((h i : ℕ) → h < i → i < j + m → getD at h 0 < getD at i 0)
-    → InversesAre n j m at x → ErrorsAre l o d x y → Added j m at y u v
+    → Filled lanes m (λ k. octet (inverses n (getD at (j + k) 0))) x → Lanes (λ k. errorOf o d l (getD x k 0)) y → Added j m at y u v
     → Corrected n l j at o d w u → Corrected n l (j + m) at o d w v
 corrected-next {n} {l} {j} {m} {at} {o} {d} {w} {u} {v} {x} {y} few octets rises points errors added t = record {
   long = added .long ∙ t .long;
@@ -87,7 +89,7 @@ corrected-next {n} {l} {j} {m} {at} {o} {d} {w} {u} {v} {x} {y} few octets rises
     new : (k : ℕ) → k < m → getD v (getD at (j + k) 0) 0 ≡ Octet.sum (getD w (getD at (j + k) 0) 0) (errorOf o d l (octet (inverses n (getD at (j + k) 0))))
     new k h =
         added .changed k h
-        ∙ (rw (t .same (getD at (j + k) 0) (λ i g z. below i g z), errors .is k (omega arith), points .used k h))
+        ∙ (rw (t .same (getD at (j + k) 0) (λ i g z. below i g z), errors .entry k (omega arith), points .entry k h))
       where
         below : (i : ℕ) → i < j → getD at i 0 ≡ getD at (j + k) 0 → ⊥
         below i g z = omega (arith, rises i (j + k) (omega arith) (omega arith))

@@ -1,5 +1,6 @@
 -- A word is a code word exactly when its 2e syndromes, the values of its polynomial at α, α², .., α^2e, are zero.
 --
+--   rising-distinct   α, .., α^m are distinct
 --   codeWord-zero     a code word's are
 --   zero-codeWord     and a word of which they are is a code word
 --
@@ -21,7 +22,7 @@ use Rattle.codeword.specs.CodeWord.{generator, word, Octets, CodeWord}
 use Rattle.codeword.specs.Places.{value}
 use Rattle.codeword.proofs.Word.{below-word}
 
-rising-distinct : (m : ℕ) → m < order → Distinct elements m (rising elements α)
+pub rising-distinct : (m : ℕ) → m < order → Distinct elements m (rising elements α)
 unfolding rising
 rising-distinct m h i j l o e =
     let q : suc i ≡ suc j = powers-distinct (suc i) (suc j) (omega arith) (omega arith) (sym (octet-pow _) ∙ ap octet e ∙ octet-pow _) in

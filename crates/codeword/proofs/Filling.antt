@@ -20,8 +20,8 @@ use Rattle.algebra.specs.Power.{pow}
 use Rattle.octets.specs.Written.{written, written-length, written-inside, written-outside}
 use Rattle.field.specs.Octet.{order}
 use Rattle.codeword.specs.Element.{elements, element, α}
-use Rattle.codeword.specs.Lanes.{lanes, Loaded}
-use Rattle.codeword.specs.Rows.{Evaluated, Spread, Filled, Worth, Filling, Repeated}
+use Rattle.codeword.specs.Lanes.{lanes, Lanes}
+use Rattle.codeword.specs.Rows.{Evaluated, Spread, Known, Worth, Filling, Repeated}
 use Rattle.codeword.proofs.Word.{pow-wrap}
 
 pub spread-start : {r : ℕ} {a v : List ℕ} → Spread 0 r a v v
@@ -47,7 +47,7 @@ filling-spread {n} {r} {m} {f} {a} {v} {u} l h s = record {
   filled = λ w W j k e. new w (W 0 (lit< tt));
 }
   where
-    new : (w : List ℕ) → Worth w n r f → Filled w r u
+    new : (w : List ℕ) → Worth w n r f → Known w r u
     new w W = record {
       used = λ q k.
           let e : 48 * q + r ≡ 48 * (14 - (14 - q)) + r = omega arith in
@@ -58,7 +58,7 @@ filling-spread {n} {r} {m} {f} {a} {v} {u} l h s = record {
           ∙ (rw back at (W .worth (14 - q) (omega arith)));
     }
 
-    go : (w : List ℕ) → Worth w n r f → (k : ℕ) → k < 48 → Filled w k v → Dec (k ≡ r) → Filled w k u
+    go : (w : List ℕ) → Worth w n r f → (k : ℕ) → k < 48 → Known w k v → Dec (k ≡ r) → Known w k u
     go w W k m old (yes e) = rw e (new w W)
     go w W k m old (no ne) = record { used = λ q j. ap element (s .left (48 * q + k) (λ i o. omega arith)) ∙ old .used q j }
 
@@ -75,7 +75,7 @@ filling-next {n} {m} {c} {f} {v} {u} {x} {roots} small a b = record {
   filled = λ w W j l e. go w W j l e (ℕ-discrete j c);
 }
   where
-    go : (w : List ℕ) → ((j : ℕ) → j < c + 1 → Worth w n (roots j) f) → (j : ℕ) → j < c + 1 → roots j ≤ m → Dec (j ≡ c) → Filled w (roots j) x
+    go : (w : List ℕ) → ((j : ℕ) → j < c + 1 → Worth w n (roots j) f) → (j : ℕ) → j < c + 1 → roots j ≤ m → Dec (j ≡ c) → Known w (roots j) x
     go w W j l e (yes p) = rw p (b .filled w (λ j k. W c (omega arith)) 0 (lit< tt) (rw p at e))
     go w W j l e (no p) =
         b .stays w (λ j k. W c (omega arith)) (roots j) (small j (omega arith)) (a .filled w (λ j k. W j (omega arith)) j (omega arith) e)
@@ -85,7 +85,7 @@ filling-next {n} {m} {c} {f} {v} {u} {x} {roots} small a b = record {
 pub repeated-start : {v : List ℕ} → Repeated 0 v v
 repeated-start = record { long = refl; behind = λ q i l. absurd (omega arith); left = λ q i l. refl }
 
-pub repeated-next : {n : ℕ} {v u a : List ℕ} → n < 15 → length v ≡ 720 → Loaded u (48 * n + 1) a → Repeated n v u
+pub repeated-next : {n : ℕ} {v u a : List ℕ} → n < 15 → length v ≡ 720 → Lanes (λ k. getD u (48 * n + 1 + k) 0) a → Repeated n v u
     → Repeated (n + 1) v (written u (48 * n + 18) a)
 repeated-next {n} {v} {u} {a} l long h old = record {
   long = written-length u (48 * n + 18) a fits ∙ old .long;
@@ -103,13 +103,13 @@ repeated-next {n} {v} {u} {a} l long h old = record {
     new : (q i : ℕ) → q < n + 1 → i < lanes → Dec (q ≡ n) → getD (written u (48 * n + 18) a) (48 * q + 18 + i) 0 ≡ getD v (48 * q + 1 + i) 0
     new q i k m (yes e) =
         let s : 48 * n + 1 + i ≡ 48 * n + (1 + i) = omega arith in
-        rw e (written-inside u (48 * n + 18) a fits i 0 (omega (arith, h .long)) ∙ h .is i m ∙ (rw s (old .left n (1 + i) (omega arith))))
+        rw e (written-inside u (48 * n + 18) a fits i 0 (omega (arith, h .long)) ∙ h .entry i m ∙ (rw s (old .left n (1 + i) (omega arith))))
     new q i k m (no e) = written-outside u (48 * n + 18) a fits (48 * q + 18 + i) 0 (inl (omega arith)) ∙ old .behind q i (omega arith) m
 
-pub repeated-stays : {w v u : List ℕ} {r : ℕ} → Repeated 15 v u → r < 18 → Filled w r v → Filled w r u
+pub repeated-stays : {w v u : List ℕ} {r : ℕ} → Repeated 15 v u → r < 18 → Known w r v → Known w r u
 repeated-stays h l f = record { used = λ q m. ap element (h .left q _ l) ∙ f .used q m }
 
-pub repeated-filled : {w v u : List ℕ} (r : ℕ) → Repeated 15 v u → r < lanes → Filled w (1 + r) v → Filled w (18 + r) u
+pub repeated-filled : {w v u : List ℕ} (r : ℕ) → Repeated 15 v u → r < lanes → Known w (1 + r) v → Known w (18 + r) u
 repeated-filled r h l f = record {
   used = λ q m.
       let a : 48 * q + (18 + r) ≡ 48 * q + 18 + r = omega arith in

@@ -27,7 +27,7 @@ use Rattle.field.specs.Octet.Laws.{power-zero, power-suc, power-wrap, sum-xor}
 use Rattle.field.specs.Octet.Table.{worked, worked-is}
 use Rattle.codeword.specs.Element.{elements, element, α}
 use Rattle.codeword.specs.Element.Laws.{element-power, element-sum, element-zero}
-use Rattle.codeword.specs.Rows.{spaced, column, RowsAre, Folding, Folded, Worth, Filled, Filling, Repeated, ColumnsAre}
+use Rattle.codeword.specs.Rows.{spaced, column, RowsAre, Folding, Folded, Worth, Known, Filling, Repeated, ColumnsAre}
 use Rattle.codeword.proofs.Columns.{spaced-at}
 use Rattle.codeword.proofs.Filling.{repeated-stays, repeated-filled}
 
@@ -177,7 +177,7 @@ module _ {m : ℕ} {w rows f g v₀ v₁ v₂ v₃ : List ℕ} (are : RowsAre w 
   g-worth j l = folded-worth are _ g-is (roots-folding others other-roots others-fold j l)
 
   -- by the place of r in the order
-  by-place : (r j : ℕ) → getD order-filled j 0 ≡ r → j < 17 → r < 48 → r ≤ m → Filled w r v₃
+  by-place : (r j : ℕ) → getD order-filled j 0 ≡ r → j < 17 → r < 48 → r ≤ m → Known w r v₃
   unfolding order-filled
   by-place r j e l s h = go (decLt j 8) (decLt j 16)
     where
@@ -187,10 +187,10 @@ module _ {m : ℕ} {w rows f g v₀ v₁ v₂ v₃ : List ℕ} (are : RowsAre w 
       later : (i : ℕ) → j ≡ 8 + i → getD rest i 0 ≡ r
       later i a = sym (ap (λ (n : ℕ). getD (residue-roots ++ rest) n 0) a ∙ getD-append-add residue-roots rest i 0) ∙ e
 
-      on : Filled w r v₂ → Filled w r v₃
+      on : Known w r v₂ → Known w r v₃
       on = three .stays w (λ j l. unfolded-worth are _) r s
 
-      go : Dec (j < 8) → Dec (j < 16) → Filled w r v₃
+      go : Dec (j < 8) → Dec (j < 16) → Known w r v₃
       go (yes a) d =
           let q : getD residue-roots j 0 ≡ r = sym (List·getD-append residue-roots rest 0 j a) ∙ e in
           on (two .stays w g-worth r s (rw q at (one .filled w f-worth j a (rw q h))))
@@ -205,12 +205,12 @@ module _ {m : ℕ} {w rows f g v₀ v₁ v₂ v₃ : List ℕ} (are : RowsAre w 
   pub values-are : {u : List ℕ} → Repeated 15 v₃ u → ColumnsAre m w u
   values-are {u} h r a b e = go (decLt r 18)
     where
-      low : (r : ℕ) → 0 < r → r < 18 → r ≤ m → Filled w r v₃
+      low : (r : ℕ) → 0 < r → r < 18 → r ≤ m → Known w r v₃
       low r a b e =
           let s : suc (r - 1) ≡ r = omega arith in
           by-place r (place r) (rw s at (placed (r - 1) (omega arith))) (place-small r b) (omega arith) e
 
-      go : Dec (r < 18) → Filled w r u
+      go : Dec (r < 18) → Known w r u
       go (yes l) = repeated-stays h l (low r a l e)
       go (no l) =
           let s : 18 + (r - 18) ≡ r = omega arith in

@@ -1,21 +1,21 @@
--- The inverse as a power.
+-- Inverses in lanes, as powers.
 --
---   inverse-power                 a⁻¹ = a²⁵⁴, of each octet
---   PowersAre n b x               x is bⁿ, at each of 16 points at which b is an octet
---   powers-one, powers-product    b itself, and bⁱ bʲ
---   powers-inverted               b²⁵⁴ is the inverse
+--   inverse-power                   a⁻¹ = a²⁵⁴, of each octet
+--   Powered n a x                   the lanes of x are those of a to the n
+--   powered-one, powered-product    a itself, where it has octets, and aⁱ aʲ
+--   powered-inverse                 a²⁵⁴ is the inverse
+--   quotient-lanes                  quotients from inverses
 --
 -- Assumes nothing.
 use mathlib.Core.Path.{_≡_, sym, ap, ap₂, _∙_}
 use mathlib.Core.List.{List}
 use Prim.Native.Nat.{ℕ, zero, suc, _+_, _*_, _%_, _<_}
 use native.Mathlib.Omega.{arith}
-use lib.ListN.{getD}
+use lib.ListN.{length, getD}
 use Rattle.field.specs.Octet as Octet
 use Rattle.field.specs.Octet.Laws.{product-assoc, product-comm, product-one, one-product, zero-product, inverse-octet, product-inverse, inverse-zero}
 use Rattle.field.specs.Octet.Laws.{power-zero, power-suc, power-octet, power-add, power-mul, power-wrap, powers-all}
-use Rattle.codeword.specs.Lanes.{lanes}
-use Rattle.codeword.specs.Values.{Multiplied, Inverted}
+use Rattle.codeword.specs.Lanes.{lanes, Lanes, OctetLanes}
 
 -- a to the order is 1
 around : (a : ℕ) → 0 < a → a < Octet.size → Octet.power a Octet.order ≡ 1
@@ -34,20 +34,25 @@ inverse-power (suc n) h =
     ∙ ap (λ (x : ℕ). Octet.product x (Octet.inverse a)) (product-comm (Octet.power a 254) a ∙ sym (power-suc a 254) ∙ around a (omega arith) h)
     ∙ one-product (Octet.inverse a) (inverse-octet a)
 
--- ---- at 16 points
+-- ---- in lanes
 
-pub record PowersAre (n : ℕ) (b x : List ℕ) : Type 0 where
-  pub is : (k : ℕ) → k < lanes → getD b k 0 < Octet.size → getD x k 0 ≡ Octet.power (getD b k 0) n
+pub record Powered (n : ℕ) (a x : List ℕ) : Type 0 where
+  pub is : (k : ℕ) → k < lanes → getD x k 0 ≡ Octet.power (getD a k 0) n
 
-pub powers-one : {b : List ℕ} → PowersAre 1 b b
-powers-one {b} = record {
-  is = λ k l o. sym (power-suc (getD b k 0) 0 ∙ ap (Octet.product (getD b k 0)) (power-zero (getD b k 0)) ∙ product-one (getD b k 0) o);
+pub powered-one : (a : List ℕ) → OctetLanes a → Powered 1 a a
+powered-one a o = record {
+  is = λ k l. sym (power-suc (getD a k 0) 0 ∙ ap (Octet.product (getD a k 0)) (power-zero (getD a k 0)) ∙ product-one (getD a k 0) (o k l));
 }
 
-pub powers-product : {i j : ℕ} {b x y z : List ℕ} → PowersAre i b x → PowersAre j b y → Multiplied x y z → PowersAre (i + j) b z
-powers-product {i} {j} {b} p q m = record {
-  is = λ k l o. m .is k l ∙ ap₂ Octet.product (p .is k l o) (q .is k l o) ∙ sym (power-add (getD b k 0) i j);
+pub powered-product : {i j : ℕ} {a x y r : List ℕ} → Powered i a x → Powered j a y → Lanes (λ k. Octet.product (getD x k 0) (getD y k 0)) r
+    → Powered (i + j) a r
+powered-product {i} {j} {a} p q m = record {
+  is = λ k l. m .entry k l ∙ ap₂ Octet.product (p .is k l) (q .is k l) ∙ sym (power-add (getD a k 0) i j);
 }
 
-pub powers-inverted : {b x : List ℕ} → PowersAre 254 b x → Inverted b x
-powers-inverted {b} p = record { is = λ k l o. p .is k l o ∙ inverse-power (getD b k 0) o }
+pub powered-inverse : {a r : List ℕ} → OctetLanes a → length r ≡ lanes → Powered 254 a r → Lanes (λ k. Octet.inverse (getD a k 0)) r
+powered-inverse {a} o long p = record { long = long; entry = λ k l. p .is k l ∙ inverse-power (getD a k 0) (o k l) }
+
+pub quotient-lanes : (b a x : List ℕ) {r : List ℕ} → Lanes (λ k. Octet.inverse (getD a k 0)) x → Lanes (λ k. Octet.product (getD b k 0) (getD x k 0)) r
+    → Lanes (λ k. Octet.product (getD b k 0) (Octet.inverse (getD a k 0))) r
+quotient-lanes b a x lx lr = record { long = lr .long; entry = λ k l. lr .entry k l ∙ ap (Octet.product (getD b k 0)) (lx .entry k l) }

@@ -33,7 +33,7 @@ use Rattle.codeword.specs.Element.Laws.{element-zero}
 use Rattle.codeword.specs.CodeWord.{longestWord, word, Octets, CodeWord}
 use Rattle.codeword.specs.Places.{value}
 use Rattle.codeword.specs.Lanes.{lanes}
-use Rattle.codeword.specs.Rows.{spaced, column, Filled, Evaluated, ColumnsAre}
+use Rattle.codeword.specs.Rows.{spaced, column, Known, Evaluated, ColumnsAre}
 use Rattle.codeword.specs.Syndromes.{SyndromesAre, allZero}
 use Rattle.codeword.proofs.Word.{below-word, pow-wrap}
 use Rattle.codeword.proofs.Columns.{spaced-at, Blocks}
@@ -49,7 +49,7 @@ value-rows w x h =
     ∙ ev-rows elements 15 17 (polynomial elements (word w)) x
 
 -- the value at x = αⁱ, from those of the columns at α^15r, where r is i modulo 17
-column-values : (w v : List ℕ) (i r : ℕ) → length w ≤ longestWord → 15 * r % Octet.order ≡ 15 * i % Octet.order → Filled w r v
+column-values : (w v : List ℕ) (i r : ℕ) → length w ≤ longestWord → 15 * r % Octet.order ≡ 15 * i % Octet.order → Known w r v
     → ev elements 15 (spaced v 48 r) (pow elements α i) ≡ value w (pow elements α i)
 column-values w v i r h e f =
     let point : pow elements α (15 * r) ≡ pow elements (pow elements α i) 15 =

@@ -22,9 +22,9 @@ use Rattle.algebra.proofs.Laws.{raised-low, raised-high, ⊕-𝟘, ⊙-𝟘, �
 use Rattle.field.specs.Octet as Octet
 use Rattle.codeword.specs.Element.{elements, element}
 use Rattle.codeword.specs.Element.Laws.{element-sum, element-product, element-zero}
-use Rattle.codeword.specs.Lanes.{lanes, Loaded, Stored}
+use Rattle.codeword.specs.Lanes.{lanes, Lanes, Stored}
 use Rattle.codeword.specs.Places.{places}
-use Rattle.codeword.specs.Locator.{margin, HasMargin, behind, Mixed, Saved, Mended, Kept}
+use Rattle.codeword.specs.Locator.{margin, HasMargin, behind, Saved, Mended, Kept}
 use Rattle.codeword.proofs.Word.{places-at}
 
 infixl 60 _⊕_ _⊞_
@@ -46,17 +46,18 @@ pub kept-start : {grows : Bool} {hi : ℕ} {c b : List ℕ} → Kept grows hi hi
 kept-start = record { long = refl; done = λ g k l m. absurd (omega arith); left = λ k h. refl; same = λ g. refl }
 
 -- b is maybe changed from this block on
-pub mended-next : (o : ℕ) {hi n a q : ℕ} {c b d d′ b′ x y z : List ℕ} → n ≤ margin → Mended (lanes * (o + 1)) hi n a q c b d → lanes * (o + 1) ≤ hi
+pub mended-next : (o : ℕ) (b′ : List ℕ) {hi n a q : ℕ} {c b d d′ x y z : List ℕ} → n ≤ margin → Mended (lanes * (o + 1)) hi n a q c b d → lanes * (o + 1) ≤ hi
     → ((i : ℕ) → i < margin + lanes * (o + 1) → getD b′ i 0 ≡ getD b i 0)
-    → Loaded d (lanes * o) x → Loaded b′ (margin + lanes * o - n) y → Mixed a q x y z → Stored d (lanes * o) z d′
+    → Lanes (λ k. getD d (lanes * o + k) 0) x → Lanes (λ k. getD b′ (margin + lanes * o - n + k) 0) y → Lanes (λ k. mix a q (getD x k 0) (getD y k 0)) z
+    → Stored lanes (lanes * o) z d d′
     → Mended (lanes * o) hi n a q c b d′
-mended-next o {hi} {n} {a} {q} {c} {b} {d} {d′} {b′} {x} {y} {z} small h fits same lx ly mz st = record {
+mended-next o b′ {hi} {n} {a} {q} {c} {b} {d} {d′} {x} {y} {z} small h fits same lx ly mz st = record {
   long = st .long ∙ h .long;
   done = λ k l m. elim (decLt k (lanes * (o + 1))) [
     | yes p ↦ here k l p
-    | no p ↦ st .outside k (inr (omega arith)) ∙ h .done k (omega arith) m
+    | no p ↦ st .behind k (omega arith) ∙ h .done k (omega arith) m
   ];
-  left = λ k m. st .outside k (⊎-elim (λ p. inl p) (λ p. inr (omega arith)) m) ∙ h .left k (⊎-elim (λ p. inl (omega arith)) (λ p. inr p) m);
+  left = λ k m. ⊎-elim (st .before k) (λ p. st .behind k (omega arith)) m ∙ h .left k (⊎-elim (λ p. inl (omega arith)) (λ p. inr p) m);
 }
   where
     here : (k : ℕ) → lanes * o ≤ k → k < lanes * (o + 1) → getD d′ k 0 ≡ mix a q (getD c k 0) (getD b (margin + k - n) 0)
@@ -64,24 +65,24 @@ mended-next o {hi} {n} {a} {q} {c} {b} {d} {d′} {b′} {x} {y} {z} small h fit
         let j : ℕ = k - lanes * o in
         let e : lanes * o + j ≡ k = omega arith in
         let u : margin + lanes * o - n + j ≡ margin + k - n = omega arith in
-        ap (λ (i : ℕ). getD d′ i 0) (sym e) ∙ st .inside j (omega arith) ∙ mz .is j (omega arith)
-        ∙ ap₂ (mix a q) (lx .is j (omega arith) ∙ ap (λ (i : ℕ). getD d i 0) e ∙ h .left k (inl m))
-        (ly .is j (omega arith) ∙ ap (λ (i : ℕ). getD b′ i 0) u ∙ same (margin + k - n) (omega arith))
+        ap (λ (i : ℕ). getD d′ i 0) (sym e) ∙ st .written j (omega arith) ∙ mz .entry j (omega arith)
+        ∙ ap₂ (mix a q) (lx .entry j (omega arith) ∙ ap (λ (i : ℕ). getD d i 0) e ∙ h .left k (inl m))
+        (ly .entry j (omega arith) ∙ ap (λ (i : ℕ). getD b′ i 0) u ∙ same (margin + k - n) (omega arith))
 
-pub kept-next : (grows : Bool) (o : ℕ) {hi : ℕ} {c b d b′ b″ x : List ℕ} → Kept grows (lanes * (o + 1)) hi c b b′ → lanes * (o + 1) ≤ hi
-    → ((k : ℕ) → k < lanes * (o + 1) → getD d k 0 ≡ getD c k 0) → Loaded d (lanes * o) x → Saved grows (margin + lanes * o) x b′ b″
+pub kept-next : (grows : Bool) (o : ℕ) (d : List ℕ) {hi : ℕ} {c b b′ b″ x : List ℕ} → Kept grows (lanes * (o + 1)) hi c b b′ → lanes * (o + 1) ≤ hi
+    → ((k : ℕ) → k < lanes * (o + 1) → getD d k 0 ≡ getD c k 0) → Lanes (λ k. getD d (lanes * o + k) 0) x → Saved grows (margin + lanes * o) x b′ b″
     → Kept grows (lanes * o) hi c b b″
-kept-next true o {hi} {c} {b} {d} {b′} {b″} {x} h fits same lx saved = record {
+kept-next true o d {hi} {c} {b} {b′} {b″} {x} h fits same lx saved = record {
   long = st .long ∙ h .long;
   done = λ g k l m. elim (decLt k (lanes * (o + 1))) [
     | yes p ↦ here k l p
-    | no p ↦ st .outside (margin + k) (inr (omega arith)) ∙ h .done refl k (omega arith) m
+    | no p ↦ st .behind (margin + k) (omega arith) ∙ h .done refl k (omega arith) m
   ];
-  left = λ i m. st .outside i (⊎-elim (λ p. inl p) (λ p. inr (omega arith)) m) ∙ h .left i (⊎-elim (λ p. inl (omega arith)) (λ p. inr p) m);
+  left = λ i m. ⊎-elim (st .before i) (λ p. st .behind i (omega arith)) m ∙ h .left i (⊎-elim (λ p. inl (omega arith)) (λ p. inr p) m);
   same = λ g. absurd (true≢false g);
 }
   where
-    st : Stored b′ (margin + lanes * o) x b″
+    st : Stored lanes (margin + lanes * o) x b′ b″
     st = saved .stored refl
 
     here : (k : ℕ) → lanes * o ≤ k → k < lanes * (o + 1) → getD b″ (margin + k) 0 ≡ getD c k 0
@@ -89,8 +90,8 @@ kept-next true o {hi} {c} {b} {d} {b′} {b″} {x} h fits same lx saved = recor
         let j : ℕ = k - lanes * o in
         let e : lanes * o + j ≡ k = omega arith in
         let u : margin + lanes * o + j ≡ margin + k = omega arith in
-        ap (λ (i : ℕ). getD b″ i 0) (sym u) ∙ st .inside j (omega arith) ∙ lx .is j (omega arith) ∙ ap (λ (i : ℕ). getD d i 0) e ∙ same k m
-kept-next false o {hi} {c} {b} {d} {b′} {b″} {x} h fits same lx saved = record {
+        ap (λ (i : ℕ). getD b″ i 0) (sym u) ∙ st .written j (omega arith) ∙ lx .entry j (omega arith) ∙ ap (λ (i : ℕ). getD d i 0) e ∙ same k m
+kept-next false o d {hi} {c} {b} {b′} {b″} {x} h fits same lx saved = record {
   long = ap length (saved .same refl) ∙ h .long;
   done = λ g. absurd (true≢false (sym g));
   left = λ i m. ap (λ (l : List ℕ). getD l i 0) (saved .same refl ∙ h .same refl);

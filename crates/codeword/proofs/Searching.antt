@@ -63,10 +63,10 @@ horner-first {c} {l} {x} small e =
 abbrev pub HornerAt : List ℕ → ℕ → ℕ → ℕ → List ℕ → Type 0
 HornerAt c n k j a = (i : ℕ) → i < lanes → HornerFrom c n (Octet.power Octet.α (k + i)) j (getD a i 0)
 
-pub horner-turned : {c a b : List ℕ} {n k j x : ℕ} → j < n → x < Octet.size → x ≡ getD c j 0 → TurnedAt k x a b → HornerAt c n k (j + 1) a
+pub horner-turned : (k : ℕ) (a : List ℕ) {c b : List ℕ} {n j x : ℕ} → j < n → x < Octet.size → x ≡ getD c j 0 → TurnedAt k x a b → HornerAt c n k (j + 1) a
     → HornerAt c n k j b
-horner-turned {c} l small e t h i m =
-    horner-next l (rw (t .is i m) (sum-octet _ _ (product-octet _ _) small)) (t .is i m ∙ ap (Octet.sum _) e) (h i m)
+horner-turned k a {c} l small e t h i m =
+    horner-next l (rw (t .entry i m) (sum-octet _ _ (product-octet _ _) small)) (t .entry i m ∙ ap (Octet.sum _) e) (h i m)
 
 pub horner-done : {c : List ℕ} {n x v : ℕ} → HornerFrom c n x 0 v → v ≡ valueOf c n x
 unfolding valueOf

@@ -1,24 +1,44 @@
--- Sixteen octets at a time.
+-- 16 octets side by side, the lanes: what the steps answer that load and store them, and that work on each of them alike.
 --
---   lanes              how many octets a step takes at once
---   Loaded s o a       a are the 16 octets of s from o on
---   Stored s o a t     t is s with a written over the 16 octets from o on
+--   lanes               how many there are
+--   Filled z n f r      r has z entries, and the first n of them are f₀, .., fₙ₋₁
+--   Lanes f r           .. and they are all: f₀, .., f₁₅
+--   OctetLanes r        the 16 entries of r are octets
+--   Stored n o a s t    t is s with the first n entries of a written over it from o on
+--   Summed n a b r      r is the octet a₀ b₀ + .. + aₙ₋₁ bₙ₋₁
 --
 -- Assumes nothing.
 use mathlib.Core.Path.{_≡_}
-use mathlib.Core.Logic.{_⊎_}
 use mathlib.Core.List.{List}
 use Prim.Native.Nat.{ℕ, _+_, _≤_, _<_}
 use lib.ListN.{length, getD}
+use Rattle.algebra.specs.Field.{Field}
+use Rattle.algebra.specs.Interpolation.{total}
+use Rattle.field.specs.Octet.{size}
+use Rattle.codeword.specs.Element.{elements, element}
+
+infixl 70 _⊙_
+open Field elements using (mul as _⊙_)
 
 abbrev pub lanes : ℕ
 lanes = 16
 
-pub record Loaded (s : List ℕ) (o : ℕ) (a : List ℕ) : Type 0 where
-  pub long : length a ≡ lanes
-  pub is : (k : ℕ) → k < lanes → getD a k 0 ≡ getD s (o + k) 0
+pub record Filled (z n : ℕ) (f : ℕ → ℕ) (r : List ℕ) : Type 0 where
+  pub long : length r ≡ z
+  pub entry : (k : ℕ) → k < n → getD r k 0 ≡ f k
 
-pub record Stored (s : List ℕ) (o : ℕ) (a t : List ℕ) : Type 0 where
+abbrev pub Lanes : (ℕ → ℕ) → List ℕ → Type 0
+Lanes f r = Filled lanes lanes f r
+
+abbrev pub OctetLanes : List ℕ → Type 0
+OctetLanes r = (k : ℕ) → k < lanes → getD r k 0 < size
+
+pub record Stored (n o : ℕ) (a s t : List ℕ) : Type 0 where
   pub long : length t ≡ length s
-  pub inside : (k : ℕ) → k < lanes → getD t (o + k) 0 ≡ getD a k 0
-  pub outside : (i : ℕ) → (i < o) ⊎ (o + lanes ≤ i) → getD t i 0 ≡ getD s i 0
+  pub written : (k : ℕ) → k < n → getD t (o + k) 0 ≡ getD a k 0
+  pub before : (i : ℕ) → i < o → getD t i 0 ≡ getD s i 0
+  pub behind : (i : ℕ) → o + n ≤ i → getD t i 0 ≡ getD s i 0
+
+pub record Summed (n : ℕ) (a b : List ℕ) (r : ℕ) : Type 0 where
+  pub octet : r < size
+  pub sum : element r ≡ total elements n (λ k. element (getD a k 0) ⊙ element (getD b k 0))

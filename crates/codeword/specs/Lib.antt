@@ -2,11 +2,13 @@ pub mod Element
 pub mod CodeWord
 pub mod Encoding
 pub mod Remainder
+pub mod Lanes
 pub mod Register
+pub mod Generator
+pub mod Interpolation
 pub mod Changed
 pub mod Repair
 pub mod Places
-pub mod Lanes
 pub mod Rows
 pub mod Syndromes
 pub mod Locator

@@ -7,7 +7,6 @@
 --   MasseyStateIs m s c d b t r l shift q    the state of Berlekamp and Massey's algorithm after r of m syndromes s, as the code keeps it: the
 --                             recurrence c of length l, times a constant; b, the one from before l last grew, shifted since by `shift`; q, what
 --                             b failed by; d and t, the products of c and b with s
---   Mixed a q x y z           z is a x + q y, for 16 coefficients
 --   Mended lo hi n a q c b d  d is a c + q x^n b, for the coefficients from lo up to, and not at, hi; the rest is as in c
 --   Saved grows o x b d       d is b, but where the length grows for the 16 octets from o on, which are x
 --   Kept grows lo hi c b d    d is b, but where the length grows for those coefficients, which are c's
@@ -52,16 +51,13 @@ pub record MasseyStateIs (m : ℕ) (s c d b t : List ℕ) (r l shift q : ℕ) : 
   pub earlier : ProductTo m s (behind b) (behind t)
   pub state : ScaledState elements (places s) (places c) (raised elements shift (behind b)) r l (element q)
 
-pub record Mixed (a q : ℕ) (x y z : List ℕ) : Type 0 where
-  pub is : (k : ℕ) → k < lanes → getD z k 0 ≡ Octet.sum (Octet.product a (getD x k 0)) (Octet.product q (getD y k 0))
-
 pub record Mended (lo hi n a q : ℕ) (c b d : List ℕ) : Type 0 where
   pub long : length d ≡ length c
   pub done : (k : ℕ) → lo ≤ k → k < hi → getD d k 0 ≡ Octet.sum (Octet.product a (getD c k 0)) (Octet.product q (getD b (margin + k - n) 0))
   pub left : (k : ℕ) → (k < lo) ⊎ (hi ≤ k) → getD d k 0 ≡ getD c k 0
 
 pub record Saved (grows : Bool) (o : ℕ) (x b d : List ℕ) : Type 0 where
-  pub stored : grows ≡ true → Stored b o x d
+  pub stored : grows ≡ true → Stored lanes o x b d
   pub same : grows ≡ false → d ≡ b
 
 pub record Kept (grows : Bool) (lo hi : ℕ) (c b d : List ℕ) : Type 0 where

@@ -11,7 +11,7 @@
 --   RowFolded d taps f g      row d of f is added to the rows that the taps name, d - 8 rows on
 --   Folded n taps f g         n rows of g are worth at each such y what 17 rows of f are
 --   Spread n r a v u          u is v with the first n lanes of a as entry r of the rows 14, 13, ..
---   Filled w r v              entries r, 48 + r, .. of v are the values of the columns of w at α^15r
+--   Known w r v               entries r, 48 + r, .. of v are the values of the columns of w at α^15r
 --   Worth w n r f             n rows of f are worth at α^15r what the columns of w are
 --   Filling n f c roots m v u   u is v with the values of the n rows of f filled in, at each α^15r for those of the c roots r that are up to m
 --   Repeated n v u            in n rows of v entries 1 to 16 are repeated from entry 18 on
@@ -29,7 +29,7 @@ use Rattle.algebra.specs.Polynomial.{polynomial}
 use Rattle.algebra.specs.Value.{ev, terms}
 use Rattle.field.specs.Octet as Octet
 use Rattle.codeword.specs.Element.{elements, element, α}
-use Rattle.codeword.specs.Lanes.{lanes}
+use Rattle.codeword.specs.Lanes.{lanes, Lanes}
 use Rattle.codeword.specs.CodeWord.{word}
 
 pub record RowAdded (n o : ℕ) (a f g : List ℕ) : Type 0 where
@@ -40,10 +40,8 @@ pub record RowAdded (n o : ℕ) (a f g : List ℕ) : Type 0 where
 unfoldable pub spaced : List ℕ → ℕ → ℕ → Series elements
 spaced f s k d = element (getD f (s * d + k) 0)
 
-pub record Ahead (k j : ℕ) (a f : List ℕ) (o : ℕ) (b : List ℕ) : Type 0 where
-  pub long : length b ≡ lanes
-  pub used : (i : ℕ) → i < lanes
-      → getD b i 0 ≡ Octet.sum (Octet.product (Octet.power Octet.α (k + j * i)) (getD a i 0)) (getD f (o + i) 0)
+abbrev pub Ahead : (k j : ℕ) (a f : List ℕ) (o : ℕ) → List ℕ → Type 0
+Ahead k j a f o b = Lanes (λ i. Octet.sum (Octet.product (Octet.power Octet.α (k + j * i)) (getD a i 0)) (getD f (o + i) 0)) b
 
 pub record Evaluated (n k j : ℕ) (f : List ℕ) (s o : ℕ) (a : List ℕ) : Type 0 where
   pub long : length a ≡ lanes
@@ -71,15 +69,15 @@ pub record Spread (n r : ℕ) (a v u : List ℕ) : Type 0 where
   pub done : (i : ℕ) → i < n → getD u (48 * (14 - i) + r) 0 ≡ getD a i 0
   pub left : (k : ℕ) → ((i : ℕ) → i < n → k ≢ 48 * (14 - i) + r) → getD u k 0 ≡ getD v k 0
 
-pub record Filled (w : List ℕ) (r : ℕ) (v : List ℕ) : Type 0 where
+pub record Known (w : List ℕ) (r : ℕ) (v : List ℕ) : Type 0 where
   pub used : (q : ℕ) → q < 15 → element (getD v (48 * q + r) 0) ≡ ev elements 17 (column w q) (pow elements α (15 * r))
 
 pub record Worth (w : List ℕ) (n r : ℕ) (f : List ℕ) : Type 0 where
   pub worth : (p : ℕ) → p < 15 → ev elements n (spaced f 16 p) (pow elements α (15 * r)) ≡ ev elements 17 (column w (14 - p)) (pow elements α (15 * r))
 
 pub record Filling (n : ℕ) (f : List ℕ) (count : ℕ) (roots : ℕ → ℕ) (m : ℕ) (v u : List ℕ) : Type 0 where
-  pub stays : (w : List ℕ) → ((j : ℕ) → j < count → Worth w n (roots j) f) → (r : ℕ) → r < 48 → Filled w r v → Filled w r u
-  pub filled : (w : List ℕ) → ((j : ℕ) → j < count → Worth w n (roots j) f) → (j : ℕ) → j < count → roots j ≤ m → Filled w (roots j) u
+  pub stays : (w : List ℕ) → ((j : ℕ) → j < count → Worth w n (roots j) f) → (r : ℕ) → r < 48 → Known w r v → Known w r u
+  pub filled : (w : List ℕ) → ((j : ℕ) → j < count → Worth w n (roots j) f) → (j : ℕ) → j < count → roots j ≤ m → Known w (roots j) u
 
 pub record Repeated (n : ℕ) (v u : List ℕ) : Type 0 where
   pub long : length u ≡ length v
@@ -87,4 +85,4 @@ pub record Repeated (n : ℕ) (v u : List ℕ) : Type 0 where
   pub left : (q i : ℕ) → i < 18 → getD u (48 * q + i) 0 ≡ getD v (48 * q + i) 0
 
 abbrev pub ColumnsAre : ℕ → List ℕ → List ℕ → Type 0
-ColumnsAre m w v = (r : ℕ) → 0 < r → r < 33 → r ≤ m → Filled w r v
+ColumnsAre m w v = (r : ℕ) → 0 < r → r < 33 → r ≤ m → Known w r v

@@ -8,7 +8,7 @@
 -- Assumes nothing.
 use mathlib.Core.Path.{_≡_}
 use mathlib.Core.List.{List}
-use Prim.Native.Nat.{ℕ, _+_, _≤_, _<_}
+use Prim.Native.Nat.{ℕ, _+_, _≤_}
 use lib.ListN.{length, getD}
 use Rattle.algebra.specs.Value.{ev}
 use Rattle.algebra.specs.Search.{Search}
@@ -16,13 +16,13 @@ use Rattle.field.specs.Octet as Octet
 use Rattle.codeword.specs.Element.{elements, element, octet}
 use Rattle.codeword.specs.CodeWord.{longestWord}
 use Rattle.codeword.specs.Places.{places, inverses}
-use Rattle.codeword.specs.Lanes.{lanes}
+use Rattle.codeword.specs.Lanes.{Lanes}
 
 unfoldable pub valueOf : List ℕ → ℕ → ℕ → ℕ
 valueOf c n x = octet (ev elements n (places c) (element x))
 
-pub record TurnedAt (k x : ℕ) (a b : List ℕ) : Type 0 where
-  pub is : (i : ℕ) → i < lanes → getD b i 0 ≡ Octet.sum (Octet.product (Octet.power Octet.α (k + i)) (getD a i 0)) x
+abbrev pub TurnedAt : ℕ → ℕ → List ℕ → List ℕ → Type 0
+TurnedAt k x a b = Lanes (λ i. Octet.sum (Octet.product (Octet.power Octet.α (k + i)) (getD a i 0)) x) b
 
 pub record SearchIs (n p l : ℕ) (c at : List ℕ) (count : ℕ) : Type 0 where
   pub long : length at ≡ longestWord

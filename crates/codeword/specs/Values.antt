@@ -2,12 +2,6 @@
 --
 --   OddsAre l c d              d₀, d₁, .. are the odd ones of the first l + 1 coefficients of c
 --   errorOf o d l x            Forney's value: that of o at x over that of d at x²
---   HornerTurned a x v u       u is x v + a, at each of 16 points
---   ValuesAre n f x v          v is the value of f at x, at each
---   Multiplied a b y           y is a b, at each
---   Inverted b y               y is the inverse of b, at each at which b is an octet
---   ErrorsAre l o d x y        y is Forney's value at x, at each
---   InversesAre n j m at x     the first m of x are the inverses of the locators of the places that `at` lists from j on
 --   Added j m at y w v         at the m places that `at` lists from j on y is added to w; elsewhere v is as w
 --   Corrected n l m at o d w v   at the first m places that `at` lists Forney's value is added to w; elsewhere v is as w
 --
@@ -19,7 +13,6 @@ use lib.ListN.{length, getD}
 use Rattle.field.specs.Octet as Octet
 use Rattle.codeword.specs.Element.{octet}
 use Rattle.codeword.specs.CodeWord.{Octets}
-use Rattle.codeword.specs.Lanes.{lanes}
 use Rattle.codeword.specs.Places.{inverses}
 use Rattle.codeword.specs.Search.{valueOf}
 
@@ -28,28 +21,6 @@ pub record OddsAre (l : ℕ) (c d : List ℕ) : Type 0 where
 
 unfoldable pub errorOf : List ℕ → List ℕ → ℕ → ℕ → ℕ
 errorOf o d l x = Octet.product (valueOf o l x) (Octet.inverse (valueOf d ((l + 1) / 2) (Octet.product x x)))
-
--- what stands in each of 16 lanes of y
-abbrev Lanes : List ℕ → (ℕ → ℕ) → Type 0
-Lanes y f = (k : ℕ) → k < lanes → getD y k 0 ≡ f k
-
-pub record HornerTurned (a : ℕ) (x v u : List ℕ) : Type 0 where
-  pub is : Lanes u (λ k. Octet.sum (Octet.product (getD x k 0) (getD v k 0)) a)
-
-pub record ValuesAre (n : ℕ) (f x v : List ℕ) : Type 0 where
-  pub is : Lanes v (λ k. valueOf f n (getD x k 0))
-
-pub record Multiplied (a b y : List ℕ) : Type 0 where
-  pub is : Lanes y (λ k. Octet.product (getD a k 0) (getD b k 0))
-
-pub record Inverted (b y : List ℕ) : Type 0 where
-  pub is : (k : ℕ) → k < lanes → getD b k 0 < Octet.size → getD y k 0 ≡ Octet.inverse (getD b k 0)
-
-pub record ErrorsAre (l : ℕ) (o d x y : List ℕ) : Type 0 where
-  pub is : Lanes y (λ k. errorOf o d l (getD x k 0))
-
-pub record InversesAre (n j m : ℕ) (at x : List ℕ) : Type 0 where
-  pub used : (k : ℕ) → k < m → getD x k 0 ≡ octet (inverses n (getD at (j + k) 0))
 
 pub record Added (j m : ℕ) (at y w v : List ℕ) : Type 0 where
   pub long : length v ≡ length w

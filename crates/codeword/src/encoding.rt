@@ -1,54 +1,73 @@
-// Encoding, by the shift register of figure D.3/H.223.
+// The parity: the remainder of x^m times the message by the generator, m = 2e. For a small e by interpolation, for a larger one by the shift
+// register of figure D.3/H.223. The register divides in place: the octet that is next in the message, with what has been taken off it, is the
+// feedback, and the feedback times the generator is taken off the octets behind it, 16 at a time.
 use crate::LONGEST_WORD;
-ghost use Prim.Native.Nat.{_+_, _<_};
+use crate::generator;
+use crate::generator::FIRST;
+use crate::generator::ROOM;
+use crate::interpolation;
+use crate::lanes;
+ghost use Prim.Native.Nat.{_+_, _*_, _≤_, _<_};
+ghost use lib.ListN.{length};
 ghost use Rattle.codeword.specs.CodeWord.{longestWord};
-ghost use Rattle.codeword.specs.Register.{GeneratorIs, RegisterIs, Turned};
+ghost use Rattle.codeword.specs.Register.{GeneratorIs, RegisterIs, Lowered, Copied};
 
-// The coefficients of (x - α) .. (x - α^m), highest first, each from the one above it; zero where unused.
-pub(crate) fn generator(m: usize) -> [u8; LONGEST_WORD]
-    requires { ⌜ m < longestWord ⌝ }
-    ensures { λ r. ⌜ GeneratorIs m (m + 1) r ⌝ }
-{
-    let mut g = [0u8; LONGEST_WORD];
-    g[0] = 1;
-    let last = field::power(m);
-    let mut j = 1;
-    while j <= m {
-        let k = m - j;
-        let above = field::product(last, field::sum(field::power(k + 1), 1));
-        let below = field::sum(field::power(k), last);
-        let ratio = field::product(above, field::inverse(below));
-        g[j] = field::product(g[j - 1], ratio);
-        j += 1;
-    }
-    g
-}
+// The octets of the register's array: those of two words and more, since a turn writes 16 at a time.
+const WIDTH: usize = 528;
 
-// One turn of the register: every octet moves up by one, and the feedback times the generator is added.
-fn turn(p: &mut [u8; LONGEST_WORD], g: &[u8; LONGEST_WORD], m: usize, a: u8)
-    requires { ⌜ m < longestWord ⌝ }
-    ensures { λ _. ⌜ Turned (now (g .entry)) m a (now (p .entry)) (now (p .exit)) ⌝ }
+// One turn of the register, at octet i.
+fn turn(w: &mut [u8; WIDTH], i: usize, g: &[u8; ROOM], m: usize)
+    requires { ⌜ (i < longestWord) × (m < longestWord) × GeneratorIs m (now g) ⌝ }
+    ensures { λ _. ⌜ Lowered m i (now (g .entry)) (now (w .entry)) (now (w .exit)) ⌝ }
 {
-    let p = &mut p[..];
-    let feedback = field::sum(p[0], a);
-    let mut j = 0;
-    while j < m {
-        p[j] = field::sum(p[j + 1], field::product(feedback, g[j + 1]));
-        j += 1;
+    let feedback = w[i];
+    let mut o: usize = 0;
+    while o < m {
+        let x = lanes::load(w, i + 1 + o);
+        let y = lanes::load(g, FIRST + 1 + o);
+        lanes::store(w, i + 1 + o, lanes::mixed(feedback, y, x));
+        o += 16;
     }
 }
 
-// The remainder of x^m times the message by (x - α) .. (x - α^m), highest coefficient first; zero where unused.
-pub(crate) fn parity(message: &[u8], m: usize) -> [u8; LONGEST_WORD]
-    requires { ⌜ m < longestWord ⌝ }
-    ensures { λ r. ⌜ RegisterIs m (now (message .entry)) r ⌝ }
+// The m octets of w from k on; zero where unused.
+fn rest(w: &[u8; WIDTH], k: usize, m: usize) -> [u8; LONGEST_WORD]
+    requires { ⌜ k + m ≤ longestWord ⌝ }
+    ensures { λ r. ⌜ Copied m k (now (w .entry)) r ⌝ }
 {
-    let g = generator(m);
     let mut p = [0u8; LONGEST_WORD];
-    let mut i = 0;
-    while i < message.len() {
-        turn(&mut p, &g, m, message[i]);
-        i += 1;
+    let mut j: usize = 0;
+    while j < m {
+        p[j] = w[k + j];
+        j += 1;
     }
     p
+}
+
+// The remainder, highest coefficient first; zero where unused.
+fn divide(message: &[u8], g: &[u8; ROOM], m: usize) -> [u8; LONGEST_WORD]
+    requires { ⌜ (length (now message) + m ≤ longestWord) × (m < longestWord) × GeneratorIs m (now g) ⌝ }
+    ensures { λ r. ⌜ RegisterIs m (now (message .entry)) r ⌝ }
+{
+    let mut w = [0u8; WIDTH];
+    octets::write(&mut w, 0, message);
+    let mut i: usize = 0;
+    while i < message.len() {
+        turn(&mut w, i, g, m);
+        i += 1;
+    }
+    rest(&w, message.len(), m)
+}
+
+// The remainder of x^2e times the message, highest coefficient first; zero where unused.
+pub(crate) fn parity(message: &[u8], e: usize) -> [u8; LONGEST_WORD]
+    requires { ⌜ length (now message) + 2 * e ≤ longestWord ⌝ }
+    ensures { λ r. ⌜ RegisterIs (2 * e) (now (message .entry)) r ⌝ }
+{
+    let powers = field::powers();
+    let g = generator::generator(&powers, e);
+    if e <= 16 {
+        return interpolation::remainder(message, &g, &powers, e);
+    }
+    divide(message, &g, 2 * e)
 }

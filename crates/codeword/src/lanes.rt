@@ -1,31 +1,136 @@
-// Sixteen octets at a time, as a processor takes them: a loop over a local array of 16, with no branch in it, becomes a few instructions on
-// whole registers.
-ghost use Prim.Native.Nat.{_+_, _≤_};
-ghost use lib.ListN.{length};
-ghost use Rattle.codeword.specs.Lanes.{Loaded, Stored};
+// 16 octets side by side, the lanes. Each loop has the fixed length 16 and no test, and works on arrays of 16 by value: the compiler makes one
+// vector operation of a turn of it for all lanes, and keeps such an array in a register.
+ghost use Prim.Native.Nat.{_+_, _≤_, _<_};
+ghost use lib.ListN.{length, getD};
+ghost use Rattle.field.specs.Octet;
+ghost use Rattle.codeword.specs.Lanes.{lanes, Lanes, OctetLanes, Stored, Summed};
 
-// The 16 octets of s from o on.
+// 16 octets of s, from o on.
 pub(crate) fn load(s: &[u8], o: usize) -> [u8; 16]
-    requires { ⌜ o + 16 ≤ length (now s) ⌝ }
-    ensures { λ r. ⌜ Loaded (now (s .entry)) o r ⌝ }
+    requires { ⌜ o + lanes ≤ length (now s) ⌝ }
+    ensures { λ r. ⌜ Lanes (λ k. getD (now (s .entry)) (o + k) 0) r ⌝ }
 {
-    let mut a = [0u8; 16];
-    let mut k: usize = 0;
+    let mut r = [0u8; 16];
+    let mut k = 0;
     while k < 16 {
-        a[k] = s[o + k];
+        r[k] = s[o + k];
         k += 1;
     }
-    a
+    r
 }
 
-// Writes a over the 16 octets of s from o on.
+// Writes a over s, from o on.
 pub(crate) fn store(s: &mut [u8], o: usize, a: [u8; 16])
-    requires { ⌜ o + 16 ≤ length (now s) ⌝ }
-    ensures { λ _. ⌜ Stored (now (s .entry)) o a (now (s .exit)) ⌝ }
+    requires { ⌜ o + lanes ≤ length (now s) ⌝ }
+    ensures { λ _. ⌜ Stored lanes o a (now (s .entry)) (now (s .exit)) ⌝ }
 {
-    let mut k: usize = 0;
+    let mut k = 0;
     while k < 16 {
         s[o + k] = a[k];
         k += 1;
     }
+}
+
+// One octet in every lane.
+pub(crate) fn splat(c: u8) -> [u8; 16]
+    ensures { λ r. ⌜ Lanes (λ k. c) r ⌝ }
+{
+    let mut r = [0u8; 16];
+    let mut k = 0;
+    while k < 16 {
+        r[k] = c;
+        k += 1;
+    }
+    r
+}
+
+// a + c, one c for all lanes.
+pub(crate) fn plus(a: [u8; 16], c: u8) -> [u8; 16]
+    ensures { λ r. ⌜ Lanes (λ k. Octet.sum (getD a k 0) c) r ⌝ }
+{
+    let mut r = [0u8; 16];
+    let mut k = 0;
+    while k < 16 {
+        r[k] = field::sum(a[k], c);
+        k += 1;
+    }
+    r
+}
+
+// a b.
+pub(crate) fn products(a: [u8; 16], b: [u8; 16]) -> [u8; 16]
+    ensures { λ r. ⌜ Lanes (λ k. Octet.product (getD a k 0) (getD b k 0)) r ⌝ }
+{
+    let mut r = [0u8; 16];
+    let mut k = 0;
+    while k < 16 {
+        r[k] = field::product(a[k], b[k]);
+        k += 1;
+    }
+    r
+}
+
+// a b + c, one c for all lanes: a step of Horner's rule at the points a. That c is an octet makes octets of the lanes.
+pub(crate) fn horner(a: [u8; 16], b: [u8; 16], c: u8) -> [u8; 16]
+    ensures { λ r. ⌜ Lanes (λ k. Octet.sum (Octet.product (getD a k 0) (getD b k 0)) c) r × (c < Octet.size) ⌝ }
+{
+    let mut r = [0u8; 16];
+    let mut k = 0;
+    while k < 16 {
+        r[k] = field::sum(field::product(a[k], b[k]), c);
+        k += 1;
+    }
+    r
+}
+
+// f b + c, one f for all lanes.
+pub(crate) fn mixed(f: u8, b: [u8; 16], c: [u8; 16]) -> [u8; 16]
+    ensures { λ r. ⌜ Lanes (λ k. Octet.sum (Octet.product f (getD b k 0)) (getD c k 0)) r ⌝ }
+{
+    let mut r = [0u8; 16];
+    let mut k = 0;
+    while k < 16 {
+        r[k] = field::sum(field::product(f, b[k]), c[k]);
+        k += 1;
+    }
+    r
+}
+
+// What a is to be multiplied by to give 1, and 0 where a is 0: a to the 254.
+fn inverses(a: [u8; 16]) -> [u8; 16]
+    requires { ⌜ OctetLanes a ⌝ }
+    ensures { λ r. ⌜ Lanes (λ k. Octet.inverse (getD a k 0)) r ⌝ }
+{
+    let a2 = products(a, a);
+    let a3 = products(a2, a);
+    let a6 = products(a3, a3);
+    let a12 = products(a6, a6);
+    let a14 = products(a12, a2);
+    let a15 = products(a12, a3);
+    let a30 = products(a15, a15);
+    let a60 = products(a30, a30);
+    let a120 = products(a60, a60);
+    let a240 = products(a120, a120);
+    products(a240, a14)
+}
+
+// b over a; 0 where a is 0.
+pub(crate) fn quotients(b: [u8; 16], a: [u8; 16]) -> [u8; 16]
+    requires { ⌜ OctetLanes a ⌝ }
+    ensures { λ r. ⌜ Lanes (λ k. Octet.product (getD b k 0) (Octet.inverse (getD a k 0))) r ⌝ }
+{
+    products(b, inverses(a))
+}
+
+// The sum of all a b.
+pub(crate) fn dot(a: [u8; 16], b: [u8; 16]) -> u8
+    ensures { λ r. ⌜ Summed lanes a b r ⌝ }
+{
+    let mut r: u8 = 0;
+    let mut k = 0;
+    while k < 16 {
+        r = field::sum(r, field::product(a[k], b[k]));
+        k += 1;
+    }
+    r
 }

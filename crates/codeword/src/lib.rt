@@ -1,5 +1,7 @@
 // The code word of 003, D.4.1.7.3: encoding and repair.
 mod encoding;
+mod generator;
+mod interpolation;
 mod lanes;
 mod locator;
 mod rows;
@@ -39,7 +41,7 @@ pub fn encode(message: &[u8], e: usize, sent: &mut [u8]) -> usize
     if sent.len() < k + m {
         return 0;
     }
-    let p = encoding::parity(message, m);
+    let p = encoding::parity(message, e);
     octets::write(sent, 0, message);
     octets::write(sent, k, &p[..m]);
     k + m

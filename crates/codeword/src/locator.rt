@@ -13,10 +13,11 @@ use crate::lanes;
 ghost use mathlib.Core.Path.{_≡_};
 ghost use Prim.Native.Nat.{_+_, _*_, _<_, _≤_};
 ghost use lib.ListN.{length, getD};
+ghost use Rattle.field.specs.Octet;
 ghost use Rattle.field.specs.Octet.{size};
 ghost use Rattle.codeword.specs.CodeWord.{longestWord};
-ghost use Rattle.codeword.specs.Lanes.{lanes};
-ghost use Rattle.codeword.specs.Locator.{margin, Mixed, Saved, Mended, Kept, Stepped, LocatorIs, EvaluatorIs};
+ghost use Rattle.codeword.specs.Lanes.{lanes, Lanes};
+ghost use Rattle.codeword.specs.Locator.{margin, Saved, Mended, Kept, Stepped, LocatorIs, EvaluatorIs};
 
 // How many zeros b and t stand behind.
 const MARGIN: usize = 256;
@@ -46,7 +47,7 @@ fn discrepancy(d: &[u8], r: usize) -> u8
 
 // a x + q y, for 16 coefficients.
 fn mix(x: [u8; 16], y: [u8; 16], a: u8, q: u8) -> [u8; 16]
-    ensures { λ r. ⌜ Mixed a q x y r ⌝ }
+    ensures { λ r. ⌜ Lanes (λ k. Octet.sum (Octet.product a (getD x k 0)) (Octet.product q (getD y k 0))) r ⌝ }
 {
     let mut z = [0u8; 16];
     let mut k: usize = 0;

@@ -53,9 +53,9 @@ loop-again c =
     let done = (rw e at (l .inv .1)) in
     let saved = (rw e at (l .inv .2)) in (
       search needs,
-      mended-next (l .o - 1) (start .pre .2) done room (λ i h. saved .left i (inl h))
+      mended-next (l .o - 1) (l .b) (start .pre .2) done room (λ i h. saved .left i (inl h))
           (first .load .ensures) (second .load2 .ensures) (mixed .mix .ensures) (stored .store .ensures),
-      kept-next (start .args .grows) (l .o - 1) saved room (λ k h. done .left k (inl h)) (first .load .ensures) (kept .keep .ensures),
+      kept-next (start .args .grows) (l .o - 1) (l .c) saved room (λ k h. done .left k (inl h)) (first .load .ensures) (kept .keep .ensures),
     )
 
 returns : tie.Need-returns Inv-loop μ-loop

@@ -25,7 +25,7 @@ loop-again c =
     let l = c .before .before .before .loop in
     let x = c .before .coefficient2 in
     let e : l .j ≡ l .j - 1 + 1 = omega arith in
-    (search needs, horner-turned (omega arith) (x .ok) (x .ensures) (c .turn .ensures) (rw e at (l .inv .1)))
+    (search needs, horner-turned (c .before .before .before .before .before .args .k) (l .a) (omega arith) (x .ok) (x .ensures) (c .turn .ensures) (rw e at (l .inv .1)))
 
 returns : tie.Need-returns Inv-loop μ-loop
 returns c =

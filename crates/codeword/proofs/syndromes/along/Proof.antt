@@ -1,36 +1,37 @@
 -- The lanes below i have had their turn. Assumes nothing.
 use borrow.Author.Needs.{needs}
-use Prim.Native.Nat.{_+_, _-_, _*_, _≤_}
+use mathlib.Core.Path.{_≡_, refl}
+use Prim.Native.Nat.{_-_, _≤_}
 use native.Mathlib.Omega.{arith}
 use denote.Ref.{now}
-use Rattle.codeword.specs.Lanes.{lanes}
-use Rattle.codeword.proofs.Loading.{FilledTo, filled-start, filled-next, filled-done}
+use Rattle.codeword.specs.Lanes.{lanes, Filled}
+use Rattle.codeword.proofs.Laning.{filled-start, filled-next}
 use Rattle.codeword.proofs.Columns.{ahead, ahead-lane}
 use Rattle.codeword.proofs.syndromes.along.Statement.{statement}
 use Rattle.codeword.proofs.syndromes.along.Tie as tie
 
 abbrev Inv-loop : tie.InvT-loop
-Inv-loop powers k f o a b₀ i₀ b i = (i ≤ lanes) × FilledTo lanes i b (ahead k 1 a f o)
+Inv-loop powers k f o a b₀ i₀ b i = (i ≤ lanes) × Filled lanes i (ahead k 1 a f o) b
 
 abbrev μ-loop : tie.MeasureT-loop
 μ-loop powers k f o a b₀ i₀ b i = lanes - i
 
 loop-holds : tie.Need-loop-holds Inv-loop μ-loop
-loop-holds c = (search needs, filled-start)
+loop-holds c = (search needs, filled-start refl)
 
 loop-again : tie.Need-loop-again Inv-loop μ-loop
 loop-again c =
     let l = c .before .before .before .before .loop in
     let a = c .before .before .before .before .before .args in (
       search needs,
-      filled-next (search needs)
-          (ahead-lane (a .k) 1 (a .t1) (now (a .f)) (a .o) (l .i) (omega arith) (c .before .before .product-at .ensures) (c .sum .ensures)) (l .inv .1),
+      filled-next (l .inv .1) (search needs)
+          (ahead-lane (a .k) 1 (a .t1) (now (a .f)) (a .o) (l .i) (omega arith) (c .before .before .product-at .ensures) (c .sum .ensures)),
     )
 
 returns : tie.Need-returns Inv-loop μ-loop
 returns c =
-    let l = c .before .loop in
-    record { long = l .inv .1 .long; used = filled-done (omega arith) (l .inv .1) }
+    let e : c .before .loop .i ≡ lanes = omega arith in
+    rw e at (c .before .loop .inv .1)
 
 pub along-spec : {M : Type 1} → statement M
 along-spec =

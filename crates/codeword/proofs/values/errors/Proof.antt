@@ -10,23 +10,24 @@ use Rattle.codeword.proofs.Correcting.{valueOf-octet}
 use Rattle.codeword.proofs.values.errors.Statement.{statement}
 use Rattle.codeword.proofs.values.errors.Tie as tie
 
+quotients-requires : tie.Need-quotients-requires
+quotients-requires c κs k h = rw (c .horner2 .ensures .entry k h) (valueOf-octet _ _ _)
+
 returns : tie.Need-returns
 unfolding errorOf
 returns c =
-    let inverted = c .before in
-    let below = inverted .before in
+    let below = c .before in
     let squared = below .before in
     let above = squared .before .before in
     let a = above .before .before .args in
     record {
-      is = λ k h. c .products2 .ensures .is k h
-          ∙ ap₂ Octet.product (above .horner .ensures .is k h)
-          (inverted .inverses .ensures .is k h (rw (below .horner2 .ensures .is k h) (valueOf-octet _ _ _))
-          ∙ ap Octet.inverse (below .horner2 .ensures .is k h ∙ ap (valueOf (now (a .d)) ((a .l + 1) / 2)) (squared .products .ensures .is k h)));
+      long = c .quotients .ensures .long;
+      entry = λ k h. c .quotients .ensures .entry k h
+          ∙ ap₂ Octet.product (above .horner .ensures .entry k h)
+          (ap Octet.inverse (below .horner2 .ensures .entry k h ∙ ap (valueOf (now (a .d)) ((a .l + 1) / 2)) (squared .products .ensures .entry k h)));
     }
 
 pub errors-spec : {M : Type 1} → statement M
 errors-spec =
     tie.close
-    (tie.spec (λ c κs. search needs) (λ c. search needs) (λ c κs. search needs) (λ c κs. search needs) (λ c κs. search needs)
-    (λ c κs. search needs) returns)
+    (tie.spec (λ c κs. search needs) (λ c. search needs) (λ c κs. search needs) (λ c κs. search needs) quotients-requires returns)

@@ -18,10 +18,9 @@ loop-holds c = (search needs, horners-start)
 
 loop-again : tie.Need-loop-again Inv-loop μ-loop
 loop-again c =
-    let known = c .before .before .before .before in
     let l = c .before .before .before .loop in
     let e : l .i ≡ l .i - 1 + 1 = omega arith in
-    (search needs, horners-next (search needs) refl (known .shared-slice-known .given (l .i - 1) .fits) (c .turn .ensures) (rw e at (l .inv .1)))
+    (search needs, horners-next (search needs) refl (c .horner .ensures .1) (c .horner .ensures .0) (rw e at (l .inv .1)))
 
 returns : tie.Need-returns Inv-loop μ-loop
 returns c =
