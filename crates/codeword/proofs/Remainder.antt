@@ -13,7 +13,7 @@ use lib.ListN.{length, take, drop, length-append}
 use lib.Seq.{drop-at}
 use Rattle.octets.specs.Written.{written-front}
 use Rattle.algebra.proofs.Laws.{below-rooted, rooted-top}
-use Rattle.codeword.specs.CodeWord.{generator, Octets}
+use Rattle.codeword.specs.CodeWord.{generator}
 use Rattle.codeword.specs.Element.{elements}
 use Rattle.codeword.specs.Encoding.{encodes, Done, Encoded}
 use Rattle.codeword.specs.Remainder.{GeneratorMonic, EncodedIsRemainder}

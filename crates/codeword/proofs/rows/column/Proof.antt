@@ -1,9 +1,8 @@
 -- What is there comes from the rows from d on. Assumes nothing.
 use borrow.Author.Needs.{needs}
 use mathlib.Core.Path.{_≡_}
-use Prim.Native.Nat.{_+_, _-_, _*_, _<_}
+use Prim.Native.Nat.{_+_, _-_, _<_}
 use native.Mathlib.Omega.{arith}
-use Rattle.codeword.specs.Lanes.{lanes}
 use Rattle.codeword.proofs.Columns.{HornerLanes, horner-load, horner-turn, horner-evaluated}
 use Rattle.codeword.proofs.rows.column.Statement.{statement}
 use Rattle.codeword.proofs.rows.column.Tie as tie

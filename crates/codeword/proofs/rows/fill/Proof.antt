@@ -1,7 +1,5 @@
 -- The values of the columns are spread, or the root is past m. Assumes nothing.
 use borrow.Author.Needs.{needs}
-use Prim.Native.Nat.{_<_}
-use native.Mathlib.Omega.{arith}
 use Rattle.codeword.proofs.Filling.{filling-spread, filling-past}
 use Rattle.codeword.proofs.rows.fill.Statement.{statement}
 use Rattle.codeword.proofs.rows.fill.Tie as tie

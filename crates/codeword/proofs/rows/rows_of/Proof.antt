@@ -1,6 +1,6 @@
 -- The word is written behind zeros, and laid in rows. Assumes nothing.
 use borrow.Author.Needs.{needs}
-use mathlib.Core.Path.{_≡_, refl}
+use mathlib.Core.Path.{refl}
 use denote.Ref.{now}
 use Rattle.codeword.proofs.Arrays.{replicate-at}
 use Rattle.codeword.proofs.Columns.{rows-are}

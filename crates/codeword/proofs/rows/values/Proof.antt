@@ -1,6 +1,5 @@
 -- The columns are filled in at the roots of the one polynomial, of the other, and at 1; then all are repeated. Assumes nothing.
 use borrow.Author.Needs.{needs}
-use Prim.Native.Nat.{_<_}
 use Rattle.codeword.proofs.Folds.{residues-small, others-small, residue-roots-small, other-roots-small, last-root-small, values-are}
 use Rattle.codeword.proofs.rows.values.Statement.{statement}
 use Rattle.codeword.proofs.rows.values.Tie as tie

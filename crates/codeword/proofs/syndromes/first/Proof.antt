@@ -1,8 +1,6 @@
 -- The first octets are written over zeros. Assumes nothing.
 use borrow.Author.Needs.{needs}
-use mathlib.Core.Path.{_≡_, sym}
-use Prim.Native.Nat.{_≤_}
-use native.Mathlib.Omega.{arith}
+use mathlib.Core.Path.{sym}
 use lib.ListN.{length}
 use lib.Seq.{length-take-le}
 use Rattle.codeword.proofs.Arrays.{zeros-at, zeros}

@@ -1,7 +1,7 @@
 -- What is there comes from the columns from q on. Assumes nothing.
 use borrow.Author.Needs.{needs}
 use mathlib.Core.Path.{_≡_, refl}
-use Prim.Native.Nat.{_+_, _-_, _*_, _<_}
+use Prim.Native.Nat.{_+_, _-_, _<_}
 use native.Mathlib.Omega.{arith}
 use Rattle.codeword.proofs.Columns.{HornerLanes, horner-load, horner-turn, horner-evaluated}
 use Rattle.codeword.proofs.syndromes.join.Statement.{statement}
