@@ -20,20 +20,6 @@ pub struct Places {
     pub count: usize,
 }
 
-// c[0] + c[1] x + .. + c[n - 1] x^(n - 1), by Horner's rule.
-pub(crate) fn horner(c: &[u8; LONGEST_WORD], n: usize, x: u8) -> u8
-    requires { ⌜ n ≤ longestWord ⌝ }
-    ensures { λ r. ⌜ r ≡ valueOf (now (c .entry)) n x ⌝ }
-{
-    let mut v: u8 = 0;
-    let mut i = n;
-    while 0 < i {
-        i -= 1;
-        v = field::sum(field::product(x, v), c[i]);
-    }
-    v
-}
-
 // The inverse of the locator of place p of n.
 pub(crate) fn inverse_locator(n: usize, p: usize) -> u8
     requires { ⌜ (p < n) × (n ≤ longestWord) ⌝ }

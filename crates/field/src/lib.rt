@@ -1,4 +1,5 @@
-// The field of 256 elements of 003, D.4.1.7.3: sum, product, inverse and the powers of α. Every octet and every number is answered.
+// The field of 256 elements of 003, D.4.1.7.3: sum, product, inverse and the powers of α. Every octet and every number is answered; only
+// the product by a power out of a row of them asks for such a row.
 // The definitions are in specs/Octet.antt; what the layers above may use of them is specs/Octet/Laws.antt, and of the
 // table specs/Octet/Table.antt. The one table is that of the powers: a product is worked out by shifting and adding.
 ghost use mathlib.Core.Path.{_≡_};
