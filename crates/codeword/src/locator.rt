@@ -29,8 +29,8 @@ pub struct Progress {
     pub failed: u8,
 }
 
-// The shortest recurrence for the syndromes times a constant, from its constant coefficient on, zero where unused; its product with the
-// syndromes, of which the first coefficients are the error evaluator; and its length.
+// The shortest recurrence for the syndromes times some octet, from the coefficient of 1 on, zero where unused; its product with the
+// syndromes, of which the first coefficients are the error evaluator; and its length. Where that is above e, only that none is shorter.
 pub struct Recurrence {
     pub coefficients: [u8; LONGEST_WORD],
     pub evaluator: [u8; 256],
@@ -131,7 +131,7 @@ fn step(
     grown
 }
 
-// The shortest recurrence for the first 2e syndromes; where its length is above e, that, and nothing else.
+// The shortest recurrence for the first 2e syndromes; where that is longer than e, a length above e that none of them is shorter than.
 pub(crate) fn locator(s: &[u8; LONGEST_WORD], e: usize) -> Recurrence
     requires { ⌜ 2 * e < longestWord ⌝ }
     ensures { λ r. ⌜ LocatorIs (2 * e) (now (s .entry)) (r .coefficients) (r .degree)

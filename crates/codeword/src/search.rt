@@ -14,7 +14,7 @@ ghost use Rattle.codeword.specs.Places.{inverses};
 ghost use Rattle.codeword.specs.Lanes.{lanes};
 ghost use Rattle.codeword.specs.Search.{valueOf, TurnedAt, SearchIs};
 
-// The places found, rising from the front; zero where unused.
+// The places found, rising from the front, and how many these are.
 pub struct Places {
     pub at: [u8; LONGEST_WORD],
     pub count: usize,

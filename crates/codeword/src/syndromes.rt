@@ -1,8 +1,8 @@
 // Form the syndromes: the values of the word's polynomial at α, .., α^m.
 //
 // At α^i the word's polynomial has the value of the polynomial in x = α^i whose coefficients are the values of the word's columns at
-// x^15 (rows.rt). Those for i stand in entry i of the rows of v, and, since they come round after 17, in entry (i - 1) mod 17 + 1: 16
-// points in a row take 16 entries in a row.
+// x^15 (rows.rt). These come round after 17, so that those for i stand in entry (i - 1) mod 17 + 1 of the rows of v; and since the entries
+// go on to 32, 16 points in a row take 16 entries in a row.
 use crate::LONGEST_WORD;
 use crate::lanes;
 use crate::rows;

@@ -6,6 +6,7 @@
 use crate::LONGEST_WORD;
 use crate::lanes;
 use crate::search;
+ghost use mathlib.Core.Path.{_≡_};
 ghost use Prim.Native.Nat.{ℕ, _+_, _<_, _≤_};
 ghost use lib.ListN.{length, getD};
 ghost use Rattle.codeword.specs.CodeWord.{longestWord};
@@ -15,7 +16,7 @@ ghost use Rattle.codeword.specs.Places.{inverses};
 ghost use Rattle.codeword.specs.Search.{valueOf};
 ghost use Rattle.codeword.specs.Values.{OddsAre, errorOf, Added, Corrected};
 
-// The odd ones of the locator's first l + 1 coefficients: c[1], c[3], ..; zero where unused.
+// The odd ones of the locator's first l + 1 coefficients: c[1], c[3], ..
 pub(crate) fn odds(c: &[u8; LONGEST_WORD], l: usize) -> [u8; 64]
     requires { ⌜ l < 128 ⌝ }
     ensures { λ r. ⌜ OddsAre l (now (c .entry)) r ⌝ }
@@ -54,7 +55,7 @@ fn errors(o: &[u8; 256], d: &[u8; 64], l: usize, x: [u8; 16]) -> [u8; 16]
     lanes::quotients(a, b)
 }
 
-// The inverses of the locators of the `count` places that are listed from j on; zero where unused.
+// The inverses of the locators of the `count` places that are listed from j on.
 fn points(at: &[u8; LONGEST_WORD], j: usize, count: usize, n: usize) -> [u8; 16]
     requires { ⌜ (count ≤ lanes) × (j + count ≤ longestWord) × (n ≤ longestWord) ⌝ }
     requires { ⌜ ((i : ℕ) → i < j + count → getD (now at) i 0 < n) ⌝ }
@@ -85,9 +86,9 @@ fn add(w: &mut [u8], at: &[u8; LONGEST_WORD], j: usize, count: usize, y: [u8; 16
     }
 }
 
-// How many of n are taken at once.
+// How many of n are taken at once: all, or 16 where there are more.
 fn at_once(n: usize) -> usize
-    ensures { λ r. ⌜ (r ≤ n) × (r ≤ lanes) × (0 < n → 0 < r) ⌝ }
+    ensures { λ r. ⌜ (r ≤ n) × (r ≤ lanes) × (0 < n → 0 < r) × (n < lanes → r ≡ n) × (lanes ≤ n → r ≡ lanes) ⌝ }
 {
     if n < 16 {
         return n;
