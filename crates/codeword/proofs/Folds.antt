@@ -1,7 +1,6 @@
 -- The two polynomials of which the roots are α^15r, and the columns' values at all of these.
 --
---   residues, others                the taps of y⁸ = y⁷ + y⁶ + y⁴ + y² + y + 1, and of y⁸ = y⁵ + y⁴ + y³ + 1
---   residue-roots, other-roots      the r of which α^15r is a root of the one, and of the other
+--   residue-roots, other-roots      the r of which α^15r is a root of the one polynomial, and of the other
 --   residues-small, others-small,   .. as small as the code asks them to be
 --   residue-roots-small, other-roots-small, last-root-small
 --   values-are                      all the values are filled in
@@ -27,21 +26,15 @@ use Rattle.field.specs.Octet.Laws.{power-zero, power-suc, power-wrap, sum-xor}
 use Rattle.field.specs.Octet.Table.{worked, worked-is}
 use Rattle.codeword.specs.Element.{elements, element, α}
 use Rattle.codeword.specs.Element.Laws.{element-power, element-sum, element-zero}
-use Rattle.codeword.specs.Rows.{spaced, column, RowsAre, Folding, Folded, Worth, Known, Filling, Repeated, ColumnsAre}
+use Rattle.codeword.specs.Rows.{spaced, column, RowsAre, residues, others, Folding, Folded, Worth, Known, Filling, Repeated, ColumnsAre}
 use Rattle.codeword.proofs.Columns.{spaced-at}
 use Rattle.codeword.proofs.Filling.{repeated-stays, repeated-filled}
 
 infixl 60 _⊕_
 open Field elements using (Carrier as F, add as _⊕_)
 
-abbrev pub residues : List ℕ
-residues = 0 ∷ 1 ∷ 2 ∷ 4 ∷ 6 ∷ 7 ∷ []
-
 abbrev pub residue-roots : List ℕ
 residue-roots = 1 ∷ 2 ∷ 4 ∷ 8 ∷ 9 ∷ 13 ∷ 15 ∷ 16 ∷ []
-
-abbrev pub others : List ℕ
-others = 0 ∷ 3 ∷ 4 ∷ 5 ∷ []
 
 abbrev pub other-roots : List ℕ
 other-roots = 3 ∷ 5 ∷ 6 ∷ 7 ∷ 10 ∷ 11 ∷ 12 ∷ 14 ∷ []

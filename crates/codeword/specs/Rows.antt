@@ -7,6 +7,7 @@
 --   Evaluated n k j f s o a   lane i of a is the value at αᵏ⁺ʲⁱ of the polynomial of n coefficients f₍ₒ₊ᵢ₎, f₍ₛ₊ₒ₊ᵢ₎, ..
 --   column w q                column q of the word w: the coefficients of x^q, x^(15 + q), .. of its polynomial
 --   RowsAre w f               row d of f has the coefficients of x^(15 d + 14), .., x^(15 d) of the word w
+--   residues, others          the taps of y⁸ = y⁷ + y⁶ + y⁴ + y² + y + 1, and of y⁸ = y⁵ + y⁴ + y³ + 1
 --   Folding taps y            y⁸ is the sum of the powers of y that the taps name
 --   RowFolded d taps f g      row d of f is added to the rows that the taps name, d - 8 rows on
 --   Folded n taps f g         n rows of g are worth at each such y what 17 rows of f are
@@ -20,7 +21,7 @@
 -- Assumes nothing.
 use mathlib.Core.Path.{_≡_}
 use mathlib.Core.Logic.{_≢_, _⊎_}
-use mathlib.Core.List.{List}
+use mathlib.Core.List.{List, [], _∷_}
 use Prim.Native.Nat.{ℕ, _+_, _-_, _*_, _≤_, _<_}
 use lib.ListN.{length, getD}
 use Rattle.algebra.specs.Series.{Series}
@@ -52,6 +53,12 @@ column w q d = polynomial elements (word w) (15 * d + q)
 
 pub record RowsAre (w f : List ℕ) : Type 0 where
   pub used : (d p : ℕ) → d < 17 → p < 15 → element (getD f (16 * d + p) 0) ≡ column w (14 - p) d
+
+abbrev pub residues : List ℕ
+residues = 0 ∷ 1 ∷ 2 ∷ 4 ∷ 6 ∷ 7 ∷ []
+
+abbrev pub others : List ℕ
+others = 0 ∷ 3 ∷ 4 ∷ 5 ∷ []
 
 abbrev pub Folding : List ℕ → elements .Carrier → Type 0
 Folding taps y = pow elements y 8 ≡ terms elements (length taps) (λ j. getD taps j 0) y
