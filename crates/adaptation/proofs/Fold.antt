@@ -7,9 +7,7 @@
 --   left-xors        the remainder of a sum of octets
 --   held-left        what a register holds is the remainder of the content with the start added to its first octets
 --   left-held        .. and started with zeros, of the content
---   added a m v      v, with a added to each octet at whose place m has true
---   Folds κ          the rule: an octet before as many zeros as the generator has coefficients leaves what it leaves added to them
---   fold             .. and so before any octets
+--   fold             what a generator that folds does with an octet before zeros it does before any octets
 --   flip a k v       v, with a added to the octet at place k
 --   added-none, added-set   added at no place, and at one place more
 --   flip-part        .. within a part; flip-octets: octets they stay
@@ -34,9 +32,9 @@ use Rattle.codeword.specs.CodeWord.{Octets}
 use Rattle.adaptation.specs.Binary.{𝔹, plus, plus-comm}
 use Rattle.adaptation.specs.Bits.{isOdd, bitsOf, bits, octetsOf}
 use Rattle.adaptation.specs.Check.{Kind, width, generator, plain}
-use Rattle.adaptation.specs.Steps.{held, left}
+use Rattle.adaptation.specs.Steps.{held, left, xors, added, Folds}
 use Rattle.adaptation.proofs.Remainders.{generator-length, plain-length}
-use Rattle.adaptation.proofs.Octets.{bitsOf-length, number-bitsOf, sum-bitsOf, bits-append, octetsOf-sum, sum-nothing, xors}
+use Rattle.adaptation.proofs.Octets.{bitsOf-length, number-bitsOf, sum-bitsOf, bits-append, octetsOf-sum, sum-nothing}
 use Rattle.adaptation.proofs.Residue.{bits-length, held-length, held-step}
 
 -- ---- sums
@@ -153,12 +151,6 @@ module _ (κ : Kind) where
 
 -- ---- one octet, added to octets further on
 
-abbrev pub added : ℕ → List Bool → List ℕ → List ℕ
-added a [] v = v
-added a (b ∷ m) [] = []
-added a (true ∷ m) (x ∷ v) = bitXor x a ∷ added a m v
-added a (false ∷ m) (x ∷ v) = x ∷ added a m v
-
 added-length : (a : ℕ) (m : List Bool) (v : List ℕ) → length (added a m v) ≡ length v
 added-length a [] v = refl
 added-length a (b ∷ m) [] = refl
@@ -210,13 +202,7 @@ append-octets [] v o q i = q i
 append-octets (a ∷ u) v o q zero = o 0
 append-octets (a ∷ u) v o q (suc i) = append-octets u v (λ j. o (suc j)) q i
 
-pub record Folds (κ : Kind) : Type 0 where
-  pub at : (a : ℕ) → a < 256 → left κ (a ∷ replicate (length (generator κ)) 0) ≡ left κ (added a (generator κ) (replicate (length (generator κ)) 0))
-  pub nothing : left κ (0 ∷ []) ≡ left κ []
-  pub some : ℕ
-  pub octets : κ .octets ≡ suc some
-
-module _ (κ : Kind) (rule : Folds κ) (a : ℕ) (octet : a < 256) where
+module _ (κ : Kind) {i j k : ℕ} (rule : Folds κ i j k) (a : ℕ) (octet : a < 256) where
   abbrev m : List Bool
   m = generator κ
 

@@ -9,7 +9,6 @@
 --   bits-octetsOf, octetsOf-bits    bits by octets are those bits, and octets by their bits those octets
 --   octetsOf-sum                    octet by octet
 --   not-sum, sum-zeros, sum-nothing the sum with ones is the ones' complement, and with zeros, or nothing, it is nothing new
---   xors u v                        exclusive or of octets, one by one
 --
 -- Assumes nothing.
 use mathlib.Core.Path.{_≡_, refl, sym, ap, ap₂, _∙_}
@@ -28,6 +27,7 @@ use Rattle.algebra.specs.Division.{sum}
 use Rattle.algebra.proofs.Laws.{sum-length}
 use Rattle.adaptation.specs.Binary.{𝔹, plus, plus-nil}
 use Rattle.adaptation.specs.Bits.{isOdd, bitsOf, bits, number, octetsOf}
+use Rattle.adaptation.specs.Steps.{xors}
 
 -- ---- the bits of numbers
 
@@ -165,11 +165,6 @@ drop-sum zero p q = refl
 drop-sum (suc n) [] q = refl
 drop-sum (suc n) (a ∷ p) [] = sym (sum-nothing (drop n p))
 drop-sum (suc n) (a ∷ p) (b ∷ q) = drop-sum n p q
-
-abbrev pub xors : List ℕ → List ℕ → List ℕ
-xors [] v = []
-xors (a ∷ u) [] = a ∷ u
-xors (a ∷ u) (b ∷ v) = bitXor a b ∷ xors u v
 
 pub octetsOf-sum : (l : ℕ) (p q : List Bool) → length p ≡ length q → octetsOf l (sum 𝔹 p q) ≡ xors (octetsOf l p) (octetsOf l q)
 unfolding octetsOf

@@ -26,10 +26,10 @@ use Rattle.codeword.specs.CodeWord.{Octets}
 use Rattle.adaptation.specs.Binary.{𝔹}
 use Rattle.adaptation.specs.Bits.{bitsOf, bits, number, octetsOf}
 use Rattle.adaptation.specs.Check.{Kind, width, generator, plain, preset, checkBits, checkOf, eight, sixteen}
-use Rattle.adaptation.specs.Steps.{held, remainderOf}
+use Rattle.adaptation.specs.Steps.{held, remainderOf, xors}
 use Rattle.adaptation.proofs.Remainders.{generator-length, plain-length}
 use Rattle.adaptation.proofs.Octets.{bitsOf-length, sum-bitsOf, bits-snoc, octetsOf-length, octetsOf-cons, octetsOf-snoc, octetsOf-sum, bits-octetsOf}
-use Rattle.adaptation.proofs.Octets.{octetsOf-bits, not-sum, sum-zeros, xors}
+use Rattle.adaptation.proofs.Octets.{octetsOf-bits, not-sum, sum-zeros}
 
 abbrev zeros : ℕ → List Bool
 zeros n = replicate n false

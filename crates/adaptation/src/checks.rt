@@ -18,8 +18,8 @@ ghost use mathlib.Core.List.{[], _∷_, _++_};
 ghost use Prim.Native.Nat.{_+_, _-_, _≤_};
 ghost use lib.ListN.{length, take, drop, replicate};
 ghost use Rattle.codeword.specs.CodeWord.{Octets};
-ghost use Rattle.adaptation.specs.Check.{eight, sixteen, checkOf};
-ghost use Rattle.adaptation.specs.Steps.{held, left, remainderOf};
+ghost use Rattle.adaptation.specs.Check.{Kind, eight, sixteen, checkOf};
+ghost use Rattle.adaptation.specs.Steps.{held, left, remainderOf, xors, Folds};
 ghost use Rattle.adaptation.specs.Width.{kindOf, widthOf};
 
 // How many octets a fold leaves.
@@ -127,39 +127,22 @@ fn last(w: &[u8; LONGEST_UNIT], at: usize) -> [u8; LEFT]
     r
 }
 
-// Sixteen octets that leave what the content leaves, by the generator of the check of 8 bits.
-fn folded8(content: &[u8]) -> [u8; LEFT]
-    requires { ⌜ 16 ≤ length (now content) × length (now content) ≤ 1024 ⌝ }
-    ensures { λ r. ⌜ left eight r ≡ left eight (now (content .entry)) ⌝ }
+// Sixteen octets that leave what the content leaves, with `ones` added to its first two octets, by a generator that has its terms `near`,
+// `middle` and `far` places behind the highest.
+fn folded(content: &[u8], ones: u8, near: usize, middle: usize, far: usize) -> [u8; LEFT]
+    requires { ⌜ (16 ≤ length (now content)) × (length (now content) ≤ 1024) × (near ≤ 16) × (middle ≤ 16) × (far ≤ 16) ⌝ }
+    ensures { λ r. ⌜ ((κ : Kind) → Folds κ near middle far → left κ r ≡ left κ (xors (now (content .entry)) (ones ∷ ones ∷ []))) ⌝ }
 {
     let mut w = laid(content);
+    w[0] = w[0] ^ ones;
+    w[1] = w[1] ^ ones;
     let n = content.len();
     let mut i: usize = 0;
     while i + LEFT < n {
         let a = w[i];
-        w[i + 6] = w[i + 6] ^ a;
-        w[i + 7] = w[i + 7] ^ a;
-        w[i + 8] = w[i + 8] ^ a;
-        i += 1;
-    }
-    last(&w, i)
-}
-
-// .. and by that of the check of 16 bits, with ones added to its first two octets.
-fn folded16(content: &[u8]) -> [u8; LEFT]
-    requires { ⌜ 16 ≤ length (now content) × length (now content) ≤ 1024 ⌝ }
-    ensures { λ r. ⌜ left sixteen r ≡ held sixteen (255 ∷ 255 ∷ []) (now (content .entry)) ⌝ }
-{
-    let mut w = laid(content);
-    w[0] = w[0] ^ 255;
-    w[1] = w[1] ^ 255;
-    let n = content.len();
-    let mut i: usize = 0;
-    while i + LEFT < n {
-        let a = w[i];
-        w[i + 4] = w[i + 4] ^ a;
-        w[i + 11] = w[i + 11] ^ a;
-        w[i + 16] = w[i + 16] ^ a;
+        w[i + near] = w[i + near] ^ a;
+        w[i + middle] = w[i + middle] ^ a;
+        w[i + far] = w[i + far] ^ a;
         i += 1;
     }
     last(&w, i)
@@ -172,7 +155,7 @@ pub fn check8(content: &[u8]) -> u8
     if content.len() < LEFT || LONGEST_UNIT < content.len() {
         return divide8(content);
     }
-    let rest = folded8(content);
+    let rest = folded(content, 0, 6, 7, 8);
     divide8(&rest)
 }
 
@@ -183,7 +166,7 @@ fn held16(content: &[u8]) -> [u8; 2]
     if content.len() < LEFT || LONGEST_UNIT < content.len() {
         return divide16(content, 255);
     }
-    let rest = folded16(content);
+    let rest = folded(content, 255, 4, 11, 16);
     divide16(&rest, 0)
 }
 

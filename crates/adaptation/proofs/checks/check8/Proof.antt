@@ -1,9 +1,11 @@
 -- What the register holds, of the content or of what it is folded to. Assumes nothing.
 use borrow.Author.Needs.{needs}
-use mathlib.Core.Path.{_≡_, sym, _∙_}
+use mathlib.Core.Path.{_≡_, sym, ap, _∙_}
 use Rattle.adaptation.specs.Check.{eight}
+use Rattle.adaptation.specs.Steps.{left}
 use Rattle.adaptation.proofs.Residue.{check-is-8}
 use Rattle.adaptation.proofs.Fold.{left-held}
+use Rattle.adaptation.proofs.Turns.{folds8, unstarted}
 use Rattle.adaptation.proofs.checks.check8.Statement.{statement}
 use Rattle.adaptation.proofs.checks.check8.Tie as tie
 
@@ -13,8 +15,8 @@ returns c = check-is-8 _ _ (c .divide8 .ensures)
 returns-2 : tie.Need-returns-2
 unfolding eight
 returns-2 c =
-    let f = c .before .before .folded8 in
-    check-is-8 _ _ (c .divide82 .ensures ∙ sym (left-held eight (f .result)) ∙ f .ensures ∙ left-held eight _)
+    let f = c .before .before .folded in
+    check-is-8 _ _ (c .divide82 .ensures ∙ sym (left-held eight (f .result)) ∙ f .ensures eight folds8 ∙ ap (left eight) (unstarted _) ∙ left-held eight _)
 
 pub check8-spec : {M : Type 1} → statement M
 check8-spec =
