@@ -1,7 +1,7 @@
 /*
  * The C entries beside libfec. 'bench limits': every case at several e, on words of 255 octets without a check, and in which cells libfec
  * is the faster. 'bench lengths': the clean word at several lengths. 'bench checks': what a check costs. Each prints a markdown table of
- * the median microseconds of one call.
+ * the least microseconds of one call.
  */
 #define _DEFAULT_SOURCE
 #include "../tests/host/draw.h"
@@ -114,28 +114,28 @@ static void draw_words(struct state *s, int which)
 }
 
 /* The time of our call and of libfec's. */
-static void measure(struct state *s, int which, double median[2])
+static void measure(struct state *s, int which, double least[2])
 {
     draw_words(s, which);
     if (which == ENCODE)
-        measure_both(our_encode, their_encode, s, median);
+        measure_both(our_encode, their_encode, s, least);
     else
-        measure_both(our_receive, their_receive, s, median);
+        measure_both(our_receive, their_receive, s, least);
 }
 
 /* ---- beside libfec */
 
-static double times_faster(const double median[2])
+static double times_faster(const double least[2])
 {
-    return median[1] / median[0];
+    return least[1] / least[0];
 }
 
-static void print_cell(const double median[2])
+static void print_cell(const double least[2])
 {
-    printf(" %.2f | %.2f | %.2f |", median[0], median[1], times_faster(median));
+    printf(" %.2f | %.2f | %.2f |", least[0], least[1], times_faster(least));
 }
 
-static void print_table(double median[LIMITS][CASES][2])
+static void print_table(double least[LIMITS][CASES][2])
 {
     printf("| e |");
     for (int c = 0; c < CASES; c++)
@@ -147,7 +147,7 @@ static void print_table(double median[LIMITS][CASES][2])
     for (size_t k = 0; k < LIMITS; k++) {
         printf("| %u |", limits[k]);
         for (int c = 0; c < CASES; c++)
-            print_cell(median[k][c]);
+            print_cell(least[k][c]);
         printf("\n");
     }
 }
@@ -167,11 +167,11 @@ static int reason_of(int which, unsigned e)
 }
 
 /* Of one case, the e at which libfec is the faster for the reason, as the table shows it: a ratio of 1.00 is not. How many there are. */
-static int print_slower_case(double median[LIMITS][CASES][2], int which, int reason, const char *before)
+static int print_slower_case(double least[LIMITS][CASES][2], int which, int reason, const char *before)
 {
     int slower = 0;
     for (size_t k = 0; k < LIMITS; k++) {
-        double times = times_faster(median[k][which]);
+        double times = times_faster(least[k][which]);
         if (times < 0.995 && reason_of(which, limits[k]) == reason) {
             if (slower++)
                 printf(", %u (%.2f)", limits[k], times);
@@ -183,13 +183,13 @@ static int print_slower_case(double median[LIMITS][CASES][2], int which, int rea
 }
 
 /* The cells in which libfec is the faster, by the reason. */
-static void print_slower(double median[LIMITS][CASES][2])
+static void print_slower(double least[LIMITS][CASES][2])
 {
     int all = 0;
     for (int r = 0; r < REASONS; r++) {
         int slower = 0;
         for (int c = 0; c < CASES; c++)
-            slower += print_slower_case(median, c, r, slower ? ";" : "\nSlower than libfec:");
+            slower += print_slower_case(least, c, r, slower ? ";" : "\nSlower than libfec:");
         if (slower)
             printf(". %s\n", reasons[r]);
         all += slower;
@@ -201,15 +201,15 @@ static void print_slower(double median[LIMITS][CASES][2])
 static void print_limits(void)
 {
     static struct state s;
-    static double median[LIMITS][CASES][2];
+    static double least[LIMITS][CASES][2];
     for (size_t k = 0; k < LIMITS; k++) {
         begin(&s, N, 0, limits[k]);
         for (int c = 0; c < CASES; c++)
-            measure(&s, c, median[k][c]);
+            measure(&s, c, least[k][c]);
         free_rs_char(s.tables);
     }
-    print_table(median);
-    print_slower(median);
+    print_table(least);
+    print_slower(least);
 }
 
 static void print_lengths(void)
@@ -218,14 +218,16 @@ static void print_lengths(void)
     static const unsigned lengths[] = { 32, 64, 128, N };
     printf("| octets | %s, e = %d: ours | libfec | times faster |\n|--:|--:|--:|--:|\n", names[CLEAN], E);
     for (size_t k = 0; k < COUNT(lengths); k++) {
-        double median[2];
+        double least[2];
         begin(&s, lengths[k], 0, E);
-        measure(&s, CLEAN, median);
+        measure(&s, CLEAN, least);
         free_rs_char(s.tables);
         printf("| %u |", lengths[k]);
-        print_cell(median);
+        print_cell(least);
         printf("\n");
     }
+    printf("\nThe library lays every word out to 255 octets, in 17 rows of 15, and takes all the rows: so its time is nearly the same at every length, where "
+           "libfec's goes with it.\n");
 }
 
 /* ---- the checks */
@@ -252,11 +254,11 @@ static void print_checks(void)
     memcpy(encode, all, sizeof encode);
     memcpy(clean, all + 3, sizeof clean);
     printf("| check | %s | the check | share | %s | the check | share |\n|---|--:|--:|--:|--:|--:|--:|\n", names[ENCODE], names[CLEAN]);
-    printf("| %s | %.2f | | | %.2f | | |\n", checks[0], encode[0].median, clean[0].median);
+    printf("| %s | %.2f | | | %.2f | | |\n", checks[0], encode[0].least, clean[0].least);
     for (unsigned k = 1; k < 3; k++) {
         printf("| %s |", checks[k]);
-        print_check(encode[0].median, encode[k].median);
-        print_check(clean[0].median, clean[k].median);
+        print_check(encode[0].least, encode[k].least);
+        print_check(clean[0].least, clean[k].least);
         printf("\n");
     }
 }

@@ -1,13 +1,12 @@
 /*
- * Measuring: the median time of one call, out of many timed rounds of calls; several kinds of call by turns.
+ * Measuring: the least time of one call, out of many timed rounds of calls; several kinds of call by turns.
  */
 #ifndef MEASURE_H
 #define MEASURE_H
 
-#include <stdlib.h>
 #include <time.h>
 
-#define MEASURE_ROUNDS 101
+#define MEASURE_ROUNDS 151
 
 /* Microseconds of this process on the processor: what other processes do meanwhile is not counted. */
 static inline double measure_now(void)
@@ -15,12 +14,6 @@ static inline double measure_now(void)
     struct timespec t;
     clock_gettime(CLOCK_PROCESS_CPUTIME_ID, &t);
     return (double)t.tv_sec * 1e6 + (double)t.tv_nsec / 1e3;
-}
-
-static inline int measure_order(const void *a, const void *b)
-{
-    double x = *(const double *)a, y = *(const double *)b;
-    return (x > y) - (x < y);
 }
 
 /* A call to be timed, the i-th of all. */
@@ -44,38 +37,38 @@ static inline unsigned measure_calls(measured *call, void *state)
     return calls;
 }
 
-/* What is timed by turns: calls, each with its state, and the median microseconds of each. */
+/* What is timed by turns: calls, each with its state, and the least microseconds of each. */
 #define MEASURE_MOST 16
 
 struct measured {
     measured *call;
     void *state;
-    double median;
+    double least;
 };
 
-/* The median microseconds of one call of each, in rounds by turns so that all meet the same machine. */
+/* The least microseconds of one call of each, in rounds by turns so that all meet the same machine: what else that does only adds to them. */
 static inline void measure_by_turns(struct measured *each, unsigned count)
 {
-    static double time[MEASURE_MOST][MEASURE_ROUNDS];
     unsigned calls[MEASURE_MOST];
-    for (unsigned k = 0; k < count; k++)
-        calls[k] = measure_calls(each[k].call, each[k].state);
-    for (unsigned r = 0; r < MEASURE_ROUNDS; r++)
-        for (unsigned k = 0; k < count; k++)
-            time[k][r] = measure_round(each[k].call, each[k].state, r, calls[k]);
     for (unsigned k = 0; k < count; k++) {
-        qsort(time[k], MEASURE_ROUNDS, sizeof(double), measure_order);
-        each[k].median = time[k][MEASURE_ROUNDS / 2];
+        calls[k] = measure_calls(each[k].call, each[k].state);
+        each[k].least = measure_round(each[k].call, each[k].state, 0, calls[k]);
     }
+    for (unsigned r = 1; r < MEASURE_ROUNDS; r++)
+        for (unsigned k = 0; k < count; k++) {
+            double time = measure_round(each[k].call, each[k].state, r, calls[k]);
+            if (time < each[k].least)
+                each[k].least = time;
+        }
 }
 
 /* .. of two, with one state. */
-static inline void measure_both(measured *first, measured *second, void *state, double median[2])
+static inline void measure_both(measured *first, measured *second, void *state, double least[2])
 {
     struct measured both[2] = { { first, state, 0 }, { second, state, 0 } };
     measure_by_turns(both, 2);
-    median[0] = both[0].median;
-    median[1] = both[1].median;
+    least[0] = both[0].least;
+    least[1] = both[1].least;
 }
 
 #endif

@@ -1,5 +1,5 @@
 /*
- * The demultiplexer and the multiplexer, a payload at a time: markdown tables of the median nanoseconds of one payload. 'multiplex rows':
+ * The demultiplexer and the multiplexer, a payload at a time: markdown tables of the least nanoseconds of one payload. 'multiplex rows':
  * 255 octets under two rows, beside a memcpy of as many. 'multiplex growth': what an octet more costs in one slot, and what a slot more
  * costs in 255 octets, each with the points it is the difference of.
  */
@@ -87,7 +87,7 @@ static void copy(void *at, unsigned i)
 /* Nanoseconds of one payload. */
 static double payload_of(const struct measured *m)
 {
-    return 1e3 * m->median / ROUNDS;
+    return 1e3 * m->least / ROUNDS;
 }
 
 /* ---- the tables */

@@ -1,5 +1,5 @@
 /*
- * The longest records on 16 channels, written and read, beside a memcpy of as many octets: a markdown table of the median milliseconds of
+ * The longest records on 16 channels, written and read, beside a memcpy of as many octets: a markdown table of the least milliseconds of
  * one call.
  */
 #define _DEFAULT_SOURCE

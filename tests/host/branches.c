@@ -2,8 +2,9 @@
  * Under valgrind's memcheck, octets that are marked undefined are noticed wherever a jump or an address depends on them. With each check:
  *
  *   - encoding is all products and remainders: no jump and no address may depend on an octet of the message;
- *   - a clean word is asked whether each of its 2e syndromes is zero, and nothing else;
- *   - a damaged one, besides, whether it fails each of the 2e steps of the locator, and whether each of the 255 places is a root;
+ *   - a clean word is asked once whether its syndromes are all zero, and nothing else;
+ *   - a damaged one, besides, whether it fails each of the 2e steps of the locator, whether there is a root among each 16 of the 255 places,
+ *     and where there is one, whether it is each of them;
  *   - with a check, besides, whether each octet of the check agrees.
  */
 #include "kyteblossom.h"
@@ -53,10 +54,11 @@ static void try_limit(uint32_t width, uint32_t e)
     if (n > 0)
         fail("encoding", e, n);
     n = in_receiving(width, e, 0);
-    if (n > 2 * e + width / 8)
+    if (n > (e > 0) + width / 8)
         fail("receiving a clean word", e, n);
     n = in_receiving(width, e, e);
-    if (n > 2 * e + 2 * e + KYTE_LONGEST + width / 8)
+    unsigned blocks = (KYTE_LONGEST + 15) / 16, looked_at = e < blocks ? 16 * e : KYTE_LONGEST;
+    if (n > (e > 0) * (1 + 2 * e + blocks + looked_at) + width / 8)
         fail("receiving a damaged word", e, n);
 }
 
