@@ -6,10 +6,12 @@
 --   HornerAt c n k j a                                the same in 16 lanes, at αᵏ, αᵏ⁺¹, ..
 --   horner-turned                                     .. and one coefficient more
 --   inverse-power                                     the inverse of the locator of place p is α to the 256 - n + p
+--   search-skip                                       a row of places without a root
 --   search-start, search-hit, search-miss, search-done    one place after another
 --
 -- Assumes nothing.
 use mathlib.Core.Path.{_≡_, refl, sym, ap, ap₂, _∙_, subst}
+use mathlib.Core.Logic.{_≢_}
 use mathlib.Core.List.{List}
 use Prim.Native.Nat.{ℕ, suc, _+_, _-_, _≤_, _<_}
 use native.Mathlib.Numerals.{add-one}
@@ -28,7 +30,7 @@ use Rattle.codeword.specs.Element.Laws.{octet-element, octet-same, octet
 use Rattle.codeword.specs.CodeWord.{longestWord}
 use Rattle.codeword.specs.Places.{places, inverses}
 use Rattle.codeword.specs.Lanes.{lanes}
-use Rattle.codeword.specs.Search.{valueOf, TurnedAt, SearchIs}
+use Rattle.codeword.specs.Search.{valueOf, TurnedAt, SearchIs, Gathered}
 use Rattle.codeword.proofs.Arrays.{zeros}
 use Rattle.codeword.proofs.Word.{places-at, inverses-at}
 
@@ -86,19 +88,23 @@ search-start = record {
   search = lists-none _ _;
 }
 
-module _ {n p l : ℕ} {c at : List ℕ} {count x : ℕ} (x-is : x ≡ octet (inverses n p)) (s : SearchIs n p l c at count) where
-  value-element : element x ≡ inverses n p
-  value-element = ap element x-is ∙ Rattle.codeword.specs.Element.Laws.element-octet _
+-- the values at the inverses of the locators, on octets
+value-at : List ℕ → ℕ → ℕ → ℕ → ℕ
+value-at c l n p = valueOf c (l + 1) (octet (inverses n p))
 
-  root-value : valueOf c (l + 1) x ≡ 0 → ev elements (suc l) (places c) (inverses n p) ≡ 𝟘
-  unfolding valueOf
-  root-value e = octet-same _ _ (sym (ap octet (ap₂ (λ (k : ℕ) (y : F). ev elements k (places c) y) (add-one l) value-element)) ∙ e ∙ sym octet-nil)
+value-is : (c : List ℕ) (l n p : ℕ) → value-at c l n p ≡ octet (ev elements (suc l) (places c) (inverses n p))
+unfolding valueOf value-at
+value-is c l n p = ap octet (ap₂ (λ (k : ℕ) (y : F). ev elements k (places c) y) (add-one l) (Rattle.codeword.specs.Element.Laws.element-octet _))
 
-  value-root : ev elements (suc l) (places c) (inverses n p) ≡ 𝟘 → valueOf c (l + 1) x ≡ 0
-  unfolding valueOf
-  value-root e = ap octet (ap₂ (λ (k : ℕ) (y : F). ev elements k (places c) y) (add-one l) value-element ∙ e) ∙ octet-nil
+root-value : (c : List ℕ) (l n p : ℕ) → value-at c l n p ≡ 0 → ev elements (suc l) (places c) (inverses n p) ≡ 𝟘
+root-value c l n p e = octet-same _ _ (sym (value-is c l n p) ∙ e ∙ sym octet-nil)
 
-  pub search-miss : (valueOf c (l + 1) x ≡ 0 → ⊥) → SearchIs n (p + 1) l c at count
+value-root : (c : List ℕ) (l n p : ℕ) → ev elements (suc l) (places c) (inverses n p) ≡ 𝟘 → value-at c l n p ≡ 0
+value-root c l n p e = value-is c l n p ∙ ap octet e ∙ octet-nil
+
+module _ {n p l : ℕ} {c at : List ℕ} {count : ℕ} (s : SearchIs n p l c at count) where
+  pub search-miss : (valueOf c (l + 1) (octet (inverses n p)) ≡ 0 → ⊥) → SearchIs n (p + 1) l c at count
+  unfolding value-at
   search-miss no-root = record {
     long = s .long;
     few = omega (arith, s .few);
@@ -111,10 +117,11 @@ module _ {n p l : ℕ} {c at : List ℕ} {count x : ℕ} (x-is : x ≡ octet (in
   }
     where
       go : (q : ℕ) → q < p + 1 → ev elements (suc l) (places c) (inverses n q) ≡ 𝟘 → Dec (q ≡ p) → (j : ℕ) × (j < count) × (getD at j 0 ≡ q)
-      go q h z (yes e) = absurd (no-root (value-root (rw e at z)))
+      go q h z (yes e) = absurd (no-root (value-root c l n p (rw e at z)))
       go q h z (no d) = s .search .all q (omega arith) z
 
-  pub search-hit : p < longestWord → valueOf c (l + 1) x ≡ 0 → SearchIs n (p + 1) l c (set at count p) (count + 1)
+  pub search-hit : p < longestWord → valueOf c (l + 1) (octet (inverses n p)) ≡ 0 → SearchIs n (p + 1) l c (set at count p) (count + 1)
+  unfolding value-at
   search-hit small is-root = record {
     long = length-set at count p ∙ s .long;
     few = omega (arith, s .few);
@@ -145,7 +152,7 @@ module _ {n p l : ℕ} {c at : List ℕ} {count x : ℕ} (x-is : x ≡ octet (in
       root : (j : ℕ) → j < count + 1 → ev elements (suc l) (places c) (inverses n (getD (set at count p) j 0)) ≡ 𝟘
       root j h = elim (decLt j count) [
         | yes m ↦ rw (old j m) (s .search .each j m)
-        | no m ↦ (let e : j ≡ count = omega arith in rw (e, new) (root-value is-root))
+        | no m ↦ (let e : j ≡ count = omega arith in rw (e, new) (root-value c l n p is-root))
       ]
 
       all : (q : ℕ) → q < p + 1 → ev elements (suc l) (places c) (inverses n q) ≡ 𝟘 → (j : ℕ) × (j < count + 1) × (getD (set at count p) j 0 ≡ q)
@@ -154,5 +161,44 @@ module _ {n p l : ℕ} {c at : List ℕ} {count x : ℕ} (x-is : x ≡ octet (in
         | no m ↦ (count, omega arith, new ∙ omega arith)
       ]
 
+-- no root in a row of places
+pub search-skip : {n p q l : ℕ} {c at : List ℕ} {count : ℕ} → p ≤ q
+    → ((k : ℕ) → p ≤ k → k < q → valueOf c (l + 1) (octet (inverses n k)) ≢ 0) → SearchIs n p l c at count → SearchIs n q l c at count
+unfolding value-at
+search-skip {n} {p} {q} {l} {c} {at} {count} m none s = record {
+  long = s .long;
+  few = omega (arith, s .few);
+  search = record {
+    inside = λ j h. omega (arith, s .search .inside j h);
+    rises = s .search .rises;
+    each = s .search .each;
+    all = λ k h z. go k h z (decLt k p);
+  };
+}
+  where
+    go : (k : ℕ) → k < q → ev elements (suc l) (places c) (inverses n k) ≡ 𝟘 → Dec (k < p) → (j : ℕ) × (j < count) × (getD at j 0 ≡ k)
+    go k h z (yes a) = s .search .all k a z
+    go k h z (no a) = absurd (none k (omega arith) h (value-root c l n k z))
+
 pub search-done : {n p l : ℕ} {c at : List ℕ} {count : ℕ} → p ≡ n → SearchIs n p l c at count → SearchIs n n l c at count
 search-done {n} {p} {l} {c} {at} {count} e = subst (λ (q : ℕ). SearchIs n q l c at count) e
+
+-- ---- gathering
+
+pub gathered-start : {from count : ℕ} {v at : List ℕ} → Gathered from from v at count at count
+gathered-start = record { gathered = λ n l c vs s. s }
+
+pub gathered-skip : {from to count : ℕ} {v at : List ℕ} → from ≤ to → ((p : ℕ) → from ≤ p → p < to → getD v p 0 ≢ 0) → Gathered from to v at count at count
+gathered-skip m none = record { gathered = λ n l c vs s. search-skip m (λ k a b e. none k a b (vs k a b ∙ e)) s }
+
+pub gathered-miss : {from p count₀ count : ℕ} {v at₀ at : List ℕ} → from ≤ p → getD v p 0 ≢ 0 → Gathered from p v at₀ count₀ at count
+    → Gathered from (p + 1) v at₀ count₀ at count
+gathered-miss m ne g = record {
+  gathered = λ n l c vs s. search-miss (g .gathered n l c (λ k a b. vs k a (omega arith)) s) (λ e. ne (vs _ m (omega arith) ∙ e));
+}
+
+pub gathered-hit : {from p count₀ count : ℕ} {v at₀ at : List ℕ} → from ≤ p → p < longestWord → getD v p 0 ≡ 0 → Gathered from p v at₀ count₀ at count
+    → Gathered from (p + 1) v at₀ count₀ (set at count p) (count + 1)
+gathered-hit m small e g = record {
+  gathered = λ n l c vs s. search-hit (g .gathered n l c (λ k a b. vs k a (omega arith)) s) small (sym (vs _ m (omega arith)) ∙ e);
+}

@@ -12,7 +12,7 @@ ghost use Rattle.codeword.specs.CodeWord.{longestWord};
 ghost use Rattle.codeword.specs.Element.{octet};
 ghost use Rattle.codeword.specs.Places.{inverses};
 ghost use Rattle.codeword.specs.Lanes.{lanes};
-ghost use Rattle.codeword.specs.Search.{valueOf, TurnedAt, SearchIs};
+ghost use Rattle.codeword.specs.Search.{valueOf, TurnedAt, SearchIs, Gathered};
 
 // The places found, rising from the front, and how many these are.
 pub struct Places {
@@ -81,6 +81,67 @@ fn all_values(c: &[u8; LONGEST_WORD], l: usize, n: usize) -> [u8; 272]
     v
 }
 
+// The smaller of two.
+fn smaller(a: u8, b: u8) -> u8
+    ensures { λ r. ⌜ (r ≤ a) × (r ≤ b) ⌝ }
+{
+    if a < b { a } else { b }
+}
+
+// The least of 16 octets of v from o on.
+fn least(v: &[u8; 272], o: usize) -> u8
+    requires { ⌜ o + 16 ≤ 272 ⌝ }
+    ensures { λ r. ⌜ ((i : ℕ) → i < lanes → r ≤ getD (now (v .entry)) (o + i) 0) ⌝ }
+{
+    let mut r: u8 = 255;
+    let mut i: usize = 0;
+    while i < 16 {
+        r = smaller(r, v[o + i]);
+        i += 1;
+    }
+    r
+}
+
+// The places from `from` on, up to and not at `to`, at which v is zero, listed behind the first `count`: how many are listed then.
+fn gather(v: &[u8; 272], from: usize, to: usize, at: &mut [u8; LONGEST_WORD], count: usize) -> usize
+    requires { ⌜ (count ≤ from) × (from ≤ to) × (to ≤ longestWord) ⌝ }
+    ensures { λ r. ⌜ Gathered from to (now (v .entry)) (now (at .entry)) count (now (at .exit)) r ⌝ }
+{
+    let at = &mut at[..];
+    let mut n = count;
+    let mut p = from;
+    while p < to {
+        if v[p] == 0 {
+            at[n] = p as u8;
+            n += 1;
+        }
+        p += 1;
+    }
+    n
+}
+
+// The same where `to` is at most 16 on. Where the least of the 16 values is not zero, none is.
+fn block(v: &[u8; 272], from: usize, to: usize, at: &mut [u8; LONGEST_WORD], count: usize) -> usize
+    requires { ⌜ (count ≤ from) × (from ≤ to) × (to ≤ longestWord) × (to ≤ from + 16) ⌝ }
+    ensures { λ r. ⌜ Gathered from to (now (v .entry)) (now (at .entry)) count (now (at .exit)) r ⌝ }
+{
+    if least(v, from) != 0 {
+        return count;
+    }
+    gather(v, from, to, at, count)
+}
+
+// p and 16, but n at most.
+fn next(p: usize, n: usize) -> usize
+    requires { ⌜ (p < n) × (n ≤ longestWord) ⌝ }
+    ensures { λ r. ⌜ (p < r) × (r ≤ n) × (r ≤ p + 16) ⌝ }
+{
+    if n < p + 16 {
+        return n;
+    }
+    p + 16
+}
+
 // All places of n at the inverse of whose locator the polynomial c, of degree at most l, is zero.
 pub(crate) fn search(c: &[u8; LONGEST_WORD], l: usize, n: usize) -> Places
     requires { ⌜ (l < longestWord) × (n ≤ longestWord) ⌝ }
@@ -88,14 +149,13 @@ pub(crate) fn search(c: &[u8; LONGEST_WORD], l: usize, n: usize) -> Places
 {
     let v = all_values(c, l, n);
     let mut at = [0u8; LONGEST_WORD];
-    let mut count = 0;
-    let mut p = 0;
+    let mut count: usize = 0;
+    let mut p: usize = 0;
     while p < n {
-        if v[p] == 0 {
-            at[count] = p as u8;
-            count += 1;
-        }
-        p += 1;
+        let to = next(p, n);
+        let listed = block(&v, p, to, &mut at, count);
+        count = listed;
+        p = to;
     }
     Places { at, count }
 }

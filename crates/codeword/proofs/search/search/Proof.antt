@@ -1,10 +1,8 @@
 -- The places below p have been searched. Assumes nothing.
 use borrow.Author.Needs.{needs}
-use mathlib.Core.Path.{refl, sym, _∙_}
 use Prim.Native.Nat.{_-_, _≤_}
 use native.Mathlib.Omega.{arith}
-use mathlib.Core.Logic.{⊎-elim}
-use Rattle.codeword.proofs.Searching.{search-start, search-hit, search-miss, search-done}
+use Rattle.codeword.proofs.Searching.{search-start, search-done}
 use Rattle.codeword.specs.Search.{SearchIs}
 use Rattle.codeword.proofs.search.search.Statement.{statement}
 use Rattle.codeword.proofs.search.search.Tie as tie
@@ -18,13 +16,18 @@ abbrev μ-loop : tie.MeasureT-loop
 loop-holds : tie.Need-loop-holds Inv-loop μ-loop
 loop-holds c = (search needs, search-start)
 
+block-requires : tie.Need-block-requires Inv-loop μ-loop
+block-requires c κs =
+    let l = c .before .before .before .before .loop in
+    (l .inv .1 .few, search needs, search needs, search needs)
+
 loop-again : tie.Need-loop-again Inv-loop μ-loop
 loop-again c =
-    let l = c .before .before .loop in
-    let v = c .before .before .before .all-values .ensures (l .p) (search needs) in (
+    let l = c .before .before .before .before .before .loop in
+    let a = c .before .before .before .before .before .before .before .args in (
       search needs,
-      ⊎-elim (λ w. rw (w .1, w .2) (search-hit refl (l .inv .1) (search needs) (sym v ∙ w .0 .taken)))
-          (λ w. rw (w .1, w .2) (search-miss refl (l .inv .1) (λ z. w .0 .left (v ∙ z)))) (c .if1 .came),
+      c .block .ensures .gathered (a .n) (a .l) _
+          (λ p m k. c .before .before .before .before .before .before .all-values .ensures p (omega (arith, c .before .before .before .next .ensures))) (l .inv .1),
     )
 
 returns : tie.Need-returns Inv-loop μ-loop
@@ -33,5 +36,5 @@ returns c = search-done (omega arith) (c .before .loop .inv .1)
 pub search-spec : {M : Type 1} → statement M
 search-spec =
     tie.close
-    (tie.spec Inv-loop μ-loop (λ c κs. search needs) loop-holds (λ c. search needs) (λ c. search needs)
-    (λ c. search needs) (λ c. search needs) (λ c. search needs) (λ c. search needs) loop-again returns)
+    (tie.spec Inv-loop μ-loop (λ c κs. search needs) loop-holds (λ c κs. search needs) block-requires
+    (λ c. search needs) loop-again returns)
