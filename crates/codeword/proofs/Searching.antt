@@ -5,7 +5,7 @@
 --   horner-first                                      .. at the highest one
 --   HornerAt c n k j a                                the same in 16 lanes, at αᵏ, αᵏ⁺¹, ..
 --   horner-turned                                     .. and one coefficient more
---   inverse-power                                     the inverse of the locator of place p is α to the 256 - n + p
+--   inverse-of-place                                   the inverse of the locator of place p is α to the 256 - n + p
 --   search-skip                                       a row of places without a root
 --   search-start, search-hit, search-miss, search-done    one place after another
 --
@@ -74,8 +74,8 @@ pub horner-done : {c : List ℕ} {n x v : ℕ} → HornerFrom c n x 0 v → v �
 unfolding valueOf
 horner-done {c} {n} {x} {v} h = let e : n - 0 ≡ n = omega arith in sym (octet-element v (h .small)) ∙ ap octet (rw (e, from-zero) at (h .is))
 
-pub inverse-power : (n p : ℕ) → p < n → n ≤ longestWord → octet (inverses n p) ≡ Octet.power Octet.α (256 - n + p)
-inverse-power n p l h =
+pub inverse-of-place : (n p : ℕ) → p < n → n ≤ longestWord → octet (inverses n p) ≡ Octet.power Octet.α (256 - n + p)
+inverse-of-place n p l h =
     let e : Octet.order - (n - suc p) ≡ 256 - n + p = omega arith in
     ap octet (inverses-at n p) ∙ octet-pow (Octet.order - (n - suc p)) ∙ ap (Octet.power Octet.α) e
 

@@ -20,14 +20,6 @@ pub struct Places {
     pub count: usize,
 }
 
-// The inverse of the locator of place p of n.
-pub(crate) fn inverse_locator(n: usize, p: usize) -> u8
-    requires { ⌜ (p < n) × (n ≤ longestWord) ⌝ }
-    ensures { λ r. ⌜ r ≡ octet (inverses n p) ⌝ }
-{
-    field::power(ORDER - (n - 1 - p))
-}
-
 // One turn of Horner's rule at the 16 points α^k, α^(k + 1), ..
 fn turn(a: [u8; 16], powers: &[u8; LAID], k: usize, x: u8) -> [u8; 16]
     requires { ⌜ Laid (now powers) × (k + 23 ≤ laid) ⌝ }
@@ -65,20 +57,18 @@ fn values(c: &[u8; LONGEST_WORD], l: usize, k: usize, powers: &[u8; LAID]) -> [u
     a
 }
 
-// The values of the polynomial c, of degree at most l, at the inverses of the locators of the n places.
-fn all_values(c: &[u8; LONGEST_WORD], l: usize, n: usize) -> [u8; 272]
-    requires { ⌜ (l < longestWord) × (n ≤ longestWord) ⌝ }
-    ensures { λ r. ⌜ ((p : ℕ) → p < n → getD r p 0 ≡ valueOf (now (c .entry)) (l + 1) (octet (inverses n p))) ⌝ }
+// The values of the polynomial c, of degree at most l, at the inverses of the locators of the n places, into the front of v.
+fn all_values(c: &[u8; LONGEST_WORD], l: usize, n: usize, powers: &[u8; LAID], v: &mut [u8; 272])
+    requires { ⌜ (l < longestWord) × (n ≤ longestWord) × Laid (now powers) ⌝ }
+    ensures { λ _. ⌜ ((p : ℕ) → p < n → getD (now (v .exit)) p 0 ≡ valueOf (now (c .entry)) (l + 1) (octet (inverses n p))) ⌝ }
 {
-    let powers = field::powers();
-    let mut v = [0u8; 272];
+    let v = &mut v[..];
     let mut p: usize = 0;
     while p < n {
-        let a = values(c, l, ORDER + 1 - n + p, &powers);
-        octets::write(&mut v, p, &a);
+        let a = values(c, l, ORDER + 1 - n + p, powers);
+        octets::write(v, p, &a);
         p += 16;
     }
-    v
 }
 
 // The smaller of two.
@@ -143,11 +133,12 @@ fn next(p: usize, n: usize) -> usize
 }
 
 // All places of n at the inverse of whose locator the polynomial c, of degree at most l, is zero.
-pub(crate) fn search(c: &[u8; LONGEST_WORD], l: usize, n: usize) -> Places
-    requires { ⌜ (l < longestWord) × (n ≤ longestWord) ⌝ }
+pub(crate) fn search(c: &[u8; LONGEST_WORD], l: usize, n: usize, powers: &[u8; LAID]) -> Places
+    requires { ⌜ (l < longestWord) × (n ≤ longestWord) × Laid (now powers) ⌝ }
     ensures { λ r. ⌜ SearchIs n n l (now (c .entry)) (r .at) (r .count) ⌝ }
 {
-    let v = all_values(c, l, n);
+    let mut v = [0u8; 272];
+    all_values(c, l, n, powers, &mut v);
     let mut at = [0u8; LONGEST_WORD];
     let mut count: usize = 0;
     let mut p: usize = 0;

@@ -8,10 +8,10 @@ use Rattle.codeword.proofs.search.search.Statement.{statement}
 use Rattle.codeword.proofs.search.search.Tie as tie
 
 abbrev Inv-loop : tie.InvT-loop
-Inv-loop c l n v at₀ count₀ p₀ at count p = (p ≤ n) × SearchIs n p l c at count
+Inv-loop c l n powers v at₀ count₀ p₀ at count p = (p ≤ n) × SearchIs n p l c at count
 
 abbrev μ-loop : tie.MeasureT-loop
-μ-loop c l n v at₀ count₀ p₀ at count p = n - p
+μ-loop c l n powers v at₀ count₀ p₀ at count p = n - p
 
 loop-holds : tie.Need-loop-holds Inv-loop μ-loop
 loop-holds c = (search needs, search-start)
@@ -23,11 +23,12 @@ block-requires c κs =
 
 loop-again : tie.Need-loop-again Inv-loop μ-loop
 loop-again c =
-    let l = c .before .before .before .before .before .loop in
-    let a = c .before .before .before .before .before .before .before .args in (
+    let stepped = c .before .before .before in
+    let looped = stepped .before .before in
+    let valued = looped .before in
+    let a = valued .before .before .args in (
       search needs,
-      c .block .ensures .gathered (a .n) (a .l) _
-          (λ p m k. c .before .before .before .before .before .before .all-values .ensures p (omega (arith, c .before .before .before .next .ensures))) (l .inv .1),
+      c .block .ensures .gathered (a .n) (a .l) _ (λ p m k. valued .all-values .ensures p (omega (arith, stepped .next .ensures))) (looped .loop .inv .1),
     )
 
 returns : tie.Need-returns Inv-loop μ-loop
