@@ -1,6 +1,7 @@
 // Search for the roots of the error locator among the inverses of the places' locators: α^(256 - n), α^(257 - n), .. for the places of n
-// from the first on. Its values at 16 places in a row are worked out side by side.
+// from the first on. Its values at 16 places in a row are worked out side by side, and looked through only where the least of them is zero.
 use crate::LONGEST_WORD;
+use crate::lanes;
 use field::LAID;
 use field::ORDER;
 ghost use mathlib.Core.Path.{_≡_};
@@ -12,7 +13,7 @@ ghost use Rattle.codeword.specs.CodeWord.{longestWord};
 ghost use Rattle.codeword.specs.Element.{octet};
 ghost use Rattle.codeword.specs.Places.{inverses};
 ghost use Rattle.codeword.specs.Lanes.{lanes};
-ghost use Rattle.codeword.specs.Search.{valueOf, TurnedAt, SearchIs, Gathered};
+ghost use Rattle.codeword.specs.Search.{valueOf, TurnedAt, SearchIs, Least, Gathered};
 
 // The places found, rising from the front, and how many these are.
 pub struct Places {
@@ -73,15 +74,15 @@ fn all_values(c: &[u8; LONGEST_WORD], l: usize, n: usize, powers: &[u8; LAID], v
 
 // The smaller of two.
 fn smaller(a: u8, b: u8) -> u8
-    ensures { λ r. ⌜ (r ≤ a) × (r ≤ b) ⌝ }
+    ensures { λ r. ⌜ (r ≤ a) × (r ≤ b) × ((c : ℕ) → c ≤ a → c ≤ b → c ≤ r) ⌝ }
 {
     if a < b { a } else { b }
 }
 
-// The least of 16 octets of v from o on.
+// The least of 16 octets of v, from o on.
 fn least(v: &[u8; 272], o: usize) -> u8
-    requires { ⌜ o + 16 ≤ 272 ⌝ }
-    ensures { λ r. ⌜ ((i : ℕ) → i < lanes → r ≤ getD (now (v .entry)) (o + i) 0) ⌝ }
+    requires { ⌜ o + lanes ≤ 272 ⌝ }
+    ensures { λ r. ⌜ Least lanes o (now (v .entry)) r ⌝ }
 {
     let mut r: u8 = 255;
     let mut i: usize = 0;
@@ -92,10 +93,10 @@ fn least(v: &[u8; 272], o: usize) -> u8
     r
 }
 
-// The places from `from` on, up to and not at `to`, at which v is zero, listed behind the first `count`: how many are listed then.
+// `at` lists the `count` places below `from` at which v is zero: lists those below `to` too, and answers how many these are together.
 fn gather(v: &[u8; 272], from: usize, to: usize, at: &mut [u8; LONGEST_WORD], count: usize) -> usize
-    requires { ⌜ (count ≤ from) × (from ≤ to) × (to ≤ longestWord) ⌝ }
-    ensures { λ r. ⌜ Gathered from to (now (v .entry)) (now (at .entry)) count (now (at .exit)) r ⌝ }
+    requires { ⌜ Gathered from (now v) (now at) count × (from ≤ to) × (to ≤ longestWord) ⌝ }
+    ensures { λ r. ⌜ Gathered to (now (v .entry)) (now (at .exit)) r ⌝ }
 {
     let at = &mut at[..];
     let mut n = count;
@@ -110,26 +111,15 @@ fn gather(v: &[u8; 272], from: usize, to: usize, at: &mut [u8; LONGEST_WORD], co
     n
 }
 
-// The same where `to` is at most 16 on. Where the least of the 16 values is not zero, none is.
+// The same where `to` is at most 16 on: where the least of 16 values is not zero, none is.
 fn block(v: &[u8; 272], from: usize, to: usize, at: &mut [u8; LONGEST_WORD], count: usize) -> usize
-    requires { ⌜ (count ≤ from) × (from ≤ to) × (to ≤ longestWord) × (to ≤ from + 16) ⌝ }
-    ensures { λ r. ⌜ Gathered from to (now (v .entry)) (now (at .entry)) count (now (at .exit)) r ⌝ }
+    requires { ⌜ Gathered from (now v) (now at) count × (from ≤ to) × (to ≤ longestWord) × (to ≤ from + lanes) ⌝ }
+    ensures { λ r. ⌜ Gathered to (now (v .entry)) (now (at .exit)) r ⌝ }
 {
     if least(v, from) != 0 {
         return count;
     }
     gather(v, from, to, at, count)
-}
-
-// p and 16, but n at most.
-fn next(p: usize, n: usize) -> usize
-    requires { ⌜ (p < n) × (n ≤ longestWord) ⌝ }
-    ensures { λ r. ⌜ (p < r) × (r ≤ n) × (r ≤ p + 16) ⌝ }
-{
-    if n < p + 16 {
-        return n;
-    }
-    p + 16
 }
 
 // All places of n at the inverse of whose locator the polynomial c, of degree at most l, is zero.
@@ -143,7 +133,7 @@ pub(crate) fn search(c: &[u8; LONGEST_WORD], l: usize, n: usize, powers: &[u8; L
     let mut count: usize = 0;
     let mut p: usize = 0;
     while p < n {
-        let to = next(p, n);
+        let to = p + lanes::at_once(n - p);
         let listed = block(&v, p, to, &mut at, count);
         count = listed;
         p = to;

@@ -7,7 +7,6 @@ use crate::LONGEST_WORD;
 use crate::lanes;
 use field::LAID;
 use field::ORDER;
-ghost use mathlib.Core.Path.{_≡_};
 ghost use Prim.Native.Nat.{ℕ, _+_, _<_, _≤_};
 ghost use lib.ListN.{length, getD};
 ghost use Rattle.field.specs.Octet.Table.{Laid};
@@ -58,7 +57,13 @@ fn errors(o: &[u8; 256], d: &[u8; 64], l: usize, x: [u8; 16]) -> [u8; 16]
 }
 
 // The inverses of the locators of the `count` places that are listed from j on.
-fn points(at: &[u8; LONGEST_WORD], j: usize, count: usize, n: usize, powers: &[u8; LAID]) -> [u8; 16]
+fn points(
+    at: &[u8; LONGEST_WORD],
+    j: usize,
+    count: usize,
+    n: usize,
+    powers: &[u8; LAID],
+) -> [u8; 16]
     requires { ⌜ (count ≤ lanes) × (j + count ≤ longestWord) × (n ≤ longestWord) × Laid (now powers) ⌝ }
     requires { ⌜ ((i : ℕ) → i < j + count → getD (now at) i 0 < n) ⌝ }
     ensures { λ r. ⌜ Filled lanes count (λ k. octet (inverses n (getD (now (at .entry)) (j + k) 0))) r ⌝ }
@@ -88,16 +93,6 @@ fn add(w: &mut [u8], at: &[u8; LONGEST_WORD], j: usize, count: usize, y: [u8; 16
     }
 }
 
-// How many of n are taken at once: all, or 16 where there are more.
-fn at_once(n: usize) -> usize
-    ensures { λ r. ⌜ (r ≤ n) × (r ≤ lanes) × (0 < n → 0 < r) × (n < lanes → r ≡ n) × (lanes ≤ n → r ≡ lanes) ⌝ }
-{
-    if n < 16 {
-        return n;
-    }
-    16
-}
-
 // Adds the error value to the word of n octets at each of the l places.
 pub(crate) fn correct(
     w: &mut [u8],
@@ -115,7 +110,7 @@ pub(crate) fn correct(
 {
     let mut j: usize = 0;
     while j < l {
-        let count = at_once(l - j);
+        let count = lanes::at_once(l - j);
         let x = points(at, j, count, n, powers);
         let y = errors(o, d, l, x);
         add(w, at, j, count, y);

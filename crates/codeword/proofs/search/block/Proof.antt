@@ -12,8 +12,8 @@ returns c =
     let a = c .before .before .args in
     gathered-skip (search needs) (λ p m k e.
     let s : a .from + (p - a .from) ≡ p = omega arith in
-    let z = rw s at (c .before .least .ensures (p - a .from) (omega arith)) in
-    c .if1 .taken (omega (arith, z, e)))
+    let z = rw s at (c .before .least .ensures .least (p - a .from) (omega arith)) in
+    c .if1 .taken (omega (arith, z, e))) (c .before .before .pre .0)
 
 pub block-spec : {M : Type 1} → statement M
 block-spec =

@@ -28,15 +28,6 @@ place-inside c =
     let start = c .before .before .before in
     start .pre .1 (start .args .j + c .before .before .loop .k) (omega (arith, c .before .loop-test .taken))
 
-cast-p : tie.Need-cast-p Inv-loop μ-loop
-cast-p c = omega (arith, place-inside c, c .before .before .before .pre .0)
-
-add-x-2 : tie.Need-add-x-2 Inv-loop μ-loop
-add-x-2 c = record { fits = omega (arith, place-inside c, c .before .before .before .pre .0) }
-
-copy-out-x : tie.Need-element-copy-out-x Inv-loop μ-loop
-copy-out-x c = omega (arith, place-inside c, c .before .before .before .pre .0)
-
 loop-again : tie.Need-loop-again Inv-loop μ-loop
 loop-again c =
     let turn = c .before .before in
@@ -56,5 +47,5 @@ returns c =
 pub points-spec : {M : Type 1} → statement M
 points-spec =
     tie.close
-    (tie.spec Inv-loop μ-loop loop-holds (λ c. search needs) (λ c. search needs) cast-p (λ c. search needs) (λ c. search needs)
-    add-x-2 copy-out-x (λ c. search needs) (λ c. search needs) (λ c. search needs) loop-again returns)
+    (tie.spec Inv-loop μ-loop loop-holds (λ c. search needs) (λ c. search needs) (λ c. search (needs, place-inside c)) (λ c. search needs) (λ c. search needs)
+    (λ c. search (needs, place-inside c)) (λ c. search (needs, place-inside c)) (λ c. search needs) (λ c. search needs) (λ c. search needs) loop-again returns)
