@@ -4,13 +4,16 @@
 --   TurnedAt k x a b           one turn of Horner's rule at the points αᵏ, αᵏ⁺¹, ..: lane i of a becomes αᵏ⁺ⁱ a + x
 --   SearchIs n p l c at count  the first `count` numbers of `at` are, rising, all the first p places of n at the inverse of whose locator the
 --                              polynomial c of degree at most l is zero
+--   Least n o v r              r is the least of the n octets of v from o on, or 255 where there are none
+--   Gathered p v at count      the first `count` numbers of `at` are, rising, all the places below p at which v is zero
 --
 -- Assumes nothing.
 use mathlib.Core.Path.{_≡_}
 use mathlib.Core.List.{List}
-use Prim.Native.Nat.{ℕ, _+_, _≤_}
+use Prim.Native.Nat.{ℕ, _+_, _≤_, _<_}
 use lib.ListN.{length, getD}
 use Rattle.algebra.specs.Value.{ev}
+use Rattle.algebra.specs.Lists.{Lists}
 use Rattle.algebra.specs.Search.{Search}
 use Rattle.field.specs.Octet as Octet
 use Rattle.codeword.specs.Element.{elements, element, octet}
@@ -28,3 +31,12 @@ pub record SearchIs (n p l : ℕ) (c at : List ℕ) (count : ℕ) : Type 0 where
   pub long : length at ≡ longestWord
   pub few : count ≤ p
   pub search : Search elements p count l (places c) (inverses n) (λ j. getD at j 0)
+
+pub record Least (n o : ℕ) (v : List ℕ) (r : ℕ) : Type 0 where
+  pub least : (i : ℕ) → i < n → r ≤ getD v (o + i) 0
+  pub greatest : (b : ℕ) → b < Octet.size → ((i : ℕ) → i < n → b ≤ getD v (o + i) 0) → b ≤ r
+
+pub record Gathered (p : ℕ) (v at : List ℕ) (count : ℕ) : Type 0 where
+  pub long : length at ≡ longestWord
+  pub few : count ≤ p
+  pub lists : Lists p count (λ q. getD v q 0 ≡ 0) (λ j. getD at j 0)

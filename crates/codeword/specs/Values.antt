@@ -1,9 +1,10 @@
 -- What the step of the error values answers, 16 places at a time.
 --
 --   OddsAre l c d              d₀, d₁, .. are the odd ones of the first l + 1 coefficients of c
---   errorOf o d l x            Forney's value: that of o at x over that of d at x²
+--   errorOf o d l x            Forney's value for a locator of degree at most l: that of o at x over that of d at x²
 --   Added j m at y w v         at the m places that `at` lists from j on y is added to w; elsewhere v is as w
---   Corrected n l m at o d w v   at the first m places that `at` lists Forney's value is added to w; elsewhere v is as w
+--   Corrected n l m at o d w v   at the first m places of n that `at` lists Forney's value at the inverse of the place's locator is added to w;
+--                              elsewhere v is as w; v has octets
 --
 -- Assumes nothing.
 use mathlib.Core.Path.{_≡_}

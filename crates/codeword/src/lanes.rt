@@ -1,9 +1,20 @@
 // 16 octets side by side, the lanes. Each loop has the fixed length 16 and no test, and works on arrays of 16 by value: the compiler makes one
 // vector operation of a turn of it for all lanes, and keeps such an array in a register.
+ghost use mathlib.Core.Path.{_≡_};
 ghost use Prim.Native.Nat.{_+_, _≤_, _<_};
 ghost use lib.ListN.{length, getD};
 ghost use Rattle.field.specs.Octet;
 ghost use Rattle.codeword.specs.Lanes.{lanes, Lanes, OctetLanes, Stored, Summed};
+
+// How many of n are taken at once: all, or 16 where there are more.
+pub(crate) fn at_once(n: usize) -> usize
+    ensures { λ r. ⌜ (r ≤ n) × (r ≤ lanes) × (0 < n → 0 < r) × (n < lanes → r ≡ n) × (lanes ≤ n → r ≡ lanes) ⌝ }
+{
+    if n < 16 {
+        return n;
+    }
+    16
+}
 
 // 16 octets of s, from o on.
 pub(crate) fn load(s: &[u8], o: usize) -> [u8; 16]

@@ -9,6 +9,8 @@ mod search;
 mod syndromes;
 mod values;
 
+use field::LAID;
+ghost use Rattle.field.specs.Octet.Table.{Laid};
 ghost use Rattle.codeword.specs.Encoding.{Encoded};
 ghost use Rattle.codeword.specs.Syndromes.{Decodable};
 ghost use Rattle.codeword.specs.Repair.{Repaired};
@@ -52,10 +54,12 @@ fn decode(
     received: &[u8],
     s: &[u8; LONGEST_WORD],
     e: usize,
+    powers: &[u8; LAID],
     repaired: &mut [u8],
     places: &mut [u8],
 ) -> Reach
     requires { ⌜ Decodable e (now received) (record { repair = now repaired; places = now places }) (now s) ⌝ }
+    requires { ⌜ Laid (now powers) ⌝ }
     ensures { λ r. ⌜ Repaired e (now (received .entry)) (record { repair = now (repaired .entry); places = now (places .entry) }) r
         (record { repair = now (repaired .exit); places = now (places .exit) }) ⌝ }
 {
@@ -66,7 +70,7 @@ fn decode(
         return Reach::OutOfReach;
     }
     let c = recurrence.coefficients;
-    let roots = search::search(&c, l, n);
+    let roots = search::search(&c, l, n, powers);
     let count = roots.count;
     if count != l {
         return Reach::OutOfReach;
@@ -75,7 +79,7 @@ fn decode(
     let o = recurrence.evaluator;
     let d = values::odds(&c, l);
     octets::write(repaired, 0, received);
-    values::correct(repaired, n, &at, l, &o, &d);
+    values::correct(repaired, n, &at, l, &o, &d, powers);
     octets::write(places, 0, &at[..l]);
     Reach::Found(l)
 }
@@ -103,10 +107,11 @@ pub fn repair(received: &[u8], e: usize, repaired: &mut [u8], places: &mut [u8])
     if places.len() < e {
         return Reach::OutOfReach;
     }
+    let powers = field::powers();
     let s = syndromes::syndromes(received, 2 * e);
     if syndromes::clean(&s, 2 * e) {
         octets::write(repaired, 0, received);
         return Reach::Found(0);
     }
-    decode(received, &s, e, repaired, places)
+    decode(received, &s, e, &powers, repaired, places)
 }

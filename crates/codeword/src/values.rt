@@ -5,10 +5,11 @@
 // so its value at x is that of c[1], c[3], c[5], .. at x^2. Sixteen places are taken at once.
 use crate::LONGEST_WORD;
 use crate::lanes;
-use crate::search;
-ghost use mathlib.Core.Path.{_≡_};
+use field::LAID;
+use field::ORDER;
 ghost use Prim.Native.Nat.{ℕ, _+_, _<_, _≤_};
 ghost use lib.ListN.{length, getD};
+ghost use Rattle.field.specs.Octet.Table.{Laid};
 ghost use Rattle.codeword.specs.CodeWord.{longestWord};
 ghost use Rattle.codeword.specs.Lanes.{lanes, Filled, Lanes};
 ghost use Rattle.codeword.specs.Element.{octet};
@@ -56,8 +57,14 @@ fn errors(o: &[u8; 256], d: &[u8; 64], l: usize, x: [u8; 16]) -> [u8; 16]
 }
 
 // The inverses of the locators of the `count` places that are listed from j on.
-fn points(at: &[u8; LONGEST_WORD], j: usize, count: usize, n: usize) -> [u8; 16]
-    requires { ⌜ (count ≤ lanes) × (j + count ≤ longestWord) × (n ≤ longestWord) ⌝ }
+fn points(
+    at: &[u8; LONGEST_WORD],
+    j: usize,
+    count: usize,
+    n: usize,
+    powers: &[u8; LAID],
+) -> [u8; 16]
+    requires { ⌜ (count ≤ lanes) × (j + count ≤ longestWord) × (n ≤ longestWord) × Laid (now powers) ⌝ }
     requires { ⌜ ((i : ℕ) → i < j + count → getD (now at) i 0 < n) ⌝ }
     ensures { λ r. ⌜ Filled lanes count (λ k. octet (inverses n (getD (now (at .entry)) (j + k) 0))) r ⌝ }
 {
@@ -65,7 +72,7 @@ fn points(at: &[u8; LONGEST_WORD], j: usize, count: usize, n: usize) -> [u8; 16]
     let mut k: usize = 0;
     while k < count {
         let p = at[j + k] as usize;
-        x[k] = search::inverse_locator(n, p);
+        x[k] = powers[ORDER + 1 - n + p];
         k += 1;
     }
     x
@@ -86,16 +93,6 @@ fn add(w: &mut [u8], at: &[u8; LONGEST_WORD], j: usize, count: usize, y: [u8; 16
     }
 }
 
-// How many of n are taken at once: all, or 16 where there are more.
-fn at_once(n: usize) -> usize
-    ensures { λ r. ⌜ (r ≤ n) × (r ≤ lanes) × (0 < n → 0 < r) × (n < lanes → r ≡ n) × (lanes ≤ n → r ≡ lanes) ⌝ }
-{
-    if n < 16 {
-        return n;
-    }
-    16
-}
-
 // Adds the error value to the word of n octets at each of the l places.
 pub(crate) fn correct(
     w: &mut [u8],
@@ -104,16 +101,17 @@ pub(crate) fn correct(
     l: usize,
     o: &[u8; 256],
     d: &[u8; 64],
+    powers: &[u8; LAID],
 )
-    requires { ⌜ (n ≤ longestWord) × (n ≤ length (now w)) × (l < 128) ⌝ }
+    requires { ⌜ (n ≤ longestWord) × (n ≤ length (now w)) × (l < 128) × Laid (now powers) ⌝ }
     requires { ⌜ ((j : ℕ) → j < l → getD (now at) j 0 < n) ⌝ }
     requires { ⌜ ((i j : ℕ) → i < j → j < l → getD (now at) i 0 < getD (now at) j 0) ⌝ }
     ensures { λ _. ⌜ Corrected n l l (now (at .entry)) (now (o .entry)) (now (d .entry)) (now (w .entry)) (now (w .exit)) ⌝ }
 {
     let mut j: usize = 0;
     while j < l {
-        let count = at_once(l - j);
-        let x = points(at, j, count, n);
+        let count = lanes::at_once(l - j);
+        let x = points(at, j, count, n, powers);
         let y = errors(o, d, l, x);
         add(w, at, j, count, y);
         j += count;

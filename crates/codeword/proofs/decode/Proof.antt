@@ -20,7 +20,7 @@ returns c =
       none =
           λ fits. long-lost (a .e) (now (a .received)) (now (a .s)) _ _ (search needs)
           (λ i. c .before .before .before .before .shared-slice-known .given i .fits)
-          (start .pre .syndromes) (c .before .locator .ensures .0) (c .if1 .taken);
+          (start .pre .0 .syndromes) (c .before .locator .ensures .0) (c .if1 .taken);
       same = refl;
     }
 
@@ -33,7 +33,7 @@ returns-2 c =
       none =
           λ fits. roots-lost (a .e) (now (a .received)) (now (a .s)) _ _ (search needs)
           (λ i. located .before .before .before .shared-slice-known .given i .fits)
-          (start .pre .syndromes) (located .locator .ensures .0) _ _ (c .before .before .before .before .if1 .left) (c .before .search .ensures) (c .if2 .taken);
+          (start .pre .0 .syndromes) (located .locator .ensures .0) _ _ (c .before .before .before .before .if1 .left) (c .before .search .ensures) (c .if2 .taken);
       same = refl;
     }
 
@@ -44,8 +44,8 @@ correct-requires c κs =
     let short = all .before .before .before .before .if1 .left in
     let start = all .before .before .before .before .before .before .before .before .before in
     let s = all .before .search .ensures in
-    let pre = start .pre in (
-      (search needs, omega (arith, copied .write .kept .0, pre), omega (arith, short, pre)),
+    let pre = start .pre .0 in (
+      (search needs, omega (arith, copied .write .kept .0, pre), omega (arith, short, pre), start .pre .1),
       (λ j h. s .search .inside j (omega arith), λ i j h k. s .search .rises i j h (omega arith)),
     )
 
@@ -61,14 +61,14 @@ module _ (c : tie.After-write-arg2) where
   few = found .before .before .before .before .if1 .left
 
   inside : degree ≤ length (found .before .search .result .at)
-  inside = omega (arith, found .before .search .ensures .long, few, found .before .before .before .before .before .before .before .before .before .pre)
+  inside = omega (arith, found .before .search .ensures .long, few, found .before .before .before .before .before .before .before .before .before .pre .0)
 
   listed : length (take degree (found .before .search .result .at)) ≡ degree
   listed = length-take-le degree (found .before .search .result .at) inside
 
 write-requires-2 : tie.Need-write-requires-2
 write-requires-2 c κs =
-    rw (listed (c .before)) (omega (arith, few (c .before), found (c .before) .before .before .before .before .before .before .before .before .before .pre .list))
+    rw (listed (c .before)) (omega (arith, few (c .before), found (c .before) .before .before .before .before .before .before .before .before .before .pre .0 .list))
 
 returns-3 : tie.Need-returns-3
 returns-3 c =
@@ -80,7 +80,7 @@ returns-3 c =
     let located = all .before .before .before .before .before in
     let start = located .before .before .before .before in
     let a = start .args in
-    let pre = start .pre in
+    let pre = start .pre .0 in
     let l = located .locator in
     let s = all .before .search in
     let n = length (now (a .received)) in

@@ -33,7 +33,7 @@ returns-6 : tie.Need-returns-6
 returns-6 c =
     let tested = c .before .before .before .before .before in
     let formed = tested .before .before in
-    let fits = formed .before in
+    let fits = formed .before .before in
     let short = fits .before .before .before .before in
     let known = short .before .before .before in
     let a = known .before .args in
@@ -45,11 +45,11 @@ returns-6 c =
 
 decode-requires : tie.Need-decode-requires
 decode-requires c κs =
-    record { short = search needs; parity = search needs; room = search needs; list = search needs; syndromes = search needs }
+    (record { short = search needs; parity = search needs; room = search needs; list = search needs; syndromes = search needs }, search needs)
 
 pub repair-spec : {M : Type 1} → statement M
 repair-spec =
     tie.close
-    (tie.spec returns returns-2 (λ c. search needs) returns-3 returns-4 returns-5 (λ c. search needs)
+    (tie.spec returns returns-2 (λ c. search needs) returns-3 returns-4 returns-5 (λ c κs. search needs) (λ c. search needs)
     (λ c κs. search needs) (λ c. search needs) (λ c κs. search needs) (λ c κs. search needs) (λ c. search needs) returns-6
     decode-requires (λ c. search needs) (λ c. search needs) (λ c. search needs))

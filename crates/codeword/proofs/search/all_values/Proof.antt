@@ -11,7 +11,7 @@ use Rattle.codeword.specs.Places.{inverses}
 use Rattle.codeword.specs.Lanes.{lanes}
 use Rattle.codeword.specs.Search.{valueOf}
 use Rattle.codeword.proofs.Columns.{Blocks, blocks-next}
-use Rattle.codeword.proofs.Searching.{inverse-power}
+use Rattle.codeword.proofs.Searching.{inverse-of-place}
 use Rattle.codeword.proofs.search.all_values.Statement.{statement}
 use Rattle.codeword.proofs.search.all_values.Tie as tie
 
@@ -22,20 +22,21 @@ abbrev μ-loop : tie.MeasureT-loop
 μ-loop c l n powers v₀ p₀ v p = n + lanes - p
 
 loop-holds : tie.Need-loop-holds Inv-loop μ-loop
-loop-holds c = (search needs, refl, refl, λ i l. absurd (omega arith))
+loop-holds c = (search needs, refl, search needs, λ i l. absurd (omega arith))
 
 loop-again : tie.Need-loop-again Inv-loop μ-loop
 loop-again c =
-    let valued = c .before .before .before .before in
-    let l = valued .before .before .before .loop in
-    let a = valued .before .before .before .before .before .args in
+    let wrote = c .before .before in
+    let valued = wrote .before .before .before in
+    let l = valued .before .before .loop in
+    let a = valued .before .before .before .before .args in
     let f = now (a .c) in (
       search needs,
       omega (arith, l .inv .1),
       search needs,
-      (rw (c .before .write .ensures)
+      (rw (wrote .write .ensures)
           (blocks-next (λ q y. y ≡ valueOf f (a .l + 1) (octet (inverses (a .n) q))) (l .p) (a .n) (l .v) _ (omega (arith, l .inv .1, l .inv .2)) (search needs) (l .inv .3)
-          (λ j k m. valued .values .ensures j k ∙ ap (valueOf f (a .l + 1)) (sym (inverse-power (a .n) (l .p + j) m (search needs) ∙ ap (Octet.power Octet.α) (omega arith)))))),
+          (λ j k m. valued .values .ensures j k ∙ ap (valueOf f (a .l + 1)) (sym (inverse-of-place (a .n) (l .p + j) m (search needs) ∙ ap (Octet.power Octet.α) (omega arith)))))),
     )
 
 returns : tie.Need-returns Inv-loop μ-loop
@@ -46,6 +47,6 @@ returns c =
 pub all-values-spec : {M : Type 1} → statement M
 all-values-spec =
     tie.close
-    (tie.spec Inv-loop μ-loop (λ c κs. search needs) loop-holds (λ c. search needs) (λ c. search needs)
-    (λ c. search needs) (λ c κs. search needs) (λ c. search needs) (λ c. search needs) (λ c κs. search needs)
+    (tie.spec Inv-loop μ-loop loop-holds (λ c. search needs) (λ c. search needs)
+    (λ c. search needs) (λ c κs. search needs) (λ c. search needs) (λ c κs. search needs)
     (λ c. search needs) (λ c. search needs) loop-again returns)

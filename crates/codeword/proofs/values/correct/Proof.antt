@@ -9,10 +9,10 @@ use Rattle.codeword.proofs.values.correct.Statement.{statement}
 use Rattle.codeword.proofs.values.correct.Tie as tie
 
 abbrev Inv-loop : tie.InvT-loop
-Inv-loop w₀ n at l o d j₀ w j = (j ≤ l) × Corrected n l j at o d w₀ w
+Inv-loop w₀ n at l o d powers j₀ w j = (j ≤ l) × Corrected n l j at o d w₀ w
 
 abbrev μ-loop : tie.MeasureT-loop
-μ-loop w₀ n at l o d j₀ w j = l - j
+μ-loop w₀ n at l o d powers j₀ w j = l - j
 
 loop-holds : tie.Need-loop-holds Inv-loop μ-loop
 loop-holds c = (search needs, corrected-start (λ i. c .slice-known .given i .fits))
@@ -21,7 +21,7 @@ points-requires : tie.Need-points-requires Inv-loop μ-loop
 points-requires c κs =
     let pre = c .before .before .before .before .pre in
     let few = c .at-once .ensures in
-    ((few .1, omega (arith, few, pre .0), pre .0 .0), λ i h. pre .1 .0 i (omega (arith, few)))
+    ((few .1, omega (arith, few, pre .0), pre .0 .0, pre .0 .3), λ i h. pre .1 .0 i (omega (arith, few)))
 
 add-requires : tie.Need-add-requires Inv-loop μ-loop
 add-requires c κs =
