@@ -5,7 +5,6 @@
 --   spread-entry                     .. of the powers in the list
 --   upper-start, upper-next          one block of ratios after another
 --   upper-end                        .. which are all
---   divisors-octets                  .. whose divisors are octets
 --   doubled-start, doubled-next      one block of products after another, from the top
 --   doubled-end, upper-doubled       .. which doubles the distance
 --   upper-half                       over the whole distance the coefficients are there
@@ -35,7 +34,7 @@ use Rattle.field.specs.Octet.Laws.{sum-octet, power-octet, power-zero, power-su
 use Rattle.codeword.specs.Element.{elements, element, octet, α}
 use Rattle.codeword.specs.Element.Laws.{element-sum, element-product, element-inverse, element-power, element-one, element-ne, octet-pow}
 use Rattle.codeword.specs.CodeWord.{longestWord}
-use Rattle.codeword.specs.Lanes.{lanes, Lanes, OctetLanes, Stored}
+use Rattle.codeword.specs.Lanes.{lanes, Lanes, Stored}
 use Rattle.codeword.specs.Register.{G, ones, room, GeneratorIs}
 use Rattle.codeword.specs.Generator.{coefficient, Upper, Doubled, Half, rise}
 use Rattle.codeword.proofs.Arrays.{replicate-is}
@@ -129,12 +128,6 @@ upper-next r {e} {o} {last} {x} {y} {z} {a} {p} {q} h pw l el lx ly lz la st u =
         let n : 2 * e + 1 ≡ suc (2 * e) = omega arith in
         rw (la .entry k b, ly .entry k b, lz .entry k b, lx .entry k b, el, pw j (omega arith), pw (2 * e + 1) (omega arith), above, there, n)
         (ratio-next (2 * e) (2 * e - j) j (omega arith) (omega arith) (omega arith))
-
--- what they are divided by
-pub divisors-octets : (r : List ℕ) {o : ℕ} {x z : List ℕ} → Laid r → o < longestWord → Lanes (λ k. getD r (o + 1 + k) 0) x
-    → Lanes (λ k. Octet.sum (getD x k 0) 1) z → OctetLanes z
-divisors-octets r {o} pw b lx lz k l =
-    rw (lz .entry k l, lx .entry k l, pw (o + 1 + k) (omega arith)) (sum-octet _ _ (power-octet _ (o + 1 + k)) (lit< tt))
 
 pub upper-end : {e s n : ℕ} {p : List ℕ} → e ≤ n → Upper e s (suc ones + n) p → Upper e s (suc ones + e) p
 upper-end l u = record { long = u .long; each = λ i b. u .each i (omega arith) }

@@ -3,7 +3,6 @@ pub mod Arrays
 pub mod Word
 pub mod Criterion
 pub mod Laning
-pub mod Inverting
 pub mod Columns
 pub mod Filling
 pub mod Folds

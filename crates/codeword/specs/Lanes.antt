@@ -3,7 +3,6 @@
 --   lanes               how many there are
 --   Filled z n f r      r has z entries, and the first n of them are f₀, .., fₙ₋₁
 --   Lanes f r           .. and they are all: f₀, .., f₁₅
---   OctetLanes r        the 16 entries of r are octets
 --   Stored n o a s t    t is s with the first n entries of a written over it from o on
 --   Summed n a b r      r is the octet a₀ b₀ + .. + aₙ₋₁ bₙ₋₁
 --
@@ -29,9 +28,6 @@ pub record Filled (z n : ℕ) (f : ℕ → ℕ) (r : List ℕ) : Type 0 where
 
 abbrev pub Lanes : (ℕ → ℕ) → List ℕ → Type 0
 Lanes f r = Filled lanes lanes f r
-
-abbrev pub OctetLanes : List ℕ → Type 0
-OctetLanes r = (k : ℕ) → k < lanes → getD r k 0 < size
 
 pub record Stored (n o : ℕ) (a s t : List ℕ) : Type 0 where
   pub long : length t ≡ length s

@@ -4,7 +4,7 @@ ghost use mathlib.Core.Path.{_≡_};
 ghost use Prim.Native.Nat.{_+_, _≤_, _<_};
 ghost use lib.ListN.{length, getD};
 ghost use Rattle.field.specs.Octet;
-ghost use Rattle.codeword.specs.Lanes.{lanes, Lanes, OctetLanes, Stored, Summed};
+ghost use Rattle.codeword.specs.Lanes.{lanes, Lanes, Stored, Summed};
 
 // How many of n are taken at once: all, or 16 where there are more.
 pub(crate) fn at_once(n: usize) -> usize
@@ -107,30 +107,17 @@ pub(crate) fn mixed(f: u8, b: [u8; 16], c: [u8; 16]) -> [u8; 16]
     r
 }
 
-// What a is to be multiplied by to give 1, and 0 where a is 0: a to the 254.
-fn inverses(a: [u8; 16]) -> [u8; 16]
-    requires { ⌜ OctetLanes a ⌝ }
-    ensures { λ r. ⌜ Lanes (λ k. Octet.inverse (getD a k 0)) r ⌝ }
-{
-    let a2 = products(a, a);
-    let a3 = products(a2, a);
-    let a6 = products(a3, a3);
-    let a12 = products(a6, a6);
-    let a14 = products(a12, a2);
-    let a15 = products(a12, a3);
-    let a30 = products(a15, a15);
-    let a60 = products(a30, a30);
-    let a120 = products(a60, a60);
-    let a240 = products(a120, a120);
-    products(a240, a14)
-}
-
 // b over a; 0 where a is 0.
 pub(crate) fn quotients(b: [u8; 16], a: [u8; 16]) -> [u8; 16]
-    requires { ⌜ OctetLanes a ⌝ }
     ensures { λ r. ⌜ Lanes (λ k. Octet.product (getD b k 0) (Octet.inverse (getD a k 0))) r ⌝ }
 {
-    products(b, inverses(a))
+    let mut r = [0u8; 16];
+    let mut k = 0;
+    while k < 16 {
+        r[k] = field::product(b[k], field::inverse(a[k]));
+        k += 1;
+    }
+    r
 }
 
 // The sum of all a b.

@@ -14,7 +14,7 @@
 --
 -- The definitions are shut. Only the modules below this one may open them; all others, and every other crate, have `Octet.Laws`, and of
 -- `Octet.Table` what the table is, and a product that can be computed. `Octet.Exactly` is a claim: the product in the paper's words.
--- `Octet.Steps` is for the proofs of this crate's functions alone (`tests/heads`).
+-- `Octet.Steps` is for this crate's functions alone (`tests/heads`).
 -- Assumes nothing.
 use Prim.Native.Nat.{ℕ, zero, suc, _-_, _*_, _/_, _%_}
 use lib.Bits.{bitXor}

@@ -1,11 +1,14 @@
 // The field of 256 elements of 003, D.4.1.7.3: sum, product, inverse and the powers of α. Every octet and every number is answered; only
 // the product by a power out of a row of them asks for such a row.
 // The definitions are in specs/Octet.antt; what the layers above may use of them is specs/Octet/Laws.antt, and of the
-// table specs/Octet/Table.antt. The one table is that of the powers: a product is worked out by shifting and adding.
+// table specs/Octet/Table.antt. The one table is that of the powers: a product is worked out by shifting and adding, and an inverse by products
+// and by the images of 1, x, .., x^7.
 ghost use mathlib.Core.Path.{_≡_};
 ghost use Prim.Native.Nat.{_+_, _≤_};
 ghost use lib.Dec.{T};
+ghost use lib.ListN.{length};
 ghost use Rattle.field.specs.Octet;
+ghost use Rattle.field.specs.Octet.Steps;
 ghost use Rattle.field.specs.Octet.Table;
 
 // α's order: the number of its powers, which are all the elements but 0.
@@ -36,6 +39,15 @@ const POWERS: [u8; ORDER] = *b"\
     \x51\xa2\x59\xb2\x79\xf2\xf9\xef\xc3\x9b\x2b\x56\xac\x45\x8a\x09\
     \x12\x24\x48\x90\x3d\x7a\xf4\xf5\xf7\xf3\xfb\xeb\xcb\x8b\x0b\x16\
     \x2c\x58\xb0\x7d\xfa\xe9\xcf\x83\x1b\x36\x6c\xd8\xad\x47\x8e";
+
+// The images of squaring: 1, x, .., x^7, each to the 2.
+const SQUARES: [u8; 8] = [0x01, 0x04, 0x10, 0x40, 0x1D, 0x74, 0xCD, 0x13];
+
+// Each to the 4.
+const FOURTHS: [u8; 8] = [0x01, 0x10, 0x1D, 0xCD, 0x4C, 0xB4, 0x8F, 0x18];
+
+// Each to the 16.
+const SIXTEENTHS: [u8; 8] = [0x01, 0x4C, 0x9D, 0x46, 0x5F, 0xFD, 0xD9, 0x81];
 
 // a + b, which is a - b too.
 pub fn sum(a: u8, b: u8) -> u8
@@ -68,17 +80,33 @@ pub fn product(a: u8, b: u8) -> u8
     total
 }
 
-// The octet whose product with a is 1, and 0 for 0, which has none: a to the 254, by way of a to the 1, 3, 7, .., 127.
+// What an additive function gives at b, by its images, which are its values at 1, x, .., x^7: each is counted by its bit of b.
+fn mapped(images: &[u8], b: u8) -> u8
+    requires { ⌜ 8 ≤ length (now images) ⌝ }
+    ensures { λ r. ⌜ Steps.Mapped (now (images .entry)) b r ⌝ }
+{
+    let mut total: u8 = 0;
+    let mut bits = b;
+    let mut j: usize = 0;
+    while j < 8 {
+        total = sum(total, bits % 2 * images[j]);
+        bits >>= 1;
+        j += 1;
+    }
+    total
+}
+
+// The octet whose product with a is 1, and 0 for 0, which has none: a to the 254, which is 14 and 240. A product adds exponents. Squaring is
+// additive, since a b + b a = 0, and so are raising to the 4 and to the 16, which are squaring over and over: these three are mapped.
 pub fn inverse(a: u8) -> u8
     ensures { λ r. ⌜ r ≡ Octet.inverse a ⌝ }
 {
-    let mut r = a;
-    let mut n: usize = 1;
-    while n < 7 {
-        r = product(a, product(r, r));
-        n += 1;
-    }
-    product(r, r)
+    let a2 = mapped(&SQUARES, a);
+    let a3 = product(a, a2);
+    let a12 = mapped(&FOURTHS, a3);
+    let a14 = product(a2, a12);
+    let a240 = mapped(&SIXTEENTHS, product(a3, a12));
+    product(a14, a240)
 }
 
 // α to the k: the powers come round after the order.

@@ -1,4 +1,4 @@
--- The steps by which the code works out a product, an inverse and a row of powers, for the proofs of its functions and no other crate (`tests/heads`).
+-- The steps by which the code works out a product, an inverse and a row of powers, for the functions of this crate and no other (`tests/heads`).
 --
 --   shifted a        a one bit higher; where that pushes out an x^8, what the modulus has below it is added for it
 --   double-shifted   .. which is x a
@@ -8,31 +8,39 @@
 --   product-end      when no bit is left, it is what has been given
 --   power-double     x αᵏ is αᵏ⁺¹
 --   laid-twice       the powers, written once and once more behind, are a row of powers
---   inverse-begin    a is a to the 2ⁿ - 1 at n = 1;
---   inverse-step     its square times a goes on to n + 1;
---   inverse-end      its square at n = 7 is the inverse
+--   Images f p       the entries of p are what f gives at 1, x, .., x^7
+--   Mapped p b r     r is what each additive function gives at b whose images are p
+--   Mapping p b j x t   on the way to it: t, and what is given at x, the bits of b from place j on, put back at their places
+--   mapped-begin     at first that is nothing, and all bits;
+--   mapped-step      one bit gives its image, and the others go on one place higher;
+--   mapped-end       when no bit is left, it is what has been given
+--   isRaised k p     the test of all entries of p: they are 1, x, .., x^7, each to the k
+--   mapped-power     what is mapped by such images is the power, where k is a power of 2
+--   inverse-is       the inverse of a is a to the 254
 --
 -- Assumes nothing.
-use mathlib.Core.Path.{_≡_, sym, ap, ap₂, _∙_}
+use mathlib.Core.Path.{_≡_, refl, sym, ap, _∙_}
 use mathlib.Core.Logic.{inl}
 use mathlib.Core.Bool.{Bool}
 use mathlib.Core.List.{List}
-use Prim.Native.Nat.{ℕ, suc, _+_, _-_, _*_, _/_, _%_, _^_, _≤_, _<_}
+use Prim.Native.Nat.{ℕ, zero, suc, _+_, _-_, _*_, _/_, _%_, _^_, _≤_, _<_}
 use native.Mathlib.Omega.{arith}
 use native.Mathlib.Numerals.{add-one}
-use native.Mathlib.Nat.{mod-eq-of-lt, pow-suc, zero-add}
+use native.Mathlib.Nat.{mod-eq-of-lt, div-add-mod', div-one, div-eq-of-lt, pow-suc, zero-add, zero-mul, one-mul, mul-one, mul-comm, mul-assoc, add-mul, mul-lt-mul-of-pos-right}
 use lib.Dec.{T, eqb, eqb→eq}
-use lib.Pow.{pow-pos}
+use lib.Pow.{pow-pos, shr-shr}
+use lib.Bits.{xor-shifted}
 use lib.ListN.{length, getD}
 use native.Mathlib.Decide.{decLt}
 use Rattle.octets.specs.Written.{written, written-length, written-inside, written-outside}
 use Rattle.octets.specs.Every.{every, every-at}
 use Rattle.field.specs.Octet.{sum, modulus, double, times, product, power, inverse, size, α, order}
 use Rattle.field.specs.Octet.Xor.{bit-lt}
-use Rattle.field.specs.Octet.Sum.{sum-assoc, sum-zero, sum-comm}
+use Rattle.field.specs.Octet.Sum.{sum-xor, sum-assoc, sum-zero, sum-comm}
 use Rattle.field.specs.Octet.Product.{bit-octet}
-use Rattle.field.specs.Octet.Ring.{product-one, alpha-product}
-use Rattle.field.specs.Octet.Power.{power-zero, power-suc, power-octet, power-add}
+use Rattle.field.specs.Octet.Ring.{alpha-product}
+use Rattle.field.specs.Octet.Basis.{Additive, additive-zero}
+use Rattle.field.specs.Octet.Power.{power-suc, power-octet, sum-power}
 use Rattle.field.specs.Octet.Table.{isDoubled, powers-at, laid, Laid}
 use Rattle.field.specs.Octet.Inverse.{power-wrap}
 
@@ -88,15 +96,60 @@ laid-twice d p long short h k l = go (decLt k order)
         ap (λ (n : ℕ). getD (written once order p) n 0) e ∙ written-inside once order p room j 0 (omega arith)
         ∙ powers-at p h j (omega arith) ∙ ap (power α) (sym r) ∙ power-wrap k
 
-pub inverse-begin : (a : ℕ) → a < size → a ≡ power a (2 ^ 1 - 1)
-inverse-begin a h = sym (power-suc a 0 ∙ ap (product a) (power-zero a) ∙ product-one a h)
+-- ---- images
 
-pub inverse-step : (a n r : ℕ) → r ≡ power a (2 ^ n - 1) → product a (product r r) ≡ power a (2 ^ (n + 1) - 1)
-inverse-step a n r h =
-    let k = 2 ^ n - 1 in
-    let e : suc (k + k) ≡ 2 ^ (n + 1) - 1 = omega (arith, pow-pos n, ap (λ (m : ℕ). 2 ^ m) (add-one n) ∙ pow-suc 2 n) in
-    ap (product a) (ap₂ product h h ∙ sym (power-add a k k)) ∙ sym (power-suc a (k + k)) ∙ ap (power a) e
+abbrev pub Images : (ℕ → ℕ) → List ℕ → Type 0
+Images f p = (i : ℕ) → i < 8 → getD p i 0 ≡ f (2 ^ i)
 
-pub inverse-end : (a r : ℕ) → r ≡ power a (2 ^ 7 - 1) → product r r ≡ inverse a
+pub record Mapped (p : List ℕ) (b r : ℕ) : Type 0 where
+  pub value : (f : ℕ → ℕ) → Additive f → Images f p → r ≡ f b
+
+-- b's lowest bit, and what is above it, at place j
+bit-above : (b j : ℕ) → sum (b % 2 * 2 ^ j) (b / 2 * 2 ^ (j + 1)) ≡ b * 2 ^ j
+bit-above b j =
+    let e : 2 ^ (j + 1) ≡ 2 * 2 ^ j = ap (λ (m : ℕ). 2 ^ m) (add-one j) ∙ pow-suc 2 j ∙ mul-comm (2 ^ j) 2 in
+    sum-comm _ _ ∙ sum-xor _ _ ∙ xor-shifted (b / 2) (j + 1) (b % 2 * 2 ^ j) (rw e (mul-lt-mul-of-pos-right (bit-lt b) (pow-pos j)))
+    ∙ (rw e (ap (λ (x : ℕ). x + b % 2 * 2 ^ j) (sym (mul-assoc (b / 2) 2 (2 ^ j))) ∙ sym (add-mul (b / 2 * 2) (b % 2) (2 ^ j))))
+    ∙ ap (λ (x : ℕ). x * 2 ^ j) (div-add-mod' b 2)
+
+-- an additive function of a bit at place j
+bit-image : (f : ℕ → ℕ) → Additive f → (x j : ℕ) → x < 2 → f (x * 2 ^ j) ≡ x * f (2 ^ j)
+bit-image f h zero j l = ap f (zero-mul (2 ^ j)) ∙ additive-zero f h ∙ sym (zero-mul (f (2 ^ j)))
+bit-image f h (suc zero) j l = ap f (one-mul (2 ^ j)) ∙ sym (one-mul (f (2 ^ j)))
+bit-image f h (suc (suc x)) j l = absurd (omega arith)
+
+pub record Mapping (p : List ℕ) (b j x t : ℕ) : Type 0 where
+  pub left : x ≡ b / 2 ^ j
+  pub whole : (f : ℕ → ℕ) → Additive f → Images f p → sum t (f (x * 2 ^ j)) ≡ f b
+
+pub mapped-begin : (p : List ℕ) (b : ℕ) → Mapping p b 0 b 0
+mapped-begin p b = record { left = sym (div-one b); whole = λ f h v. sum-comm 0 _ ∙ sum-zero _ ∙ ap f (mul-one b) }
+
+pub mapped-step : {p : List ℕ} {b x t : ℕ} (j : ℕ) → j < 8 → Mapping p b j x t → Mapping p b (j + 1) (x / 2) (sum t (x % 2 * getD p j 0))
+mapped-step {b = b} {x = x} {t = t} j l m = record {
+  left = ap (λ (y : ℕ). y / 2) (m .left) ∙ shr-shr b j 1;
+  whole = λ f h v. sum-assoc t _ _
+      ∙ ap (sum t) (ap (λ (y : ℕ). sum y (f (x / 2 * 2 ^ (j + 1)))) (ap (λ (y : ℕ). x % 2 * y) (v j l) ∙ sym (bit-image f h (x % 2) j (bit-lt x)))
+      ∙ sym (h (x % 2 * 2 ^ j) (x / 2 * 2 ^ (j + 1))) ∙ ap f (bit-above x j))
+      ∙ m .whole f h v;
+}
+
+pub mapped-end : {p : List ℕ} {b x t : ℕ} → b < size → Mapping p b 8 x t → Mapped p b t
+mapped-end {t = t} l m = record {
+  value = λ f h v. sym (ap (sum t) (ap f (ap (λ (y : ℕ). y * 2 ^ 8) (m .left ∙ div-eq-of-lt l)) ∙ additive-zero f h) ∙ sum-zero t) ∙ m .whole f h v;
+}
+
+abbrev raised-at : ℕ → List ℕ → ℕ → Bool
+raised-at k p i = eqb (getD p i 0) (power (2 ^ i) k)
+
+unfoldable pub isRaised : ℕ → List ℕ → Bool
+unfolding sum modulus double times product power
+isRaised k p = every (raised-at k p) 8
+
+pub mapped-power : (i : ℕ) {p : List ℕ} {b r : ℕ} → Mapped p b r → T (isRaised (2 ^ i) p) → r ≡ power b (2 ^ i)
+unfolding isRaised
+mapped-power i {p} m t = m .value (λ a. power a (2 ^ i)) (sum-power i) (λ j h. eqb→eq _ _ (every-at (raised-at (2 ^ i) p) 8 t j h))
+
+pub inverse-is : (a : ℕ) → power a 254 ≡ inverse a
 unfolding inverse
-inverse-end a r h = ap₂ product h h ∙ sym (power-add a 127 127)
+inverse-is a = refl

@@ -5,7 +5,7 @@ use Prim.Native.Nat.{suc, _+_, _*_}
 use lib.ListN.{getD}
 use Rattle.codeword.specs.Register.{ones}
 use Rattle.codeword.specs.Generator.{Upper}
-use Rattle.codeword.proofs.Generating.{upper-next, divisors-octets, upper-end}
+use Rattle.codeword.proofs.Generating.{upper-next, upper-end}
 use denote.Ref.{now}
 use borrow.Author.Needs.{needs}
 use Rattle.codeword.proofs.generator.ratios.Statement.{statement}
@@ -35,13 +35,7 @@ loop-again c =
 returns : tie.Need-returns Inv-loop μ-loop
 returns c = upper-end (search needs) (c .before .loop .inv .1)
 
-quotients-requires : tie.Need-quotients-requires Inv-loop μ-loop
-quotients-requires c κs =
-    let loaded = c .before .before .before in
-    let start = loaded .before .before .before .before .before in
-    divisors-octets (now (start .args .powers)) (start .pre .1) (search needs) (loaded .load .ensures) (c .plus2 .ensures)
-
 pub ratios-spec : {M : Type 1} → statement M
 ratios-spec =
     tie.close
-    (tie.spec Inv-loop μ-loop (λ c. search needs) (λ c. search needs) (λ c. search needs) (λ c. (search needs, c .before .pre .2, refl)) (λ c. search needs) (λ c κs. search needs) (λ c. search needs) (λ c. search needs) (λ c κs. search needs) (λ c κs. search needs) quotients-requires (λ c κs. search needs) (λ c. search needs) (λ c. search needs) loop-again returns)
+    (tie.spec Inv-loop μ-loop (λ c. search needs) (λ c. search needs) (λ c. search needs) (λ c. (search needs, c .before .pre .2, refl)) (λ c. search needs) (λ c κs. search needs) (λ c. search needs) (λ c. search needs) (λ c κs. search needs) (λ c κs. search needs) (λ c κs. search needs) (λ c κs. search needs) (λ c. search needs) (λ c. search needs) loop-again returns)

@@ -6,12 +6,8 @@ use denote.Ref.{now}
 use Rattle.field.specs.Octet as Octet
 use Rattle.codeword.specs.Search.{valueOf}
 use Rattle.codeword.specs.Values.{errorOf}
-use Rattle.codeword.proofs.Correcting.{valueOf-octet}
 use Rattle.codeword.proofs.values.errors.Statement.{statement}
 use Rattle.codeword.proofs.values.errors.Tie as tie
-
-quotients-requires : tie.Need-quotients-requires
-quotients-requires c κs k h = rw (c .horner2 .ensures .entry k h) (valueOf-octet _ _ _)
 
 returns : tie.Need-returns
 unfolding errorOf
@@ -30,4 +26,4 @@ returns c =
 pub errors-spec : {M : Type 1} → statement M
 errors-spec =
     tie.close
-    (tie.spec (λ c κs. search needs) (λ c. search needs) (λ c κs. search needs) (λ c κs. search needs) quotients-requires returns)
+    (tie.spec (λ c κs. search needs) (λ c. search needs) (λ c κs. search needs) (λ c κs. search needs) (λ c κs. search needs) returns)
