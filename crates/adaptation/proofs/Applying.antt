@@ -7,7 +7,6 @@
 --   enough-lent         .. and what is never too small for a repair
 --   passes              .. what AL1 passes, and how
 --   whole-is            .. what AL2 sends a unit as
---   agreeing            .. when a check agrees
 --   unchecked           .. when there is neither check nor code
 --   failed              .. what becomes of a unit of AL2 whose check disagrees
 --
@@ -31,11 +30,12 @@ use Rattle.octets.specs.Tests.{both-true, never}
 use Rattle.codeword.specs.Repair.{RepairLent, hasRepairRoom}
 use Rattle.calls.specs.Refusal.{told, _when_, refusal, Gives}
 use Rattle.calls.proofs.Laws.{given-exactly}
-use Rattle.adaptation.specs.Bits.{octetsOf}
-use Rattle.adaptation.specs.Check.{Kind, none, eight, sixteen, checkOf, agrees}
-use Rattle.adaptation.specs.Width.{widthOf, isKnown, kindAt}
-use Rattle.adaptation.specs.declared.checks.Asked.the-variants.{Known, Unknown}
-use Rattle.adaptation.specs.declared.checks.Width.the-variants.{Zero, Eight, Sixteen}
+use Rattle.checks.specs.Bits.{octetsOf}
+use Rattle.checks.specs.Check.{Kind, none, eight, sixteen, checkOf, agrees}
+use Rattle.checks.specs.Width.{widthOf, isKnown, kindAt}
+use Rattle.checks.proofs.Laws.{checks-exactly}
+use Rattle.checks.specs.declared.Asked.the-variants.{Known, Unknown}
+use Rattle.checks.specs.declared.Width.the-variants.{Zero, Eight, Sixteen}
 use Rattle.adaptation.specs.AL1M.{isSetting, sentOctets, isSendable, al1mTests, sentLength}
 use Rattle.adaptation.specs.Receiving.{isWord, receiveTests, isBare}
 use Rattle.adaptation.specs.Handed.{isUnit}
@@ -79,10 +79,6 @@ settings b e = (
   λ h. rw (known-back b (h .0), le-leb e 127 (h .1)),
 )
 
-widths : (kindAt 0 ≡ none) × (kindAt 8 ≡ eight) × (kindAt 16 ≡ sixteen)
-unfolding widthOf
-widths = (refl, refl, refl)
-
 -- ---- lengths
 
 sentLengths : (t e : ℕ) → (sentOctets t 0 e ≡ t + 0 + 2 * e) × (sentOctets t 8 e ≡ t + 1 + 2 * e) × (sentOctets t 16 e ≡ t + 2 + 2 * e)
@@ -106,7 +102,6 @@ pub adaptation-limits : AdaptationLimits
 unfolding isSendable isWord widthOf none eight sixteen
 adaptation-limits = record {
   settings = settings;
-  widths = widths;
   sentLengths = sentLengths;
   asked = asked;
   plainSent = λ t e. two-at-most 1 t (t + 0 + 2 * e) 255;
@@ -181,13 +176,6 @@ of-units n s u out = record {
 
 -- ---- checks
 
-pub agreeing : (κ : Kind) (u c : List ℕ) → length c ≡ κ .octets → agrees κ (u ++ c) ≡ true ↔ (c ≡ checkOf κ u)
-unfolding agrees
-agreeing κ u c h =
-    let n : length (u ++ c) - κ .octets ≡ length u = omega (arith, length-append u c) in
-    let a : agrees κ (u ++ c) ≡ same c (checkOf κ u) = rw (n, take-at u c (length u) refl, drop-at u c (length u) refl) in
-    (λ e. same-equal c (checkOf κ u) (subst T (sym (sym a ∙ e)) tt), λ e. a ∙ (rw e (same-self (checkOf κ u))))
-
 pub unchecked : (e : ℕ) → (isBare none e ≡ true ↔ (e ≡ 0)) × ((isBare eight e ≡ false) × (isBare sixteen e ≡ false))
 unfolding none eight sixteen
 unchecked e = (rw (and-true (eqb e 0)) (equal e 0), (and-false (eqb e 0), and-false (eqb e 0)))
@@ -216,5 +204,5 @@ failed n u c e h l f =
     (ap (λ (v : List ℕ). told (al2.handedUp (record { badge = 3; changed = 0; unit = v }) 0 e)) (parted n u c))
   where
     by : (b : Bool) → agrees eight ((al2.field n ++ u) ++ c ∷ []) ≡ b → agrees eight ((al2.field n ++ u) ++ c ∷ []) ≡ false
-    by true q = absurd (f (agreeing eight (al2.field n ++ u) (c ∷ []) refl .0 q))
+    by true q = absurd (f (checks-exactly .agreeing eight (al2.field n ++ u) (c ∷ []) refl .0 q))
     by false q = q

@@ -18,14 +18,15 @@ use lib.ListN.{length, take, drop}
 use lib.Seq.{take-take, take-add, take-at, drop-at}
 use Rattle.octets.specs.Written.{written-front, written-behind}
 use Rattle.calls.specs.declared.Length.the-variants.{Octets}
-use Rattle.adaptation.specs.Check.{Kind, checkOf}
-use Rattle.adaptation.specs.Width.{kindAt}
+use Rattle.checks.specs.Check.{Kind, checkOf}
+use Rattle.checks.specs.Width.{kindAt}
 use Rattle.adaptation.specs.AL1M.{isSetting, isSendable, sentOctets}
 use Rattle.adaptation.specs.Sending.{message, Sends}
 use Rattle.adaptation.specs.Exactly.{SentLeaves, AdaptationExactly}
-use Rattle.adaptation.proofs.Applying.{of-al1m, enough-lent, of-units, passes, whole-is, agreeing, unchecked, failed}
-use Rattle.adaptation.proofs.Behind.{message-length}
+use Rattle.adaptation.proofs.Applying.{of-al1m, enough-lent, of-units, passes, whole-is, unchecked, failed}
 use Rattle.adaptation.proofs.Refusals.{refused-none}
+use Rattle.adaptation.proofs.Coding.{message-length}
+use Rattle.checks.proofs.Laws.{checks-exactly}
 
 module _ (b e m : ℕ) (u before after : List ℕ) (h : Sends b e u before (Octets m) after) where
   abbrev κ : Kind
@@ -88,7 +89,7 @@ adaptation-exactly = record {
   units = of-units;
   passes = passes;
   whole = whole-is;
-  agreeing = agreeing;
+  checks = checks-exactly;
   unchecked = unchecked;
   failed = failed;
   sends = sends;

@@ -27,8 +27,8 @@ use Rattle.codeword.specs.declared.Reach.{Reach}
 use Rattle.codeword.specs.declared.Reach.the-variants as reach
 use Rattle.codeword.proofs.Laws.{distance-self, distance-zero, reads-true, foundIsIt, withoutParity}
 use Rattle.calls.specs.Refusal.{told, refusal}
-use Rattle.adaptation.specs.Check.{none, agrees}
-use Rattle.adaptation.specs.Width.{kindAt}
+use Rattle.checks.specs.Check.{none, agrees}
+use Rattle.checks.specs.Width.{kindAt}
 use Rattle.adaptation.specs.AL1M.{isSetting}
 use Rattle.adaptation.specs.Receiving.{isWord, receiveTests, isBare, badgeOf, changedOf, handedUnit, HandedIs}
 use Rattle.adaptation.specs.Claims.{isFaulty, badgeOfSent, isAgreeing, FoundIsShown, FaultlessIsCodeWord, Earns, Exactly, CleanExactly, CorrectedExactly}
@@ -36,7 +36,7 @@ use Rattle.adaptation.specs.Claims.{OutOfReachExactly, CheckFailedExactl
 use Rattle.adaptation.specs.declared.Badge.{Badge}
 use Rattle.adaptation.specs.declared.Badge.the-variants.{Clean, Corrected, OutOfReach, CheckFailed, Unchecked}
 use Rattle.adaptation.specs.declared.al1m.Judgement.{Judgement}
-use Rattle.adaptation.proofs.Behind.{agrees-none}
+use Rattle.checks.proofs.Laws.{agrees-none}
 use Rattle.adaptation.proofs.Refusals.{refused-none}
 use Rattle.adaptation.proofs.Settings.{word-all}
 

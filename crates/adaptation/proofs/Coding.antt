@@ -1,6 +1,7 @@
 -- What AL1M sends.
 --
---   message-octets   a unit with its check is octets where the unit is
+--   message-length   how long a unit with its check is
+--   message-octets   .. it is octets where the unit is
 --   message-built    unit and check, written one behind the other into a buffer, are the message
 --   sent-is          what encoding it leaves is what the unit is sent as
 --   coding-refused   what refuses to say a length refuses to send
@@ -25,27 +26,30 @@ use Rattle.codeword.specs.CodeWord.{Octets, longestWord}
 use Rattle.codeword.specs.Encoding.{Encoded}
 use Rattle.codeword.proofs.Laws.{octets-append, parity-codeWord, encodes-true, encoded-is}
 use Rattle.calls.specs.Refusal.{refused, told, refusal}
-use Rattle.adaptation.specs.Check.{Kind, checkOf}
-use Rattle.adaptation.specs.Width.{kindAt}
+use Rattle.checks.specs.Check.{Kind, checkOf}
+use Rattle.checks.specs.Width.{kindAt}
 use Rattle.adaptation.specs.AL1M.{isSetting, isSendable, sentOctets, sentLength}
 use Rattle.adaptation.specs.Sending.{message, encodeTests, SentIs}
-use Rattle.adaptation.proofs.Behind.{check-octets, message-length, sealed-front}
+use Rattle.checks.proofs.Laws.{check-octets, check-length, sealed-front}
 use Rattle.adaptation.proofs.Refusals.{refused-room, refused-not, refused-sooner, refused-later}
 
 module _ (κ : Kind) (u : List ℕ) where
+  pub message-length : length (message κ u) ≡ length u + κ .octets
+  message-length = length-append u (checkOf κ u) ∙ ap (λ (k : ℕ). length u + k) (check-length κ u)
+
   pub message-octets : Octets u → Octets (message κ u)
   message-octets o = octets-append u (checkOf κ u) o (check-octets κ u)
 
   pub message-built : (d a b : List ℕ) (k : ℕ) → length u + κ .octets ≤ length d → a ≡ written d 0 u → b ≡ written a (length u) (checkOf κ (take (length u) a))
       → k ≡ length u + κ .octets → take k b ≡ message κ u
   message-built d a b k h ha hb hk =
-      ap₂ take (hk ∙ sym (message-length κ u)) (hb ∙ ap (λ (x : List ℕ). written x (length u) (checkOf κ (take (length u) x))) ha ∙ sealed-front κ u d (omega arith))
-      ∙ written-front d (message κ u) (rw (message-length κ u) h)
+      ap₂ take (hk ∙ sym message-length) (hb ∙ ap (λ (x : List ℕ). written x (length u) (checkOf κ (take (length u) x))) ha ∙ sealed-front κ u d (omega arith))
+      ∙ written-front d (message κ u) (rw message-length h)
 
   pub sent-is : (e : ℕ) (m before after : List ℕ) (n : ℕ) → Octets u → m ≡ message κ u → 0 < length u → length u + κ .octets + 2 * e ≤ longestWord
       → length u + κ .octets + 2 * e ≤ length before → Encoded e m before n after → SentIs κ e u before (length u + κ .octets + 2 * e) after
   sent-is e m before after n o is some all room p =
-      let l = message-length κ u in
+      let l = message-length in
       let fits = encodes-true (length (message κ u)) e (length before) (omega (arith, l)) (omega (arith, l)) (omega (arith, l)) in
       let d = encoded-is e (message κ u) before after n fits (rw is at p) in
       let long : length (message κ u ++ d .parity) ≡ length (message κ u) + 2 * e =

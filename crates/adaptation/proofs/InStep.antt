@@ -21,7 +21,7 @@ use Rattle.octets.specs.Tests.{both-true, never}
 use Rattle.octets.specs.Written.{written, written-front, written-behind}
 use Rattle.calls.specs.Refusal.{Told, refused, told, Ended, leaving, refusing, None}
 use Rattle.calls.proofs.Laws.{told-refused, told-same, leaving-same, by-tests}
-use Rattle.adaptation.specs.Check.{checkOf, agrees, eight}
+use Rattle.checks.specs.Check.{checkOf, agrees, eight}
 use Rattle.adaptation.specs.Handed.{longestUnit, isUnit}
 use Rattle.adaptation.specs.AL2.{field, whole, isSendable, sendTests, sent, fieldLength, isWhole, numberOf, unitOf, Parts, readTests, partsOf}
 use Rattle.adaptation.specs.AL2.{apart, arrival, Receipt, delivered, received}

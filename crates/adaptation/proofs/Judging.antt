@@ -17,7 +17,7 @@ use lib.Dec.{eqb}
 use lib.ListN.{length, take}
 use lib.Seq.{length-take-le}
 use Rattle.codeword.specs.declared.Reach.the-variants.{Found}
-use Rattle.adaptation.specs.Check.{Kind}
+use Rattle.checks.specs.Check.{Kind}
 use Rattle.adaptation.specs.Receiving.{isBare, badgeOf}
 use Rattle.adaptation.specs.declared.Badge.the-variants.{Clean, Corrected, CheckFailed, Unchecked}
 

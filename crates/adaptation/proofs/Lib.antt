@@ -1,12 +1,4 @@
 pub mod Applying
-pub mod Bits
-pub mod Octets
-pub mod Remainders
-pub mod Residue
-pub mod Rule
-pub mod Fold
-pub mod Turns
-pub mod Behind
 pub mod Assembled
 pub mod Coding
 pub mod Judging

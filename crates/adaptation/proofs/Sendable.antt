@@ -15,13 +15,13 @@ use borrow.Author.Tests.{le-leb, lt-leb}
 use lib.Dec.{leb}
 use Rattle.codeword.specs.CodeWord.{longestWord}
 use Rattle.calls.specs.Refusal.{Told, refused, told, checked}
-use Rattle.adaptation.specs.Check.{none, eight, sixteen}
-use Rattle.adaptation.specs.Width.{kindOf, widthOf, kindAsked}
+use Rattle.checks.specs.Check.{none, eight, sixteen}
+use Rattle.checks.specs.Width.{kindOf, widthOf, kindAsked}
 use Rattle.adaptation.specs.AL1M.{settingOf, isSendable, al1mTests, sentLength}
-use Rattle.adaptation.specs.declared.checks.Width.{Width}
-use Rattle.adaptation.specs.declared.checks.Width.the-variants.{Zero, Eight, Sixteen}
-use Rattle.adaptation.specs.declared.checks.Asked.{Asked}
-use Rattle.adaptation.specs.declared.checks.Asked.the-variants.{Known, Unknown}
+use Rattle.checks.specs.declared.Width.{Width}
+use Rattle.checks.specs.declared.Width.the-variants.{Zero, Eight, Sixteen}
+use Rattle.checks.specs.declared.Asked.{Asked}
+use Rattle.checks.specs.declared.Asked.the-variants.{Known, Unknown}
 use Rattle.adaptation.proofs.Settings.{setting-unknown, setting-known}
 
 pub octets-most : (l : ℕ) (w : Width) → l ≡ kindOf w .octets → l ≤ 2

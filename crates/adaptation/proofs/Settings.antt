@@ -16,12 +16,12 @@ use borrow.Author.Tests.{le-leb, lt-leb, leb-true}
 use lib.Dec.{leb}
 use Rattle.codeword.specs.CodeWord.{longestWord}
 use Rattle.octets.specs.Tests.{both-true, never}
-use Rattle.adaptation.specs.Width.{kindOf, widthOf, isKnown, isWidth, kindAsked, kindAt}
+use Rattle.checks.specs.Width.{kindOf, widthOf, isKnown, isWidth, kindAsked, kindAt}
 use Rattle.adaptation.specs.AL1M.{mostRepairs, isSetting, settingOf}
 use Rattle.adaptation.specs.Receiving.{isWord}
-use Rattle.adaptation.specs.declared.checks.Width.{Width}
-use Rattle.adaptation.specs.declared.checks.Asked.{Asked}
-use Rattle.adaptation.specs.declared.checks.Asked.the-variants.{Known, Unknown}
+use Rattle.checks.specs.declared.Width.{Width}
+use Rattle.checks.specs.declared.Asked.{Asked}
+use Rattle.checks.specs.declared.Asked.the-variants.{Known, Unknown}
 
 module _ (n e : ℕ) where
   pub setting-unknown : settingOf n e ≡ Unknown → isSetting n e ≡ false

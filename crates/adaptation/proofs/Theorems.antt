@@ -23,8 +23,8 @@ use Rattle.codeword.specs.declared.Reach.the-variants as reach
 use Rattle.codeword.proofs.Laws.{codeWord-only, repairedUnique}
 use Rattle.calls.specs.Refusal.{Told, refused, told, refusal}
 use Rattle.calls.proofs.Laws.{told-refused}
-use Rattle.adaptation.specs.Check.{agrees}
-use Rattle.adaptation.specs.Width.{isWidth, kindAt}
+use Rattle.checks.specs.Check.{agrees}
+use Rattle.checks.specs.Width.{isWidth, kindAt}
 use Rattle.adaptation.specs.AL1M.{isSetting, isSendable, sentOctets}
 use Rattle.adaptation.specs.Sending.{message, Coded, Sends}
 use Rattle.adaptation.specs.Receiving.{isWord, receiveTests, isBare, badgeOf, changedOf, handedUnit, Receives}
@@ -36,7 +36,7 @@ use Rattle.adaptation.specs.declared.al1m.Received.{Received}
 use Rattle.adaptation.specs.declared.al1m.Received.the-variants as receive
 use Rattle.adaptation.proofs.Assembled.{sendable, long, word, unit-sent}
 use Rattle.adaptation.proofs.Badges.{passed, word-is, shown-found, badge-sent, unit-found}
-use Rattle.adaptation.proofs.Behind.{agrees-own}
+use Rattle.checks.proofs.Laws.{agrees-own}
 use Rattle.adaptation.proofs.Refusals.{refused-not}
 use Rattle.adaptation.proofs.Settings.{word-true}
 

@@ -17,7 +17,7 @@ use native.Mathlib.Omega.{arith}
 use lib.Dec.{eqb}
 use Rattle.calls.specs.Refusal.{Told, refused, told}
 use Rattle.calls.proofs.Laws.{once}
-use Rattle.adaptation.specs.Check.{checkOf, eight}
+use Rattle.checks.specs.Check.{checkOf, eight}
 use Rattle.adaptation.specs.Handed.{badgeNumber, Handed}
 use Rattle.adaptation.specs.AL1 as al1
 use Rattle.adaptation.specs.AL2.{Parts, Receipt, handedUp, discarded, unitOf, apart, received, apartSays, receivedSays}

@@ -24,7 +24,7 @@ use lib.Seq.{take-at}
 use Rattle.octets.specs.Written.{written, written-next}
 use Rattle.calls.specs.Refusal.{Told, refused, told, leaving, refusing}
 use Rattle.calls.proofs.Laws.{checked-through}
-use Rattle.adaptation.specs.Check.{checkOf, agrees, eight}
+use Rattle.checks.specs.Check.{checkOf, agrees, eight}
 use Rattle.adaptation.specs.Handed.{longestUnit}
 use Rattle.adaptation.specs.AL2.{field, whole, isSendable, sent, fieldLength, numberOf, unitOf, Parts, readTests, partsOf, apart, Receipt}
 use Rattle.adaptation.specs.AL2.{settled, received}
@@ -32,7 +32,7 @@ use Rattle.adaptation.specs.AL2Claims.{isNumbered}
 use Rattle.adaptation.specs.declared.al2.Number.{Number}
 use Rattle.adaptation.specs.declared.al2.Number.the-variants.{Numbered, Plain}
 use Rattle.adaptation.proofs.Applying.{whole-length}
-use Rattle.adaptation.proofs.Behind.{sealed-front, agrees-own}
+use Rattle.checks.proofs.Laws.{sealed-front, agrees-own}
 
 pub field-most : (n : Number) → length (field n) ≤ 1
 field-most (Numbered n) = omega arith

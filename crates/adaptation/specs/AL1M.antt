@@ -16,9 +16,9 @@ use Prim.Native.Nat.{ℕ, _+_, _*_}
 use lib.Dec.{leb}
 use Rattle.codeword.specs.CodeWord.{longestWord}
 use Rattle.calls.specs.Refusal.{Told, refused, told, Test, _when_, checked}
-use Rattle.adaptation.specs.Width.{widthOf, isWidth, kindAt}
-use Rattle.adaptation.specs.declared.checks.Asked.{Asked}
-use Rattle.adaptation.specs.declared.checks.Asked.the-variants.{Unknown}
+use Rattle.checks.specs.Width.{widthOf, isWidth, kindAt}
+use Rattle.checks.specs.declared.Asked.{Asked}
+use Rattle.checks.specs.declared.Asked.the-variants.{Unknown}
 
 abbrev pub mostRepairs : ℕ
 mostRepairs = 127

@@ -34,7 +34,7 @@ use lib.Dec.{leb, ltb}
 use lib.ListN.{length, getD, take, drop}
 use Rattle.octets.specs.Written.{written}
 use Rattle.calls.specs.Refusal.{Told, refused, told, Ended, leaving, refusing, Test, _when_, checked}
-use Rattle.adaptation.specs.Check.{checkOf, agrees, eight}
+use Rattle.checks.specs.Check.{checkOf, agrees, eight}
 use Rattle.adaptation.specs.Handed.{longestUnit, Handed, handed}
 use Rattle.adaptation.specs.declared.Badge.the-variants.{Clean, CheckFailed}
 use Rattle.adaptation.specs.declared.al2.Number.{Number}

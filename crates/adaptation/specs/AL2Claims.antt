@@ -29,7 +29,7 @@ use mathlib.Core.List.{List, [], _∷_}
 use Prim.Native.Nat.{ℕ, _+_, _-_, _%_, _≤_, _<_}
 use lib.ListN.{take, drop}
 use Rattle.calls.specs.Refusal.{Told, refused, told, leaving}
-use Rattle.adaptation.specs.Check.{agrees, eight}
+use Rattle.checks.specs.Check.{agrees, eight}
 use Rattle.adaptation.specs.Handed.{longestUnit, isUnit, Handed}
 use Rattle.adaptation.specs.AL2.{whole, isSendable, sent, isWhole, unitOf, Parts, apart, Receipt, handedUp, discarded, expectedBy, received}
 use Rattle.adaptation.specs.declared.al2.Number.{Number}

@@ -35,8 +35,8 @@ use Rattle.codeword.specs.Changed.{changedPlaces}
 use Rattle.codeword.specs.Claims.{RepairShows}
 use Rattle.codeword.specs.CodeWord.{Octets, CodeWord, distance, Within}
 use Rattle.codeword.specs.Repair.{RepairLent}
-use Rattle.adaptation.specs.Check.{Kind, none, agrees}
-use Rattle.adaptation.specs.Width.{kindAt}
+use Rattle.checks.specs.Check.{Kind, none, agrees}
+use Rattle.checks.specs.Width.{kindAt}
 use Rattle.adaptation.specs.Sending.{Sends}
 use Rattle.adaptation.specs.Receiving.{isBare, handedUnit, Receives}
 use Rattle.calls.specs.declared.Length.{Length}

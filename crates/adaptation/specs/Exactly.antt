@@ -1,6 +1,6 @@
 -- What document 01, and ticket 2 of document 02, say of the adaptation layers with "exactly when", where a definition changed together with
 -- its code would get past every other claim: the table of refusals, number by number, each where the tests before it do not hold; what is never
--- too small; when a check agrees and when there is none; what becomes of a unit of AL2 whose check disagrees; and what AL1M's sending leaves.
+-- too small; when a unit is unchecked; what becomes of a unit of AL2 whose check disagrees; and what AL1M's sending leaves.
 -- The settings and lengths themselves are said in specs/Limits.antt, and the numbers in their order in crate `demands`.
 --
 --   OfAL1M t n b e k lent    refusals 1, 2 and 3 of AL1M, with a check of b bits and e repairs: of the length question for t octets, of t
@@ -23,8 +23,9 @@ use Rattle.codeword.specs.CodeWord.{CodeWord}
 use Rattle.codeword.specs.Repair.{RepairLent}
 use Rattle.calls.specs.Refusal.{told, Gives}
 use Rattle.calls.specs.declared.Length.the-variants.{Octets}
-use Rattle.adaptation.specs.Check.{Kind, none, eight, sixteen, checkOf, agrees}
-use Rattle.adaptation.specs.Width.{kindAt}
+use Rattle.checks.specs.Check.{none, eight, sixteen, checkOf}
+use Rattle.checks.specs.Width.{kindAt}
+use Rattle.checks.specs.Exactly.{ChecksExactly}
 use Rattle.adaptation.specs.AL1M as al1m
 use Rattle.adaptation.specs.Sending.{encodeTests, Sends}
 use Rattle.adaptation.specs.Receiving.{isWord, receiveTests, isBare}
@@ -79,8 +80,8 @@ pub record AdaptationExactly : Type 0 where
   -- AL1 passes a unit of 1 to 1,024 octets as it is, badge 4
   pub passes : (u : List ℕ) → 1 ≤ length u → length u ≤ 1024 → passed u ≡ told (record { badge = 4; changed = 0; unit = u })
   pub whole : (n : ℕ) (u : List ℕ) → WholeIs n u
-  -- a check agrees where all its octets are the check of what stands before them
-  pub agreeing : (κ : Kind) (u c : List ℕ) → length c ≡ κ .octets → agrees κ (u ++ c) ≡ true ↔ (c ≡ checkOf κ u)
+  -- when a check agrees, and which check each width has
+  pub checks : ChecksExactly
   -- badge 4, "for AL1M exactly when e = 0 and l = 0"
   pub unchecked : (e : ℕ) → (isBare none e ≡ true ↔ (e ≡ 0)) × ((isBare eight e ≡ false) × (isBare sixteen e ≡ false))
   -- "if it disagrees, the unit is handed up with badge 3 and the expected number stays": the unit u, whole, behind a number or none and

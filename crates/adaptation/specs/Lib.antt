@@ -1,9 +1,3 @@
-pub mod Binary
-pub mod Bits
-pub mod Check
-pub mod Remainders
-pub mod Steps
-pub mod Width
 pub mod Handed
 pub mod AL1
 pub mod AL2

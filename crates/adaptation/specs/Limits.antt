@@ -11,8 +11,6 @@ use mathlib.Core.List.{List}
 use Prim.Native.Nat.{ℕ, _+_, _*_, _≤_}
 use lib.ListN.{length}
 use Rattle.calls.specs.Refusal.{told, refusal}
-use Rattle.adaptation.specs.Check.{none, eight, sixteen}
-use Rattle.adaptation.specs.Width.{kindAt}
 use Rattle.adaptation.specs.AL1M as al1m
 use Rattle.adaptation.specs.Receiving.{isWord}
 use Rattle.adaptation.specs.AL1.{passTests}
@@ -22,8 +20,6 @@ use Rattle.adaptation.specs.declared.al2.Number.the-variants.{Numbered, 
 pub record AdaptationLimits : Type 0 where
   -- refusal 1: the check's width is not 0, 8 or 16, or e is over 127
   pub settings : (b e : ℕ) → al1m.isSetting b e ≡ true ↔ (((b ≡ 0) ⊎ ((b ≡ 8) ⊎ (b ≡ 16))) × (e ≤ 127))
-  -- "Checks": the check of each width
-  pub widths : (kindAt 0 ≡ none) × (kindAt 8 ≡ eight) × (kindAt 16 ≡ sixteen)
   -- "AL1M units": the sent length is t + l + 2e, and the length question's answer
   pub sentLengths : (t e : ℕ) → (al1m.sentOctets t 0 e ≡ t + 0 + 2 * e) × (al1m.sentOctets t 8 e ≡ t + 1 + 2 * e) × (al1m.sentOctets t 16 e ≡ t + 2 + 2 * e)
   pub asked : (t b e : ℕ) → al1m.isSetting b e ≡ true → al1m.isSendable t b e ≡ true → al1m.sentLength t b e ≡ told (al1m.sentOctets t b e)

@@ -30,8 +30,8 @@ pub use Rattle.codeword.specs.Repair.{RepairLent, lending, hasRepairRoom}
 use Rattle.codeword.specs.declared.Reach.{Reach}
 use Rattle.codeword.specs.declared.Reach.the-variants as reach
 use Rattle.calls.specs.Refusal.{told, Test, refusal, RefusedIs}
-use Rattle.adaptation.specs.Check.{Kind, agrees}
-use Rattle.adaptation.specs.Width.{kindAt}
+use Rattle.checks.specs.Check.{Kind, agrees}
+use Rattle.checks.specs.Width.{kindAt}
 use Rattle.adaptation.specs.AL1M.{al1mTests, isSetting}
 use Rattle.adaptation.specs.declared.Badge.{Badge}
 use Rattle.adaptation.specs.declared.Badge.the-variants.{Clean, Corrected, OutOfReach, CheckFailed, Unchecked}

@@ -17,8 +17,8 @@ use lib.ListN.{length, take}
 use Rattle.octets.specs.Written.{written}
 use Rattle.codeword.specs.CodeWord.{CodeWord}
 use Rattle.calls.specs.Refusal.{told, Test, refusal, RefusedIs}
-use Rattle.adaptation.specs.Check.{Kind, checkOf}
-use Rattle.adaptation.specs.Width.{kindAt}
+use Rattle.checks.specs.Check.{Kind, checkOf}
+use Rattle.checks.specs.Width.{kindAt}
 use Rattle.adaptation.specs.AL1M.{al1mTests, isSetting, isSendable, sentOctets}
 use Rattle.calls.specs.declared.Length.{Length}
 use Rattle.calls.specs.declared.Length.the-variants.{Octets, Refused}

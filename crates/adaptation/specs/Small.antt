@@ -12,9 +12,9 @@ use mathlib.Core.Path.{_≡_, refl}
 use mathlib.Core.List.{[], _∷_}
 use Rattle.algebra.specs.Division.{sum, lowered, divided, remainder}
 use Rattle.calls.specs.Refusal.{refused, told}
-use Rattle.adaptation.specs.Bits.{isOdd, bitsOf, bits, number, octetsOf}
-use Rattle.adaptation.specs.Check.{generator, plain, preset, checkBits, checkOf, eight, sixteen}
-use Rattle.adaptation.specs.Width.{widthOf}
+use Rattle.checks.specs.Bits.{isOdd, bitsOf, bits, number, octetsOf}
+use Rattle.checks.specs.Check.{generator, plain, preset, checkBits, checkOf, eight, sixteen}
+use Rattle.checks.specs.Width.{widthOf}
 use Rattle.adaptation.specs.AL1M.{isSetting, isSendable, sentLength}
 use Rattle.adaptation.specs.AL2.{whole}
 use Rattle.adaptation.specs.declared.al2.Number.the-variants.{Numbered, Plain}

@@ -1,10 +1,9 @@
 // AL1M (003, Annex D): a unit with its check and the code's parity behind it.
 use crate::Badge;
-use crate::checks;
-use crate::checks::Asked;
-use crate::checks::Width;
-use crate::seals;
 use calls::Length;
+use checks::Asked;
+use checks::Width;
+use checks::seals;
 use codeword::LONGEST_WORD;
 use codeword::Reach;
 ghost use mathlib.Core.Path.{_≡_};
@@ -14,8 +13,8 @@ ghost use lib.ListN.{length};
 ghost use Rattle.codeword.specs.CodeWord.{longestWord};
 ghost use Rattle.codeword.specs.declared.Reach.the-variants.{Found};
 ghost use Rattle.calls.specs.Refusal.{lengthSays};
-ghost use Rattle.adaptation.specs.Check.{Kind};
-ghost use Rattle.adaptation.specs.Width.{kindOf};
+ghost use Rattle.checks.specs.Check.{Kind};
+ghost use Rattle.checks.specs.Width.{kindOf};
 ghost use Rattle.adaptation.specs.AL1M.{settingOf, sentLength};
 ghost use Rattle.adaptation.specs.Sending.{SentIs, Sends};
 ghost use Rattle.adaptation.specs.Receiving.{badgeOf, isBare, handedUnit, HandedIs, Receives};

@@ -1,9 +1,9 @@
 // AL2 (000, 7.3), but for the numbers that a channel keeps: its units are put together, read apart and judged.
 use crate::Badge;
 use crate::LONGEST_UNIT;
-use crate::checks::Width;
-use crate::seals;
 use calls::Length;
+use checks::Width;
+use checks::seals;
 ghost use mathlib.Core.Path.{_≡_};
 ghost use mathlib.Core.List.{List};
 ghost use Prim.Native.Nat.{ℕ, _≤_};

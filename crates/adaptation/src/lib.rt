@@ -1,10 +1,8 @@
-// The adaptation layers of H.223 (000, clause 7): the checks, AL1, AL2 and AL1M.
+// The adaptation layers of H.223 (000, clause 7): AL1, AL2 and AL1M.
 
 pub mod al1; // al1.rt: AL1
 pub mod al1m; // al1m.rt: AL1M
 pub mod al2; // al2.rt: AL2
-pub mod checks; // checks.rt: the checks of 8 and 16 bits
-mod seals; // seals.rt: a check behind its octets
 
 ghost use mathlib.Core.Path.{_≡_};
 ghost use Rattle.adaptation.specs.Handed.{badgeNumber};

@@ -14,9 +14,9 @@ use lib.ListN.{length, replicate, length-replicate}
 use Rattle.calls.specs.Refusal.{refused, told, Ended, Test, refusal, Refuses}
 use Rattle.calls.proofs.Laws.{told-refused}
 use Rattle.codeword.specs.CodeWord.{Octets}
-use Rattle.adaptation.specs.Bits.{octetsOf}
-use Rattle.adaptation.specs.Check.{checkOf, none, eight}
-use Rattle.adaptation.specs.Width.{widthOf}
+use Rattle.checks.specs.Bits.{octetsOf}
+use Rattle.checks.specs.Check.{checkOf, none, eight}
+use Rattle.checks.specs.Width.{widthOf}
 use Rattle.adaptation.specs.AL1M.{isSetting, isSendable}
 use Rattle.adaptation.specs.Sending.{encodeTests}
 use Rattle.table.specs.Entry.{size, allElements, depth, isList, isEntryTree, elementNumbers}

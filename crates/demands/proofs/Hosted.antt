@@ -20,8 +20,8 @@ use Rattle.codeword.specs.declared.Reach.{Reach}
 use Rattle.codeword.specs.declared.Reach.the-variants as reach
 use Rattle.codeword.proofs.Laws.{foundIsIt}
 use Rattle.calls.specs.declared.Length.the-variants as sends
-use Rattle.adaptation.specs.Check.{Kind, agrees}
-use Rattle.adaptation.specs.Width.{kindAt}
+use Rattle.checks.specs.Check.{Kind, agrees}
+use Rattle.checks.specs.Width.{kindAt}
 use Rattle.adaptation.specs.Handed.{badgeNumber}
 use Rattle.adaptation.specs.Sending.{Sends}
 use Rattle.adaptation.specs.Receiving.{RepairLent, isBare, badgeOf, handedUnit, Receives}

@@ -19,8 +19,8 @@ use Rattle.codeword.specs.Changed.{changedPlaces}
 use Rattle.codeword.specs.CodeWord.{distance, Within, longestWord}
 use Rattle.codeword.specs.Repair.{filled}
 use Rattle.codeword.specs.declared.Reach.the-variants as reach
-use Rattle.adaptation.specs.Check.{agrees}
-use Rattle.adaptation.specs.Width.{kindAt}
+use Rattle.checks.specs.Check.{agrees}
+use Rattle.checks.specs.Width.{kindAt}
 use Rattle.adaptation.specs.AL1M.{isSetting}
 use Rattle.adaptation.specs.Receiving.{RepairLent, hasRepairRoom, isWord, receiveTests, isBare, badgeOf, unitLength, Receives}
 use Rattle.adaptation.specs.declared.Badge.the-variants.{OutOfReach}

@@ -16,8 +16,8 @@ use Rattle.codeword.specs.Repair.{Repaired}
 use Rattle.codeword.specs.declared.Reach.{Reach}
 use Rattle.codeword.specs.declared.Reach.the-variants as reach
 use Rattle.codeword.proofs.Laws.{placesExactly, placesCounted, neverSecond}
-use Rattle.adaptation.specs.Check.{agrees}
-use Rattle.adaptation.specs.Width.{kindAt}
+use Rattle.checks.specs.Check.{agrees}
+use Rattle.checks.specs.Width.{kindAt}
 use Rattle.calls.specs.Refusal.{told, refusal}
 use Rattle.adaptation.specs.AL1M.{isSetting}
 use Rattle.adaptation.specs.Receiving.{RepairLent, hasRepairRoom, isWord, receiveTests, isBare, badgeOf, handedUnit, Receives}

@@ -31,10 +31,10 @@ use Rattle.codeword.specs.Repair.{reads, filled}
 use Rattle.codeword.specs.declared.Reach.the-variants as reach
 use Rattle.calls.specs.Refusal.{told, refusal}
 use Rattle.algebra.specs.Division.{sum, lowered, divided, remainder}
-use Rattle.adaptation.specs.Bits.{isOdd, bitsOf, bits, number, octetsOf}
-use Rattle.adaptation.specs.Check as check
-use Rattle.adaptation.specs.Check.{plain, preset, checkBits, checkOf, agrees, none, eight, sixteen}
-use Rattle.adaptation.specs.Width.{widthOf, kindAt}
+use Rattle.checks.specs.Bits.{isOdd, bitsOf, bits, number, octetsOf}
+use Rattle.checks.specs.Check as check
+use Rattle.checks.specs.Check.{plain, preset, checkBits, checkOf, agrees, none, eight, sixteen}
+use Rattle.checks.specs.Width.{widthOf, kindAt}
 use Rattle.adaptation.specs.AL1M.{isSetting, isSendable, sentLength}
 use Rattle.adaptation.specs.Receiving.{RepairLent, hasRepairRoom, isWord, receiveTests, isBare, badgeOf, isCorrected, unitLength, Receives}
 use Rattle.adaptation.specs.declared.Badge.{Badge}

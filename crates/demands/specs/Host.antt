@@ -19,8 +19,8 @@ use lib.ListN.{length, take}
 use Rattle.codeword.specs.Changed.{changedPlaces}
 use Rattle.codeword.specs.Claims.{RepairShows}
 use Rattle.codeword.specs.CodeWord.{distance, Within}
-use Rattle.adaptation.specs.Check.{agrees}
-use Rattle.adaptation.specs.Width.{kindAt}
+use Rattle.checks.specs.Check.{agrees}
+use Rattle.checks.specs.Width.{kindAt}
 use Rattle.adaptation.specs.Receiving.{RepairLent, isBare, unitLength}
 use Rattle.kyteblossom.specs.Answer.{EncodeIs, ReceiveIs}
 use Rattle.kyteblossom.specs.Header.{isBelow, toldBadge, toldChanged, toldLength, toldUnit, isChecked, isTrusted}

@@ -15,8 +15,8 @@ use Rattle.algebra.specs.Polynomial.{polynomial}
 use Rattle.codeword.specs.Element.{elements}
 use Rattle.codeword.specs.CodeWord as code
 use Rattle.calls.specs.Refusal.{Told, refused, told}
-use Rattle.adaptation.specs.Check.{checkOf}
-use Rattle.adaptation.specs.Width.{kindAt}
+use Rattle.checks.specs.Check.{checkOf}
+use Rattle.checks.specs.Width.{kindAt}
 use Rattle.adaptation.specs.AL1M.{sentLength}
 use Rattle.adaptation.specs.Sending.{Coded}
 use Rattle.adaptation.specs.Receiving.{RepairLent, Receives, handedUnit}

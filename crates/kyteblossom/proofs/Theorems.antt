@@ -18,8 +18,8 @@ use Rattle.calls.specs.declared.Length.{Length}
 use Rattle.calls.specs.declared.Length.the-variants as sends
 use Rattle.calls.proofs.Laws.{told-refused, allowed-refuses, refused-refuses, told-refuses}
 use Rattle.adaptation.specs.Handed.{badgeNumber}
-use Rattle.adaptation.specs.Check.{checkOf, none, eight, sixteen}
-use Rattle.adaptation.specs.Width.{widthOf, kindAt}
+use Rattle.checks.specs.Check.{checkOf, none, eight, sixteen}
+use Rattle.checks.specs.Width.{widthOf, kindAt}
 use Rattle.adaptation.specs.AL1M.{al1mTests, lengthTests, isSetting, isSendable, sentOctets, sentLength}
 use Rattle.adaptation.specs.Sending.{encodeTests, Sends}
 use Rattle.adaptation.specs.Receiving.{RepairLent, hasRepairRoom, isWord, receiveTests, isCorrected, Receives}

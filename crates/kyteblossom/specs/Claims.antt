@@ -24,7 +24,7 @@ use lib.ListN.{length}
 use Rattle.calls.specs.Refusal.{refused, told, leaving, Test, refusal}
 use Rattle.calls.specs.declared.Length.the-variants.{Octets}
 use Rattle.adaptation.specs.Handed.{badgeNumber}
-use Rattle.adaptation.specs.Width.{kindAt}
+use Rattle.checks.specs.Width.{kindAt}
 use Rattle.adaptation.specs.AL1M.{lengthTests, sentOctets, sentLength}
 use Rattle.adaptation.specs.Sending.{encodeTests, Sends}
 use Rattle.adaptation.specs.Receiving.{RepairLent, receiveTests, handedUnit, Receives}

@@ -19,7 +19,7 @@ use lib.Dec.{eqb}
 use lib.ListN.{length, take}
 use Rattle.calls.specs.Refusal.{Told, refused, told, Ended, ended, leaving, refusing}
 use Rattle.calls.proofs.Laws.{by-test, by-tests, checked-leaves, checked-keeps}
-use Rattle.adaptation.specs.Check.{agrees, eight}
+use Rattle.checks.specs.Check.{agrees, eight}
 use Rattle.adaptation.specs.AL2.{whole, isSendable, isWhole, unitOf, Receipt, settled, expectedBy, receiptOf, received}
 use Rattle.adaptation.specs.declared.al2.Number.the-variants.{Numbered, Plain}
 use Rattle.channels.specs.declared.Channel.{Channel}

@@ -38,7 +38,7 @@ use Rattle.adaptation.specs.AL1.{passed}
 use Rattle.adaptation.specs.AL2.{whole, isSendable, Receipt, handedUp, received}
 use Rattle.adaptation.specs.AL2Claims.{asSent, wholesFrom, receipts, inOrder}
 use Rattle.adaptation.specs.declared.al2.Number.the-variants.{Plain}
-use Rattle.adaptation.specs.Width.{kindAt}
+use Rattle.checks.specs.Width.{kindAt}
 use Rattle.adaptation.specs.Sending.{Sends}
 use Rattle.adaptation.specs.Receiving.{RepairLent, Receives, handedUnit}
 use Rattle.adaptation.specs.Claims.{badgeOfSent}

@@ -6,12 +6,12 @@ use denote.Ref.{now}
 use lib.Dec.{ltb}
 use lib.ListN.{length}
 use Rattle.adaptation.specs.AL1M.{isSendable, sentOctets}
-use Rattle.adaptation.specs.Check.{Kind}
+use Rattle.checks.specs.Check.{Kind}
 use Rattle.adaptation.proofs.Coding.{coding-refused, coding-short, coding-allowed, coding-all, sent-at}
 use Rattle.adaptation.proofs.Settings.{setting-unknown, setting-known, kind-asked}
 use Rattle.adaptation.proofs.Refusals.{refused-setting}
-use Rattle.adaptation.specs.declared.checks.Asked.the-variants.{Known}
-use Rattle.adaptation.specs.Width.{kindOf, widthOf, kindAt}
+use Rattle.checks.specs.declared.Asked.the-variants.{Known}
+use Rattle.checks.specs.Width.{kindOf, widthOf, kindAt}
 use Rattle.adaptation.proofs.al1m.encode.Statement.{statement}
 use Rattle.adaptation.proofs.al1m.encode.Tie as tie
 

@@ -6,7 +6,7 @@ use native.Mathlib.Omega.{arith}
 use lib.ListN.{length}
 use denote.Ref.{now}
 use Rattle.adaptation.proofs.Judging.{fits-front}
-use Rattle.adaptation.specs.Width.{kindOf}
+use Rattle.checks.specs.Width.{kindOf}
 use Rattle.codeword.specs.declared.Reach.the-variants.{Found, OutOfReach}
 use Rattle.adaptation.proofs.al1m.judge.Statement.{statement}
 use Rattle.adaptation.proofs.al1m.judge.Tie as tie

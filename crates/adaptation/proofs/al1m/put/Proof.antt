@@ -7,7 +7,7 @@ use native.Mathlib.Omega.{arith}
 use denote.Ref.{now}
 use lib.Seq.{length-take-le}
 use Rattle.adaptation.proofs.Coding.{message-built, sent-is}
-use Rattle.adaptation.specs.Width.{kindOf}
+use Rattle.checks.specs.Width.{kindOf}
 use Rattle.adaptation.proofs.al1m.put.Statement.{statement}
 use Rattle.adaptation.proofs.al1m.put.Tie as tie
 

@@ -13,11 +13,11 @@ use Rattle.codeword.specs.Repair.{RepairLent, lending, hasRepairRoom}
 use Rattle.adaptation.proofs.Sendable.{octets-most}
 use Rattle.adaptation.proofs.Settings.{setting-unknown, setting-known, kind-asked, word-long, word-short, word-true}
 use Rattle.adaptation.proofs.Refusals.{refused-setting, refused-length, refused-room, refused-not}
-use Rattle.adaptation.specs.declared.checks.Asked.the-variants.{Known}
+use Rattle.checks.specs.declared.Asked.the-variants.{Known}
 use Rattle.adaptation.specs.Receiving.{isWord, HandedIs}
 use Rattle.adaptation.specs.AL1M.{mostRepairs, isSetting}
-use Rattle.adaptation.specs.Width.{widthOf, kindAt}
-use Rattle.adaptation.specs.Check.{Kind}
+use Rattle.checks.specs.Width.{widthOf, kindAt}
+use Rattle.checks.specs.Check.{Kind}
 use Rattle.adaptation.proofs.al1m.receive.Statement.{statement}
 use Rattle.adaptation.proofs.al1m.receive.Tie as tie
 

@@ -4,7 +4,7 @@ use mathlib.Core.Path.{_≡_, refl, sym, _∙_}
 use Prim.Native.Nat.{_≤_}
 use native.Mathlib.Omega.{arith}
 use Rattle.adaptation.specs.AL1M.{settingOf}
-use Rattle.adaptation.specs.declared.checks.Asked.the-variants.{Known}
+use Rattle.checks.specs.declared.Asked.the-variants.{Known}
 use Rattle.adaptation.proofs.Sendable.{octets-most, length-unknown, length-empty, length-long, length-sent}
 use Rattle.adaptation.proofs.al1m.sent_length.Statement.{statement}
 use Rattle.adaptation.proofs.al1m.sent_length.Tie as tie

@@ -6,7 +6,7 @@ use denote.Ref.{now}
 use Rattle.adaptation.specs.AL2.{numberOf, unitOf, apart}
 use Rattle.calls.specs.Refusal.{told}
 use Rattle.adaptation.specs.declared.al2.Number.{Number}
-use Rattle.adaptation.specs.Check.{eight}
+use Rattle.checks.specs.Check.{eight}
 use Rattle.adaptation.proofs.Wholes.{fieldLength-most, apart-short, apart-long, apart-read}
 use Rattle.adaptation.proofs.al2.read.Statement.{statement}
 use Rattle.adaptation.proofs.al2.read.Tie as tie

@@ -3,7 +3,7 @@ use borrow.Author.Needs.{needs}
 use mathlib.Core.Path.{refl, sym}
 use Prim.Native.Nat.{_≤_}
 use native.Mathlib.Omega.{arith}
-use Rattle.adaptation.specs.Check.{eight}
+use Rattle.checks.specs.Check.{eight}
 use Rattle.adaptation.proofs.Wholes.{field-most, sent-empty, sent-long, sent-room, sent-parts}
 use Rattle.adaptation.proofs.al2.send.Statement.{statement}
 use Rattle.adaptation.proofs.al2.send.Tie as tie

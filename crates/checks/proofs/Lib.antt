@@ -1,0 +1,10 @@
+pub mod Exact
+pub mod Bits
+pub mod Octets
+pub mod Remainders
+pub mod Residue
+pub mod Rule
+pub mod Fold
+pub mod Turns
+pub mod Behind
+pub mod Laws

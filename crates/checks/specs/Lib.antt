@@ -1,0 +1,7 @@
+pub mod Binary
+pub mod Bits
+pub mod Check
+pub mod Remainders
+pub mod Steps
+pub mod Width
+pub mod Exactly
