@@ -4,12 +4,17 @@
 --   HasMargin b               these are zeros
 --   behind b                  the series of what stands behind them
 --   ProductTo m s c d         d is the product of c and the syndromes s, as far as the first m coefficients
---   MasseyStateIs m s c d b t r l shift q    the state of Berlekamp and Massey's algorithm after r of m syndromes s, as the code keeps it: the
+--   second, room              where d begins in the array z, and how long that is; v has the margin besides
+--   part o n z                the n octets of z from o on
+--   ofC, ofD, ofB, ofT        what of z is c and d, and of v b and t
+--   MasseyStateIs m s z v r l shift q    the state of Berlekamp and Massey's algorithm after r of m syndromes s, as the code keeps it: the
 --                             recurrence c of length l, times a constant; b, the one from before l last grew, shifted since by `shift`; q, what
 --                             b failed by; d and t, the products of c and b with s
---   Mended lo hi n a q c b d  d is a c + q x^n b, for the coefficients from lo up to, and not at, hi; the rest is as in c
---   Saved grows o x b d       d is b, but where the length grows for the 16 octets from o on, which are x
---   Kept grows lo hi c b d    d is b, but where the length grows for those coefficients, which are c's
+--   placeOf low i             where block i of 16 stands: the first `low` blocks are c's, the others d's
+--   Among low high k          k is a place of the first `low` blocks of c, or of the first `high` of d
+--   Mended low high p n a q z v w    w is a z + q x^n v, v's margin aside, at those places from p on; the rest is as in z
+--   Saved grows o x v u       u is v, but where the length grows for the 16 octets from o on, which are x
+--   Kept grows low high p z v u      u is v, but where the length grows for those places from p on, behind the margin, which are z's
 --   Stepped e r ..            one step: from the state after r syndromes to that after r + 1; where its length is above e, that length alone
 --   Located m s c l           c is the shortest recurrence for the first m of the syndromes s, times a constant that is not zero; l its length
 --   LocatorIs m s c l         no recurrence for them is shorter than l, and c has no coefficient past l; where l is at most m / 2, c is as above
@@ -18,10 +23,11 @@
 -- Assumes nothing.
 use mathlib.Core.Path.{_≡_}
 use mathlib.Core.Logic.{_⊎_}
-use mathlib.Core.Bool.{Bool, true, false}
+use mathlib.Core.Bool.{Bool, true, false, cond}
 use mathlib.Core.List.{List}
 use Prim.Native.Nat.{ℕ, suc, _+_, _*_, _-_, _≤_, _<_}
-use lib.ListN.{length, getD}
+use lib.Dec.{ltb}
+use lib.ListN.{length, getD, take, drop}
 use Rattle.algebra.specs.Series as Ser
 use Rattle.algebra.specs.Series.{Series, Below}
 use Rattle.algebra.specs.Polynomial.{raised}
@@ -43,34 +49,62 @@ behind b k = places b (margin + k)
 abbrev pub ProductTo : ℕ → List ℕ → Series elements → Series elements → Type 0
 ProductTo m s c d = (k : ℕ) → k < m → d k ≡ Ser._⊛_ elements c (places s) k
 
-pub record MasseyStateIs (m : ℕ) (s c d b t : List ℕ) (r l shift q : ℕ) : Type 0 where
+abbrev pub second : ℕ
+second = 384
+
+abbrev pub room : ℕ
+room = 640
+
+unfoldable pub part : ℕ → ℕ → List ℕ → List ℕ
+part o n z = take n (drop o z)
+
+abbrev pub ofC : List ℕ → List ℕ
+ofC z = part 0 128 z
+
+abbrev pub ofD : List ℕ → List ℕ
+ofD z = part second 256 z
+
+abbrev pub ofB : List ℕ → List ℕ
+ofB v = part 0 (margin + 128) v
+
+abbrev pub ofT : List ℕ → List ℕ
+ofT v = part second (margin + 256) v
+
+pub record MasseyStateIs (m : ℕ) (s z v : List ℕ) (r l shift q : ℕ) : Type 0 where
   pub shift-small : shift ≤ suc r
-  pub product : ProductTo m s (places c) (places d)
-  pub b-margin : HasMargin b
-  pub t-margin : HasMargin t
-  pub earlier : ProductTo m s (behind b) (behind t)
-  pub state : ScaledState elements (places s) (places c) (raised elements shift (behind b)) r l (element q)
+  pub product : ProductTo m s (places (ofC z)) (places (ofD z))
+  pub b-margin : HasMargin (ofB v)
+  pub t-margin : HasMargin (ofT v)
+  pub earlier : ProductTo m s (behind (ofB v)) (behind (ofT v))
+  pub state : ScaledState elements (places s) (places (ofC z)) (raised elements shift (behind (ofB v))) r l (element q)
 
-pub record Mended (lo hi n a q : ℕ) (c b d : List ℕ) : Type 0 where
-  pub long : length d ≡ length c
-  pub done : (k : ℕ) → lo ≤ k → k < hi → getD d k 0 ≡ Octet.sum (Octet.product a (getD c k 0)) (Octet.product q (getD b (margin + k - n) 0))
-  pub left : (k : ℕ) → (k < lo) ⊎ (hi ≤ k) → getD d k 0 ≡ getD c k 0
+unfoldable pub placeOf : ℕ → ℕ → ℕ
+placeOf low i = cond (ltb i low) (lanes * i) (second + lanes * (i - low))
 
-pub record Saved (grows : Bool) (o : ℕ) (x b d : List ℕ) : Type 0 where
-  pub stored : grows ≡ true → Stored lanes o x b d
-  pub same : grows ≡ false → d ≡ b
+abbrev pub Among : ℕ → ℕ → ℕ → Type 0
+Among low high k = (k < lanes * low) ⊎ ((second ≤ k) × (k < second + lanes * high))
 
-pub record Kept (grows : Bool) (lo hi : ℕ) (c b d : List ℕ) : Type 0 where
-  pub long : length d ≡ length b
-  pub done : grows ≡ true → (k : ℕ) → lo ≤ k → k < hi → getD d (margin + k) 0 ≡ getD c k 0
-  pub left : (i : ℕ) → (i < margin + lo) ⊎ (margin + hi ≤ i) → getD d i 0 ≡ getD b i 0
-  pub same : grows ≡ false → d ≡ b
+pub record Mended (low high p n a q : ℕ) (z v w : List ℕ) : Type 0 where
+  pub long : length w ≡ length z
+  pub done : (k : ℕ) → p ≤ k → Among low high k → getD w k 0 ≡ Octet.sum (Octet.product a (getD z k 0)) (Octet.product q (getD v (margin + k - n) 0))
+  pub left : (k : ℕ) → (k < p) ⊎ (Among low high k → ⊥) → getD w k 0 ≡ getD z k 0
+
+pub record Saved (grows : Bool) (o : ℕ) (x v u : List ℕ) : Type 0 where
+  pub stored : grows ≡ true → Stored lanes o x v u
+  pub same : grows ≡ false → u ≡ v
+
+pub record Kept (grows : Bool) (low high p : ℕ) (z v u : List ℕ) : Type 0 where
+  pub long : length u ≡ length v
+  pub done : grows ≡ true → (k : ℕ) → p ≤ k → Among low high k → getD u (margin + k) 0 ≡ getD z k 0
+  pub left : (i : ℕ) → (i < margin + p) ⊎ (Among low high (i - margin) → ⊥) → getD u i 0 ≡ getD v i 0
+  pub same : grows ≡ false → u ≡ v
 
 -- of any syndromes s that the state before it is of
-pub record Stepped (e r : ℕ) (c d b t : List ℕ) (l shift q : ℕ) (c′ d′ b′ t′ : List ℕ) (l′ shift′ q′ : ℕ) : Type 0 where
-  pub least : (s : List ℕ) → MasseyStateIs (2 * e) s c d b t r l shift q → Least elements (r + 1) l′ (places s)
-  pub below : (s : List ℕ) → MasseyStateIs (2 * e) s c d b t r l shift q → Below elements (suc l′) (places c′)
-  pub next : (s : List ℕ) → MasseyStateIs (2 * e) s c d b t r l shift q → l′ ≤ e → MasseyStateIs (2 * e) s c′ d′ b′ t′ (r + 1) l′ shift′ q′
+pub record Stepped (e r : ℕ) (z v : List ℕ) (l shift q : ℕ) (z′ v′ : List ℕ) (l′ shift′ q′ : ℕ) : Type 0 where
+  pub long : length z′ ≡ length z
+  pub least : (s : List ℕ) → MasseyStateIs (2 * e) s z v r l shift q → Least elements (r + 1) l′ (places s)
+  pub below : (s : List ℕ) → MasseyStateIs (2 * e) s z v r l shift q → Below elements (suc l′) (places (ofC z′))
+  pub next : (s : List ℕ) → MasseyStateIs (2 * e) s z v r l shift q → l′ ≤ e → MasseyStateIs (2 * e) s z′ v′ (r + 1) l′ shift′ q′
 
 pub record Located (m : ℕ) (s c : List ℕ) (l : ℕ) : Type 0 where
   pub B : Series elements

@@ -7,7 +7,11 @@
 // in Forney's quotient it cancels.
 //
 // A length that passes e never comes back, so the loop ends there: c and b have at most 128 coefficients, and d and t, for at most 254 syndromes,
-// 256, since 16 are taken at a time. b and t stand behind 256 zeros: shifting them is reading further down.
+// 256, since 16 are taken at a time. c and d stand in one array, b and t in another and just as far apart, so that one pass mends both. b and t
+// stand behind 256 zeros each: shifting them is reading further down.
+//
+//     z                 c: 128    unused: 256    d: 256
+//     v    zeros: 256   b: 128    zeros: 256     t: 256
 use crate::LONGEST_WORD;
 use crate::lanes;
 ghost use mathlib.Core.Path.{_≡_};
@@ -17,10 +21,13 @@ ghost use Rattle.field.specs.Octet;
 ghost use Rattle.field.specs.Octet.{size};
 ghost use Rattle.codeword.specs.CodeWord.{longestWord};
 ghost use Rattle.codeword.specs.Lanes.{lanes, Lanes};
-ghost use Rattle.codeword.specs.Locator.{margin, Saved, Mended, Kept, Stepped, LocatorIs, EvaluatorIs};
+ghost use Rattle.codeword.specs.Locator.{margin, second, room, placeOf, Saved, Mended, Kept, Stepped, LocatorIs, EvaluatorIs};
 
 // How many zeros b and t stand behind.
 const MARGIN: usize = 256;
+
+// Where d begins.
+const SECOND: usize = 384;
 
 // What the loop keeps beside c, d, b and t: the length of c, how far b is to be shifted, and what b failed by.
 pub struct Progress {
@@ -38,11 +45,11 @@ pub struct Recurrence {
 }
 
 // What the recurrence fails by at r: the coefficient of its product d with the syndromes.
-fn discrepancy(d: &[u8], r: usize) -> u8
-    requires { ⌜ r < length (now d) ⌝ }
-    ensures { λ x. ⌜ (x ≡ getD (now (d .entry)) r 0) × (x < size) ⌝ }
+fn discrepancy(z: &[u8], r: usize) -> u8
+    requires { ⌜ (r < 256) × (length (now z) ≡ room) ⌝ }
+    ensures { λ x. ⌜ (x ≡ getD (now (z .entry)) (second + r) 0) × (x < size) ⌝ }
 {
-    d[r]
+    z[SECOND + r]
 }
 
 // a x + q y, for 16 coefficients.
@@ -58,52 +65,65 @@ fn mix(x: [u8; 16], y: [u8; 16], a: u8, q: u8) -> [u8; 16]
     z
 }
 
-// Where the length grows, x is written over the 16 octets of b from o on.
-fn keep(b: &mut [u8], o: usize, x: [u8; 16], grows: bool)
-    requires { ⌜ o + lanes ≤ length (now b) ⌝ }
-    ensures { λ _. ⌜ Saved grows o x (now (b .entry)) (now (b .exit)) ⌝ }
+// Where the length grows, x is written over the 16 octets of v from o on.
+fn keep(v: &mut [u8], o: usize, x: [u8; 16], grows: bool)
+    requires { ⌜ o + lanes ≤ length (now v) ⌝ }
+    ensures { λ _. ⌜ Saved grows o x (now (v .entry)) (now (v .exit)) ⌝ }
 {
     if grows {
-        lanes::store(b, o, x);
+        lanes::store(v, o, x);
     }
 }
 
-// c becomes a c + q x^shift b, as far as 16 coefficients a block go, and where the length grows, b becomes the c from before. From the top: a
-// block of b is still wanted by the ones above it.
-fn mend(c: &mut [u8], b: &mut [u8], shift: usize, blocks: usize, a: u8, q: u8, grows: bool)
-    requires { ⌜ (lanes * blocks ≤ length (now c)) × (margin + lanes * blocks ≤ length (now b)) × (shift ≤ margin) ⌝ }
-    ensures { λ _. ⌜ Mended 0 (lanes * blocks) shift a q (now (c .entry)) (now (b .entry)) (now (c .exit))
-        × Kept grows 0 (lanes * blocks) (now (c .entry)) (now (b .entry)) (now (b .exit)) ⌝ }
+// Where block i stands: the first `low` blocks are c's, the others d's.
+fn place(low: usize, i: usize) -> usize
+    requires { ⌜ i < 64 ⌝ }
+    ensures { λ o. ⌜ o ≡ placeOf low i ⌝ }
 {
-    let mut o = blocks;
-    while 0 < o {
-        o -= 1;
-        let x = lanes::load(c, 16 * o);
-        let y = lanes::load(b, MARGIN + 16 * o - shift);
-        keep(b, MARGIN + 16 * o, x, grows);
-        lanes::store(c, 16 * o, mix(x, y, a, q));
+    if i < low {
+        return 16 * i;
+    }
+    SECOND + 16 * (i - low)
+}
+
+// c becomes a c + q x^shift b, and d a d + q x^shift t, as far as `low` and `high` blocks of 16 coefficients go; and where the length grows, b
+// and t become the c and d from before. From the top: a block of b is still wanted by the ones above it.
+fn mend(
+    z: &mut [u8],
+    v: &mut [u8],
+    shift: usize,
+    low: usize,
+    high: usize,
+    a: u8,
+    q: u8,
+    grows: bool,
+)
+    requires { ⌜ (length (now z) ≡ room) × (length (now v) ≡ margin + room) × (0 < low) × (low ≤ 8) × (high ≤ 16) × (shift ≤ margin) ⌝ }
+    ensures { λ _. ⌜ Mended low high 0 shift a q (now (z .entry)) (now (v .entry)) (now (z .exit))
+        × Kept grows low high 0 (now (z .entry)) (now (v .entry)) (now (v .exit)) ⌝ }
+{
+    let mut i = low + high;
+    while 0 < i {
+        i -= 1;
+        let o = place(low, i);
+        let x = lanes::load(z, o);
+        let y = lanes::load(v, MARGIN + o - shift);
+        keep(v, MARGIN + o, x, grows);
+        lanes::store(z, o, mix(x, y, a, q));
     }
 }
 
 // One step: the recurrence is made to hold at r too. Where its length would be above e, only that length is told.
-fn step(
-    c: &mut [u8; LONGEST_WORD],
-    d: &mut [u8; 256],
-    b: &mut [u8; 384],
-    t: &mut [u8; 512],
-    r: usize,
-    e: usize,
-    g: Progress,
-) -> Progress
+fn step(z: &mut [u8; 640], v: &mut [u8; 896], r: usize, e: usize, g: Progress) -> Progress
     requires { ⌜ (r < 2 * e) × (2 * e < longestWord) × (g .long ≤ e) × (g .long ≤ r) × (g .shift ≤ r + 1) ⌝ }
-    ensures { λ o. ⌜ Stepped e r (now (c .entry)) (now (d .entry)) (now (b .entry)) (now (t .entry)) (g .long) (g .shift) (g .failed)
-        (now (c .exit)) (now (d .exit)) (now (b .exit)) (now (t .exit)) (o .long) (o .shift) (o .failed) ⌝ }
+    ensures { λ o. ⌜ Stepped e r (now (z .entry)) (now (v .entry)) (g .long) (g .shift) (g .failed)
+        (now (z .exit)) (now (v .exit)) (o .long) (o .shift) (o .failed) ⌝ }
 {
     let l = g.long;
     let shift = g.shift;
     let failed = g.failed;
     let blocks = (2 * e + 15) / 16;
-    let x = discrepancy(d, r);
+    let x = discrepancy(z, r);
     let kept = Progress {
         long: l,
         shift: shift + 1,
@@ -113,8 +133,7 @@ fn step(
         return kept;
     }
     if r < l + l {
-        mend(d, t, shift, blocks, failed, x, false);
-        mend(c, b, shift, l / 16 + 1, failed, x, false);
+        mend(z, v, shift, l / 16 + 1, blocks, failed, x, false);
         return kept;
     }
     let long = r + 1 - l;
@@ -126,8 +145,7 @@ fn step(
     if e < long {
         return grown;
     }
-    mend(d, t, shift, blocks, failed, x, true);
-    mend(c, b, shift, long / 16 + 1, failed, x, true);
+    mend(z, v, shift, long / 16 + 1, blocks, failed, x, true);
     grown
 }
 
@@ -137,14 +155,12 @@ pub(crate) fn locator(s: &[u8; LONGEST_WORD], e: usize) -> Recurrence
     ensures { λ r. ⌜ LocatorIs (2 * e) (now (s .entry)) (r .coefficients) (r .degree)
         × EvaluatorIs (2 * e) (now (s .entry)) (r .coefficients) (r .evaluator) (r .degree) ⌝ }
 {
-    let mut c = [0u8; LONGEST_WORD];
-    c[0] = 1;
-    let mut b = [0u8; 384];
-    b[MARGIN] = 1;
-    let mut d = [0u8; 256];
-    octets::write(&mut d, 0, s);
-    let mut t = [0u8; 512];
-    octets::write(&mut t, MARGIN, s);
+    let mut z = [0u8; 640];
+    octets::write(&mut z, SECOND, s);
+    z[0] = 1;
+    let mut v = [0u8; 896];
+    octets::write(&mut v, MARGIN + SECOND, s);
+    v[MARGIN] = 1;
     let mut g = Progress {
         long: 0,
         shift: 1,
@@ -152,7 +168,7 @@ pub(crate) fn locator(s: &[u8; LONGEST_WORD], e: usize) -> Recurrence
     };
     let mut r: usize = 0;
     while r < 2 * e {
-        g = step(&mut c, &mut d, &mut b, &mut t, r, e, g);
+        g = step(&mut z, &mut v, r, e, g);
         let l = g.long;
         if e < l {
             break;
@@ -160,6 +176,10 @@ pub(crate) fn locator(s: &[u8; LONGEST_WORD], e: usize) -> Recurrence
         r += 1;
     }
     let degree = g.long;
+    let mut c = [0u8; LONGEST_WORD];
+    octets::write(&mut c, 0, &z[..128]);
+    let mut d = [0u8; 256];
+    octets::write(&mut d, 0, &z[SECOND..640]);
     Recurrence {
         coefficients: c,
         evaluator: d,

@@ -10,16 +10,15 @@ returns : tie.Need-returns
 returns c =
     let found = c .before in
     let pre = found .before .before .before .pre in
-    stepped (λ s h. massey-zero h (found .discrepancy .ensures .0) (pre .0) (omega (arith, pre .1)) (c .if1 .taken))
+    stepped refl (λ s h. massey-zero h (found .discrepancy .ensures .0) (pre .0) (omega (arith, pre .1)) (c .if1 .taken))
 
 returns-2 : tie.Need-returns-2
 returns-2 c =
-    let mended = c .before .before .before in
-    let keeps = mended .before .before .before in
+    let keeps = c .before .before .before in
     let found = keeps .before .before in
     let pre = found .before .before .before .pre in
-    stepped (λ s h. massey-keep h (found .discrepancy .ensures .0) (pre .0) (omega (arith, pre .1)) (c .mend2 .ensures .0) (mended .mend .ensures .0)
-    (omega arith) (omega arith) (omega (arith, keeps .if2 .taken)) (keeps .if2 .taken) (c .mend2 .ensures .1 .same refl) (mended .mend .ensures .1 .same refl))
+    stepped (c .mend .ensures .0 .long) (λ s h. massey-keep h (found .discrepancy .ensures .0) (pre .0) (omega (arith, pre .1)) (omega (arith, pre)) (omega (arith, pre))
+    (c .mend .ensures .0) (omega arith) (omega arith) (omega (arith, keeps .if2 .taken)) (keeps .if2 .taken) (c .mend .ensures .1 .same refl))
 
 returns-3 : tie.Need-returns-3
 returns-3 c =
@@ -31,17 +30,16 @@ returns-3 c =
 
 returns-4 : tie.Need-returns-4
 returns-4 c =
-    let grown = c .before .before .before in
-    let grows = grown .before .before .before .before in
+    let grows = c .before .before .before .before in
     let found = grows .before .before in
     let pre = found .before .before .before .pre in
-    stepped (λ s h. massey-grow h (found .discrepancy .ensures .0) (pre .0) (omega (arith, pre .1)) (c .mend4 .ensures .0) (grown .mend3 .ensures .0)
-    (omega arith) (omega (arith, grows .if2 .left)) (omega (arith, grows .if2 .left)) (found .discrepancy .ensures .1) (grows .before .if1 .left)
-    (grows .if2 .left) (c .mend4 .ensures .1) (grown .mend3 .ensures .1))
+    stepped (c .mend2 .ensures .0 .long) (λ s h. massey-grow h (found .discrepancy .ensures .0) (pre .0) (omega (arith, pre .1)) (omega (arith, pre)) (omega (arith, pre))
+    (c .mend2 .ensures .0) (omega arith) (omega (arith, grows .if2 .left)) (omega (arith, grows .if2 .left)) (found .discrepancy .ensures .1)
+    (grows .before .if1 .left) (grows .if2 .left) (c .mend2 .ensures .1))
 
 pub step-spec : {M : Type 1} → statement M
 step-spec =
     tie.close
     (tie.spec (λ c. search needs) (λ c. search needs) (λ c κs. search needs) (λ c. search needs) returns (λ c. search needs)
-    (λ c κs. search needs) (λ c. search needs) (λ c κs. search needs) returns-2 (λ c. search needs) (λ c. search needs) returns-3
-    (λ c κs. search needs) (λ c. search needs) (λ c κs. search needs) returns-4)
+    (λ c. search needs) (λ c κs. search needs) returns-2 (λ c. search needs) (λ c. search needs) returns-3 (λ c. search needs)
+    (λ c κs. search needs) returns-4)
