@@ -1,8 +1,8 @@
 -- The generator's coefficients: ratios, multiplied up, and the lower half from the upper.
 --
 --   powers-at                        a power from the list
---   spread-start, spread-next        c, 2c, .. as exponents
---   spread-entry                     .. of the powers in the list
+--   stepped-start, stepped-next        c, 2c, .. as exponents
+--   stepped-entry                     .. of the powers in the list
 --   upper-start, upper-next          one block of ratios after another
 --   upper-end                        .. which are all
 --   doubled-start, doubled-next      one block of products after another, from the top
@@ -49,17 +49,17 @@ open Field elements using (Carrier as F, add as _⊕_, mul as _⊙_, inv, nil as
 pub powers-at : (r : List ℕ) (k : ℕ) → Laid r → getD r (k % Octet.order) 0 ≡ Octet.power Octet.α k
 powers-at r k h = h (k % Octet.order) (omega arith) ∙ power-wrap k
 
-pub spread-entry : (r : List ℕ) (c at k : ℕ) {v : ℕ} → Laid r → v ≡ getD r (at % Octet.order) 0
+pub stepped-entry : (r : List ℕ) (c at k : ℕ) {v : ℕ} → Laid r → v ≡ getD r (at % Octet.order) 0
     → Octet.power Octet.α at ≡ Octet.power (Octet.power Octet.α c) (suc k) → v ≡ Octet.power (Octet.power Octet.α c) (suc k)
-spread-entry r c at k h e p = e ∙ powers-at r at h ∙ p
+stepped-entry r c at k h e p = e ∙ powers-at r at h ∙ p
 
-pub spread-start : (c : ℕ) → Octet.power Octet.α c ≡ Octet.power (Octet.power Octet.α c) 1
-spread-start c = sym (power-mul Octet.α c 1 ∙ ap (Octet.power Octet.α) (omega arith))
+pub stepped-start : (c : ℕ) → Octet.power Octet.α c ≡ Octet.power (Octet.power Octet.α c) 1
+stepped-start c = sym (power-mul Octet.α c 1 ∙ ap (Octet.power Octet.α) (omega arith))
 
-pub spread-next : (c at k : ℕ) → Octet.power Octet.α at ≡ Octet.power (Octet.power Octet.α c) (suc k)
+pub stepped-next : (c at k : ℕ) → Octet.power Octet.α at ≡ Octet.power (Octet.power Octet.α c) (suc k)
     → Octet.power Octet.α (at + c) ≡ Octet.power (Octet.power Octet.α c) (suc (k + 1))
-spread-next c at k p =
-    power-add Octet.α at c ∙ ap₂ Octet.product p (spread-start c) ∙ sym (power-add _ (suc k) 1) ∙ ap (Octet.power (Octet.power Octet.α c)) (omega arith)
+stepped-next c at k p =
+    power-add Octet.α at c ∙ ap₂ Octet.product p (stepped-start c) ∙ sym (power-add _ (suc k) 1) ∙ ap (Octet.power (Octet.power Octet.α c)) (omega arith)
 
 element-powers : (a d : ℕ) → element (Octet.power a d) ≡ pow elements (element a) d
 element-powers a zero = ap element (power-zero a) ∙ element-one ∙ sym (pow-zero elements _)

@@ -37,7 +37,7 @@ use Rattle.codeword.specs.Places.{value}
 use Rattle.codeword.specs.Syndromes.{SyndromesAre}
 use Rattle.codeword.specs.Lanes.{lanes, Lanes, Summed}
 use Rattle.codeword.specs.Register.{G, ones, GeneratorIs, RegisterIs}
-use Rattle.codeword.specs.Interpolation.{points, Values, divisor, weight, PartsAdded, Interpolates, Raised}
+use Rattle.codeword.specs.Interpolation.{points, ElementLanes, divisor, share, PartsAdded, Interpolates, Raised}
 use Rattle.codeword.proofs.Arrays.{replicate-at, zeros, zeros-at, zeros-octets, octets-set, set-below}
 use Rattle.codeword.proofs.Word.{below-word}
 use Rattle.codeword.proofs.Criterion.{rising-distinct}
@@ -53,7 +53,7 @@ open Field elements using (Carrier as F, add as _⊕_, mul as _⊙_, inv, nil as
 abbrev pub horned : ℕ → ℕ → F → F
 horned e h y = ev elements h (from elements (e - h) (odds elements (G (2 * e)))) y
 
-pub values-start : (e : ℕ) (y : List ℕ) → Values (λ k. horned e 0 (element (getD y k 0))) (replicate lanes 0)
+pub values-start : (e : ℕ) (y : List ℕ) → ElementLanes (λ k. horned e 0 (element (getD y k 0))) (replicate lanes 0)
 values-start e y = record {
   octet = λ k l. rw (replicate-at lanes k) (lit< tt);
   is = λ k l. ap element (replicate-at lanes k) ∙ element-zero ∙ sym (ev-zero elements _ _);
@@ -61,7 +61,7 @@ values-start e y = record {
 
 pub values-next : (e h : ℕ) {c : ℕ} {g : List ℕ} (y : List ℕ) {d n : List ℕ} → h < e → GeneratorIs (2 * e) g → c ≡ getD g (suc ones + 2 * h) 0
     → c < Octet.size → Lanes (λ k. Octet.sum (Octet.product (getD y k 0) (getD d k 0)) c) n
-    → Values (λ k. horned e h (element (getD y k 0))) d → Values (λ k. horned e (h + 1) (element (getD y k 0))) n
+    → ElementLanes (λ k. horned e h (element (getD y k 0))) d → ElementLanes (λ k. horned e (h + 1) (element (getD y k 0))) n
 values-next e h {c} {g} y {d} {n} l gi ec small ln v = record {
   octet = λ k b. rw (ln .entry k b) (sum-octet _ _ (product-octet _ _) small);
   is = λ k b.
@@ -90,7 +90,7 @@ values-next e h {c} {g} y {d} {n} l gi ec small ln v = record {
         ∙ ap₂ (λ (a b : ℕ). f (e - suc h) ⊕ x ⊙ ev elements a (from elements b f) x) r t
 
 pub values-end : (e : ℕ) (x y : List ℕ) {d : List ℕ} → Lanes (λ k. Octet.product (getD x k 0) (getD x k 0)) y
-    → Values (λ k. horned e e (element (getD y k 0))) d → Values (λ k. divisor e (element (getD x k 0))) d
+    → ElementLanes (λ k. horned e e (element (getD y k 0))) d → ElementLanes (λ k. divisor e (element (getD x k 0))) d
 values-end e x y ly v = record {
   octet = v .octet;
   is = λ k b.
@@ -158,29 +158,29 @@ point-at r x o pw b lx k l =
     ap element (lx .entry k l ∙ pw (o + 1 + k) (omega arith) ∙ ap (Octet.power Octet.α) z) ∙ element-power (suc (o + k)) ∙ sym (rising-at elements α (o + k))
 
 pub interpolates-next : (r : List ℕ) (e o : ℕ) {x d v w s p q : List ℕ} → o ≤ 32 → Laid r → Lanes (λ k. getD r (o + 1 + k) 0) x
-    → Values (λ k. divisor e (element (getD x k 0))) d → Lanes (λ k. getD s (o + k) 0) v
+    → ElementLanes (λ k. divisor e (element (getD x k 0))) d → Lanes (λ k. getD s (o + k) 0) v
     → Lanes (λ k. Octet.product (getD v k 0) (Octet.inverse (getD d k 0))) w → PartsAdded (2 * e) (2 * e) x w p q → Interpolates e o s p
     → Interpolates e (o + lanes) s q
 interpolates-next r e o {x} {d} {v} {w} {s} {p} {q} b pw lx vd lv lw h t = record {
   long = h .long ∙ t .long;
   octets = h .octets (t .octets);
   used = λ i l.
-      h .done i l ∙ ap₂ (λ (y z : F). y ⊕ z) (t .used i l ∙ interpolated-at elements m points o (weight e s) (m - suc i))
+      h .done i l ∙ ap₂ (λ (y z : F). y ⊕ z) (t .used i l ∙ interpolated-at elements m points o (share e s) (m - suc i))
       (total-same elements lanes _ _ (term (m - suc i)))
-      ∙ sym (interpolated-at elements m points (o + lanes) (weight e s) (m - suc i) ∙ total-more elements o lanes _);
+      ∙ sym (interpolated-at elements m points (o + lanes) (share e s) (m - suc i) ∙ total-more elements o lanes _);
   unused = λ i l. h .rest i l ∙ t .unused i l;
 }
   where
     m : ℕ
     m = 2 * e
 
-    taken : (k : ℕ) → k < lanes → element (getD w k 0) ≡ weight e s (o + k)
+    taken : (k : ℕ) → k < lanes → element (getD w k 0) ≡ share e s (o + k)
     taken k l =
         ap element (lw .entry k l) ∙ element-product _ _
         ∙ ap₂ (λ (y z : F). y ⊙ z) (ap element (lv .entry k l))
         (element-inverse _ (vd .octet k l) ∙ ap inv (vd .is k l ∙ ap (divisor e) (point-at r x o pw b lx k l)))
 
-    term : (c k : ℕ) → k < lanes → element (getD w k 0) ⊙ quo elements m (G m) (element (getD x k 0)) c ≡ weight e s (o + k) ⊙ part elements m points (o + k) c
+    term : (c k : ℕ) → k < lanes → element (getD w k 0) ⊙ quo elements m (G m) (element (getD x k 0)) c ≡ share e s (o + k) ⊙ part elements m points (o + k) c
     term c k l =
         ap₂ (λ (y z : F). y ⊙ z) (taken k l)
         (ap (λ (y : F). quo elements m (G m) y c) (point-at r x o pw b lx k l) ∙ ap (λ (f : Series elements). f c) (sym (part-is elements m points (o + k))))
@@ -202,29 +202,29 @@ interpolates-end e o u w s p fits small all r sy t = record {
     word-of : List ℕ
     word-of = take (length u + 2 * e) w
 
-    weight-none : (k : ℕ) → m ≤ k → weight e s k ≡ 𝟘
-    weight-none k l = ap (λ (y : F). y ⊙ inv (divisor e (points k))) (ap element (sy .unused k l) ∙ element-zero) ∙ ⊙-comm elements _ _ ∙ ⊙-𝟘 elements _
+    share-none : (k : ℕ) → m ≤ k → share e s k ≡ 𝟘
+    share-none k l = ap (λ (y : F). y ⊙ inv (divisor e (points k))) (ap element (sy .unused k l) ∙ element-zero) ∙ ⊙-comm elements _ _ ∙ ⊙-𝟘 elements _
 
     distinct : Distinct elements m points
     distinct = rising-distinct m small
 
-    weighed : (k : ℕ) → k < m → weight e s k ⊙ ev elements m (part elements m points k) (points k) ≡ ev elements (length word-of) (polynomial elements (word word-of)) (points k)
+    weighed : (k : ℕ) → k < m → share e s k ⊙ ev elements m (part elements m points k) (points k) ≡ ev elements (length word-of) (polynomial elements (word word-of)) (points k)
     weighed k l =
         let D : F = divisor e (points k) in
         let z : ev elements m (part elements m points k) (points k) ≡ D = part-value elements e points k l in
-        ap (λ (y : F). weight e s k ⊙ y) z ∙ ⊙-assoc elements _ _ _
+        ap (λ (y : F). share e s k ⊙ y) z ∙ ⊙-assoc elements _ _ _
         ∙ ap (λ (y : F). element (getD s k 0) ⊙ y) (⊙-comm elements _ _ ∙ ⊙-inv elements D (λ c. part-ne elements m points distinct k l (z ∙ c)))
         ∙ ⊙-𝟙 elements _ ∙ sy .used k l ∙ ap (ev elements (length word-of) (polynomial elements (word word-of))) (sym (rising-at elements α k))
 
-    is : Remainder elements (G m) m (polynomial elements (word word-of)) (interpolated elements m points o (weight e s))
-    is = interpolated-remainder elements m points distinct o (length word-of) _ (weight e s) all (below-word word-of) weight-none weighed
+    is : Remainder elements (G m) m (polynomial elements (word word-of)) (interpolated elements m points o (share e s))
+    is = interpolated-remainder elements m points distinct o (length word-of) _ (share e s) all (below-word word-of) share-none weighed
 
     room : 0 + m ≤ length p
     room = omega (arith, t .long)
 
-    same : (c : ℕ) → interpolated elements m points o (weight e s) c ≡ polynomial elements (word (take m p)) c
+    same : (c : ℕ) → interpolated elements m points o (share e s) c ≡ polynomial elements (word (take m p)) c
     same c = elim (decLt c m) [
       | yes l ↦ (let z : m - suc (0 + (m - suc c)) ≡ c = omega arith in
-          sym (stretch-at m 0 p room c l ∙ t .used (0 + (m - suc c)) (omega arith) ∙ ap (interpolated elements m points o (weight e s)) z))
+          sym (stretch-at m 0 p room c l ∙ t .used (0 + (m - suc c)) (omega arith) ∙ ap (interpolated elements m points o (share e s)) z))
       | no l ↦ is .small c (omega arith) ∙ sym (below-stretch m 0 p room c (omega arith))
     ]

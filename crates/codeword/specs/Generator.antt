@@ -3,7 +3,7 @@
 --   coefficient m i    the coefficient of (x - α) .. (x - αᵐ) that stands at place i: at place 128 the highest, 1; before it, 1 too
 --   Upper e s n p      the octet at each place of the upper half that is below n, times the coefficient s places before, is the one there
 --   Doubled s l h p q  the octets from l on and below h have been multiplied by those s places before
---   Half m n p         the coefficients at the places below n are there
+--   Half m n p         at the places below n, as far as there are coefficients, stand these
 --   rise e             α to the 2e + 1
 --
 -- Assumes nothing.

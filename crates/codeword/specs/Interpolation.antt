@@ -1,12 +1,12 @@
 -- What the steps of the interpolation answer.
 --
---   points             α, α², .., the roots of the generator
---   Values f r         r has 16 octets, the elements f₀, .., f₁₅
---   divisor e x        the value of the generator without its factor y - x, at its root x: that of its derivative, by x²
---   weight e s k       how often part k is taken: value k, s at k, over the divisor
---   PartsAdded n m x w p q  the first n octets of 16 parts, taken w₀, .., w₁₅ times, are added to p
---   Interpolates e o s p   p are the coefficients of the sum of the first o parts, the highest first; zero where unused
---   Raised u w         w is the message u, with zeros behind
+--   points                   α, α², .., the roots of the generator
+--   ElementLanes f r         the first 16 entries of r are octets, the elements f₀, .., f₁₅
+--   divisor e x              the value of the generator without its factor y - x, at its root x: that of its derivative, by x²
+--   share e s k              how often part k is taken: value k, s at k, over the divisor
+--   PartsAdded n m x w p q   q is p, with 16 parts, taken w₀, .., w₁₅ times, added to its first n octets
+--   Interpolates e o s p     p are the coefficients of the sum of the first o parts, the highest first; zero where unused
+--   Raised z u w             w has z octets: the message u, with zeros behind
 --
 -- Assumes nothing.
 use mathlib.Core.Path.{_≡_}
@@ -32,15 +32,15 @@ open Field elements using (Carrier as F, add as _⊕_, mul as _⊙_, inv)
 abbrev pub points : Series elements
 points = rising elements α
 
-pub record Values (f : ℕ → F) (r : List ℕ) : Type 0 where
+pub record ElementLanes (f : ℕ → F) (r : List ℕ) : Type 0 where
   pub octet : (k : ℕ) → k < lanes → getD r k 0 < Octet.size
   pub is : (k : ℕ) → k < lanes → element (getD r k 0) ≡ f k
 
 abbrev pub divisor : ℕ → F → F
 divisor e x = ev elements e (odds elements (G (2 * e))) (x ⊙ x)
 
-abbrev pub weight : ℕ → List ℕ → Series elements
-weight e s k = element (getD s k 0) ⊙ inv (divisor e (points k))
+abbrev pub share : ℕ → List ℕ → Series elements
+share e s k = element (getD s k 0) ⊙ inv (divisor e (points k))
 
 pub record PartsAdded (n m : ℕ) (x w p q : List ℕ) : Type 0 where
   pub long : length q ≡ length p
@@ -53,7 +53,7 @@ pub record PartsAdded (n m : ℕ) (x w p q : List ℕ) : Type 0 where
 pub record Interpolates (e o : ℕ) (s p : List ℕ) : Type 0 where
   pub long : length p ≡ longestWord
   pub octets : Octets p
-  pub used : (i : ℕ) → i < 2 * e → element (getD p i 0) ≡ interpolated elements (2 * e) points o (weight e s) (2 * e - suc i)
+  pub used : (i : ℕ) → i < 2 * e → element (getD p i 0) ≡ interpolated elements (2 * e) points o (share e s) (2 * e - suc i)
   pub unused : (i : ℕ) → 2 * e ≤ i → getD p i 0 ≡ 0
 
 pub record Raised (z : ℕ) (u w : List ℕ) : Type 0 where

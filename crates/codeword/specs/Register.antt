@@ -2,7 +2,7 @@
 --
 --   G m                     (x - α) .. (x - αᵐ)
 --   ones, room              how many ones stand before the generator's coefficients in their array, and how many octets that has
---   GeneratorIs m g         behind the ones stand its m + 1 coefficients, the highest first, and behind these 16 zeros
+--   GeneratorIs m g         in such an array, where the ones end, stand its m + 1 coefficients, the highest first, and behind these 16 zeros
 --   RegisterIs m u p        p₀, .., pₘ₋₁ are the remainder of x^m u, and the rest is zero
 --   width                   how many octets the register's array has
 --   Lowered n i g w v       the first n octets of a turn: the generator times octet i of w is taken off what stands behind it, which gives v

@@ -15,6 +15,9 @@ ghost use Rattle.codeword.specs.Register.{GeneratorIs, RegisterIs, Lower
 // The octets of the register's array: those of two words and more, since a turn writes 16 at a time.
 const WIDTH: usize = 528;
 
+// The largest e for which the interpolation takes less time than the register.
+const INTERPOLATED: usize = 16;
+
 // One turn of the register, at octet i.
 fn turn(w: &mut [u8; WIDTH], i: usize, g: &[u8; ROOM], m: usize)
     requires { ⌜ (i < longestWord) × (m < longestWord) × GeneratorIs m (now g) ⌝ }
@@ -66,7 +69,7 @@ pub(crate) fn parity(message: &[u8], e: usize) -> [u8; LONGEST_WORD]
 {
     let powers = field::powers();
     let g = generator::generator(&powers, e);
-    if e <= 16 {
+    if e <= INTERPOLATED {
         return interpolation::remainder(message, &g, &powers, e);
     }
     divide(message, &g, 2 * e)

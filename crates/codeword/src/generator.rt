@@ -66,7 +66,7 @@ fn multiply_up(p: &mut [u8; ROOM], e: usize)
 }
 
 // α to the c, to the 2c, .., to the 16c.
-fn spread(powers: &[u8; LAID], c: usize) -> [u8; 16]
+fn stepped(powers: &[u8; LAID], c: usize) -> [u8; 16]
     requires { ⌜ (c ≤ longestWord) × Laid (now powers) ⌝ }
     ensures { λ r. ⌜ Lanes (λ k. Octet.power (Octet.power Octet.α c) (suc k)) r ⌝ }
 {
@@ -100,7 +100,7 @@ fn mirror(p: &mut [u8; ROOM], powers: &[u8; LAID], e: usize)
     requires { ⌜ (2 * e < longestWord) × Laid (now powers) × Half (2 * e) (suc ones + e) (now p) ⌝ }
     ensures { λ _. ⌜ Half (2 * e) (suc ones + 2 * e) (now (p .exit)) ⌝ }
 {
-    let mut c = spread(powers, 2 * e + 1);
+    let mut c = stepped(powers, 2 * e + 1);
     let far = lanes::splat(powers[16 * (2 * e + 1) % field::ORDER]);
     let mut o: usize = 0;
     while o < e {

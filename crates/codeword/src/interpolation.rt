@@ -18,12 +18,12 @@ ghost use Rattle.codeword.specs.Element.{element};
 ghost use Rattle.codeword.specs.CodeWord.{longestWord};
 ghost use Rattle.codeword.specs.Lanes.{lanes};
 ghost use Rattle.codeword.specs.Register.{GeneratorIs, RegisterIs};
-ghost use Rattle.codeword.specs.Interpolation.{Values, divisor, PartsAdded, Interpolates, Raised};
+ghost use Rattle.codeword.specs.Interpolation.{ElementLanes, divisor, PartsAdded, Interpolates, Raised};
 
 // The derivative's values at x.
 fn divisors(g: &[u8; ROOM], e: usize, x: [u8; 16]) -> [u8; 16]
     requires { ⌜ (2 * e < longestWord) × GeneratorIs (2 * e) (now g) ⌝ }
-    ensures { λ r. ⌜ Values (λ k. divisor e (element (getD x k 0))) r ⌝ }
+    ensures { λ r. ⌜ ElementLanes (λ k. divisor e (element (getD x k 0))) r ⌝ }
 {
     let y = lanes::products(x, x);
     let mut d = [0u8; 16];

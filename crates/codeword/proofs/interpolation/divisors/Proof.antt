@@ -4,14 +4,14 @@ use Prim.Native.Nat.{_-_, _≤_}
 use native.Mathlib.Omega.{arith}
 use lib.ListN.{getD}
 use Rattle.codeword.specs.Element.{element}
-use Rattle.codeword.specs.Interpolation.{Values}
+use Rattle.codeword.specs.Interpolation.{ElementLanes}
 use Rattle.codeword.proofs.Interpolating.{horned, values-start, values-next, values-end}
 use borrow.Author.Needs.{needs}
 use Rattle.codeword.proofs.interpolation.divisors.Statement.{statement}
 use Rattle.codeword.proofs.interpolation.divisors.Tie as tie
 
 abbrev Inv-loop : tie.InvT-loop
-Inv-loop g e y d₀ h₀ d h = (h ≤ e) × Values (λ k. horned e h (element (getD y k 0))) d
+Inv-loop g e y d₀ h₀ d h = (h ≤ e) × ElementLanes (λ k. horned e h (element (getD y k 0))) d
 
 abbrev μ-loop : tie.MeasureT-loop
 μ-loop g e y d₀ h₀ d h = e - h
