@@ -103,7 +103,8 @@ pub fn repair(received: &[u8], e: usize, repaired: &mut [u8], places: &mut [u8])
     if places.len() < e {
         return Reach::OutOfReach;
     }
-    let s = syndromes::syndromes(received, 2 * e);
+    let powers = field::powers();
+    let s = syndromes::syndromes(received, 2 * e, &powers);
     if syndromes::clean(&s, 2 * e) {
         octets::write(repaired, 0, received);
         return Reach::Found(0);

@@ -3,7 +3,6 @@
 // The definitions are in specs/Octet.antt; what the layers above may use of them is specs/Octet/Laws.antt, and of the
 // table specs/Octet/Table.antt. The one table is that of the powers: a product is worked out by shifting and adding.
 ghost use mathlib.Core.Path.{_≡_};
-ghost use Prim.Native.Nat.{_+_, _≤_};
 ghost use lib.Dec.{T};
 ghost use Rattle.field.specs.Octet;
 ghost use Rattle.field.specs.Octet.Table;
@@ -117,7 +116,7 @@ pub fn powers() -> [u8; LAID]
 
 // Entry k of the powers times b, as `product`: its doublings are the seven entries behind it.
 pub fn product_at(powers: &[u8; LAID], k: usize, b: u8) -> u8
-    requires { ⌜ Table.Laid (now powers) × (k + 8 ≤ Table.laid) ⌝ }
+    requires { ⌜ Table.Laid (now powers) × Table.Doublings k ⌝ }
     ensures { λ r. ⌜ r ≡ Octet.product (Octet.power Octet.α k) b ⌝ }
 {
     let mut total: u8 = 0;

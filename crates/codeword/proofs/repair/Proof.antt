@@ -33,7 +33,7 @@ returns-6 : tie.Need-returns-6
 returns-6 c =
     let tested = c .before .before .before .before .before in
     let formed = tested .before .before in
-    let fits = formed .before in
+    let fits = formed .before .before .before in
     let short = fits .before .before .before .before in
     let known = short .before .before .before in
     let a = known .before .args in
@@ -50,6 +50,6 @@ decode-requires c κs =
 pub repair-spec : {M : Type 1} → statement M
 repair-spec =
     tie.close
-    (tie.spec returns returns-2 (λ c. search needs) returns-3 returns-4 returns-5 (λ c. search needs)
-    (λ c κs. search needs) (λ c. search needs) (λ c κs. search needs) (λ c κs. search needs) (λ c. search needs) returns-6
+    (tie.spec returns returns-2 (λ c. search needs) returns-3 returns-4 returns-5 (λ c κs. search needs)
+    (λ c. search needs) (λ c κs. search needs) (λ c. search needs) (λ c κs. search needs) (λ c κs. search needs) (λ c. search needs) returns-6
     decode-requires (λ c. search needs) (λ c. search needs) (λ c. search needs))
