@@ -6,20 +6,18 @@
 --   rows-next                    .. and one more
 --   rows-are                     .. of a word with zeros in front
 --   added-start, added-next      octets added, one after another
---   ahead k j a f o i            what a turn of Horner's rule makes of lane i
---   ahead-lane                   .. worked out
 --   spaced-at                    a coefficient of a series of spaced entries
---   HornerLanes n d k j f s o a  lane i has what Horner's rule has after the coefficients from d on
---   horner-load, horner-turn, horner-evaluated    .. from the highest coefficient down
+--   loaded                       .. in each lane, where they are loaded
+--   evaluated                    what Horner's rule has of such series in the end
 --   FoldingTo n d t a f g        a is added to n of the rows that the taps t name
---   folding-start, folding-next, row-folded       .. one after another
---   folded-start, folded-next    one row after another
+--   folding-start, folding-next  .. one after another
+--   folded-start, folded-next    one row after another is folded
 --
 -- Assumes nothing.
-use mathlib.Core.Path.{_≡_, refl, sym, ap, ap₂, _∙_}
+use mathlib.Core.Path.{_≡_, refl, sym, ap, _∙_}
 use mathlib.Core.Logic.{_≢_, _⊎_, ⊎-elim, inl, inr}
 use mathlib.Core.List.{List}
-use Prim.Native.Nat.{ℕ, zero, suc, _+_, _-_, _*_, _≤_, _<_}
+use Prim.Native.Nat.{ℕ, suc, _+_, _-_, _*_, _≤_, _<_}
 use native.Mathlib.Numerals.{add-one}
 use native.Mathlib.Omega.{arith}
 use native.Mathlib.Decide.{ℕ-discrete, decLt}
@@ -28,20 +26,21 @@ use lib.Seq.{getD-set-same, getD-set-other}
 use Rattle.algebra.specs.Field.{Field}
 use Rattle.algebra.specs.Power.{pow}
 use Rattle.algebra.specs.Polynomial.{polynomial}
-use Rattle.algebra.specs.Value.{ev, from, terms}
-use Rattle.algebra.proofs.Laws.{ring, ⊕-comm, ev-zero, from-zero, horner, ev-snoc, ev-added, terms-zero, terms-suc, pow-add, polynomial-at}
+use Rattle.algebra.specs.Value.{ev, terms}
+use Rattle.algebra.proofs.Laws.{ring, ev-snoc, ev-added, terms-zero, terms-suc, pow-add, polynomial-at}
 use Rattle.octets.specs.Written.{written, written-inside, written-outside}
 use Rattle.field.specs.Octet as Octet
-use Rattle.codeword.specs.Element.{elements, element, α}
-use Rattle.codeword.specs.Element.Laws.{element-sum, element-product, element-power, element-zero}
+use Rattle.codeword.specs.Element.{elements, element}
+use Rattle.codeword.specs.Element.Laws.{element-sum, element-zero}
 use Rattle.codeword.specs.CodeWord.{longestWord, word}
 use Rattle.codeword.specs.Lanes.{lanes, Lanes}
-use Rattle.codeword.specs.Rows.{RowAdded, spaced, Ahead, Evaluated, column, RowsAre, RowFolded, Folded}
+use Rattle.codeword.specs.Rows.{RowAdded, spaced, Evaluated, column, RowsAre, Folded}
+use Rattle.codeword.proofs.Horner.{HornerLanes, horner-value}
 use Rattle.codeword.proofs.Word.{word-length, word-at, below-word}
 
 infixl 60 _⊕_
 infixl 70 _⊙_
-open Field elements using (Carrier as F, add as _⊕_, mul as _⊙_, nil as 𝟘)
+open Field elements using (Carrier as F, add as _⊕_, mul as _⊙_)
 
 abbrev pub Blocks : (ℕ → ℕ → Type 0) → ℕ → ℕ → List ℕ → Type 0
 Blocks P n m s = (i : ℕ) → i < n → i < m → P i (getD s i 0)
@@ -118,48 +117,18 @@ added-next {n} {o} {v} {a} {f} {g} h room e = record {
         rw p (getD-set-same g (o + n) v 0 (omega (arith, h .long)) ∙ e ∙ ap (λ (x : ℕ). Octet.sum x (getD a n 0)) (h .left (o + n) (inr (omega arith))))
     go i l (no p) = getD-set-other g (o + n) (o + i) v 0 (omega arith) ∙ h .done i (omega arith)
 
--- ---- Horner's rule in lanes
-
-abbrev pub ahead : (k j : ℕ) (a f : List ℕ) (o : ℕ) → ℕ → ℕ
-ahead k j a f o i = Octet.sum (Octet.product (Octet.power Octet.α (k + j * i)) (getD a i 0)) (getD f (o + i) 0)
-
-pub ahead-lane : {z p x : ℕ} (k j : ℕ) (a f : List ℕ) (o i : ℕ) → z ≡ k + j * i → p ≡ Octet.product (Octet.power Octet.α z) (getD a i 0)
-    → x ≡ Octet.sum p (getD f (o + i) 0) → x ≡ ahead k j a f o i
-ahead-lane k j a f o i q h e =
-    e ∙ ap (λ (x : ℕ). Octet.sum x (getD f (o + i) 0)) (h ∙ ap (λ (n : ℕ). Octet.product (Octet.power Octet.α n) (getD a i 0)) q)
-
-pub record HornerLanes (n d k j : ℕ) (f : List ℕ) (s o : ℕ) (a : List ℕ) : Type 0 where
-  pub long : length a ≡ lanes
-  pub is : (i : ℕ) → i < lanes → element (getD a i 0) ≡ ev elements (n - d) (from elements d (spaced f s (o + i))) (pow elements α (k + j * i))
+-- ---- Horner's rule, of columns
 
 pub spaced-at : (f : List ℕ) (s k d n : ℕ) → n ≡ s * d + k → spaced f s k d ≡ element (getD f n 0)
 unfolding spaced
 spaced-at f s k d n e = ap (λ (k : ℕ). element (getD f k 0)) (sym e)
 
-pub horner-load : {n d k j s o at : ℕ} {f a : List ℕ} → d + 1 ≡ n → at ≡ s * d + o → Lanes (λ k. getD f (at + k) 0) a → HornerLanes n d k j f s o a
-horner-load {n} {d} {k} {j} {s} {o} {at} {f} {a} e w h = record {
-  long = h .long;
-  is = λ i l.
-      let z : n - suc d ≡ 0 = omega arith in
-      ap element (h .entry i l) ∙ sym (spaced-at f s (o + i) d (at + i) (omega arith))
-      ∙ sym (horner elements n d (spaced f s (o + i)) (pow elements α (k + j * i)) (omega arith) ∙ (rw (z, ev-zero) (simp ring)));
-}
+pub loaded : (f : List ℕ) (s o d : ℕ) {at : ℕ} {a : List ℕ} → at ≡ s * d + o → Lanes (λ k. getD f (at + k) 0) a
+    → (i : ℕ) → i < lanes → element (getD a i 0) ≡ spaced f s (o + i) d
+loaded f s o d {at} e h i l = ap element (h .entry i l) ∙ sym (spaced-at f s (o + i) d (at + i) (omega arith))
 
-pub horner-turn : {n d k j s o at : ℕ} {f a b : List ℕ} → d < n → at ≡ s * d + o → Ahead k j a f at b → HornerLanes n (d + 1) k j f s o a
-    → HornerLanes n d k j f s o b
-horner-turn {n} {d} {k} {j} {s} {o} {at} {f} {a} {b} l w t h = record {
-  long = t .long;
-  is = λ i m.
-      ap element (t .entry i m) ∙ element-sum _ _
-      ∙ ap₂ (λ (x y : F). x ⊕ y) (element-product _ _ ∙ ap₂ (λ (x y : F). x ⊙ y) (element-power (k + j * i)) (rw (add-one d) at (h .is i m)))
-      (sym (spaced-at f s (o + i) d (at + i) (omega arith)))
-      ∙ ⊕-comm elements _ _ ∙ sym (horner elements n d (spaced f s (o + i)) (pow elements α (k + j * i)) l);
-}
-
-pub horner-evaluated : {n k j s o : ℕ} {f a : List ℕ} → HornerLanes n 0 k j f s o a → Evaluated n k j f s o a
-horner-evaluated {n} h =
-    let e : n - 0 ≡ n = omega arith in
-    record { long = h .long; used = λ i l. rw (e, from-zero) at (h .is i l) }
+pub evaluated : (f : List ℕ) (s o : ℕ) {n : ℕ} {x : ℕ → ℕ} {a : List ℕ} → HornerLanes n 0 x (λ i. spaced f s (o + i)) a → Evaluated n x f s o a
+evaluated f s o h = record { long = h .long; used = horner-value h }
 
 -- ---- folding
 
@@ -171,9 +140,9 @@ pub record FoldingTo (n d : ℕ) (t a f g : List ℕ) : Type 0 where
 pub folding-start : {d : ℕ} {t a f : List ℕ} → FoldingTo 0 d t a f f
 folding-start = record { worth = λ p y l. rw (terms-zero) (simp ring) }
 
-pub folding-next : {n d b : ℕ} {t a f g h : List ℕ} → 8 ≤ d → getD t n 0 < 8 → b ≡ 16 * (d - 8 + getD t n 0) → RowAdded lanes b a g h
+pub folding-next : (n d : ℕ) (t : List ℕ) {b : ℕ} {a f g h : List ℕ} → 8 ≤ d → getD t n 0 < 8 → b ≡ 16 * (d - 8 + getD t n 0) → RowAdded lanes b a g h
     → FoldingTo n d t a f g → FoldingTo (n + 1) d t a f h
-folding-next {n} {d} {b} {t} {a} {f} {g} {h} l m e s w = record {
+folding-next n d t {b} {a} {f} {g} {h} l m e s w = record {
   worth = λ p y k.
       ev-added elements d row (element (getD a p 0)) (spaced g 16 p) (spaced h 16 p) y (omega arith) (added p k) (others p k)
       ∙ (rw (add-one n, terms-suc, w .worth p y k, pow-add elements y (d - 8) (getD t n 0)) (simp ring));
@@ -196,17 +165,17 @@ folding-next {n} {d} {b} {t} {a} {f} {g} {h} l m e s w = record {
         apart (yes j) = inl (omega arith)
         apart (no j) = inr (omega arith)
 
-pub row-folded : {n d : ℕ} {t a f g : List ℕ} → n ≡ length t → 8 ≤ d → Lanes (λ k. getD f (16 * d + k) 0) a → FoldingTo n d t a f g → RowFolded d t f g
-row-folded {n} {d} {t} {a} {f} {g} e l h w = record {
-  worth = λ p y k y8.
-      let s : d - 8 + 8 ≡ d = omega arith in
-      let z : terms elements n (λ j. getD t j 0) y ≡ pow elements y 8 = rw e (sym y8) in
-      w .worth p y k
-      ∙ (rw (z, ← pow-add elements y (d - 8) 8, s, add-one d, ev-snoc elements d (spaced f 16 p) y, spaced-at f 16 p d (16 * d + p) refl, h .entry p k));
-}
-
 pub folded-start : {t f : List ℕ} → Folded 17 t f f
 folded-start = record { worth = λ p y l h. refl }
 
-pub folded-next : {d : ℕ} {t f g h : List ℕ} → Folded (d + 1) t f g → RowFolded d t g h → Folded d t f h
-folded-next a b = record { worth = λ p y l h. b .worth p y l h ∙ a .worth p y l h }
+pub folded-next : {n d : ℕ} {t a r f g : List ℕ} → n ≡ length t → 8 ≤ d → Lanes (λ k. getD f (16 * d + k) 0) a → FoldingTo n d t a f g
+    → Folded (d + 1) t r f → Folded d t r g
+folded-next {n} {d} {t} {a} {r} {f} {g} e l h w old = record {
+  worth = λ p y k y8.
+      let s : d - 8 + 8 ≡ d = omega arith in
+      let z : terms elements n (λ j. getD t j 0) y ≡ pow elements y 8 = rw e (sym y8) in
+      let whole : ev elements d (spaced g 16 p) y ≡ ev elements (d + 1) (spaced f 16 p) y =
+      w .worth p y k
+      ∙ (rw (z, ← pow-add elements y (d - 8) 8, s, add-one d, ev-snoc elements d (spaced f 16 p) y, spaced-at f 16 p d (16 * d + p) refl, h .entry p k)) in
+      whole ∙ old .worth p y k y8;
+}

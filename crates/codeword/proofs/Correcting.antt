@@ -1,8 +1,6 @@
 -- Forney's values, 16 at a time, and the corrections, one after another.
 --
 --   valueOf-octet                a value is an octet
---   HornersFrom f n x i v        Horner's rule at 16 points, after the coefficients from i on
---   horners-start, horners-next, horners-done    .. from the highest coefficient down
 --   added-start, added-next      one place after another
 --   corrected-start, corrected-next, corrected-done    16 places after another
 --
@@ -12,10 +10,9 @@ use mathlib.Core.List.{List}
 use Prim.Native.Nat.{ℕ, _+_, _-_, _≤_, _<_}
 use native.Mathlib.Omega.{arith}
 use native.Mathlib.Decide.{ℕ-discrete, decLt}
-use lib.ListN.{length, getD, set, replicate, length-set}
+use lib.ListN.{length, getD, set, length-set}
 use lib.Seq.{getD-set-same, getD-set-other}
 use Rattle.field.specs.Octet as Octet
-use Rattle.field.specs.Octet.Laws.{sum-octet, product-octet}
 use Rattle.codeword.specs.Element.{octet}
 use Rattle.codeword.specs.Element.Laws.{octet-lt}
 use Rattle.codeword.specs.CodeWord.{Octets}
@@ -23,33 +20,10 @@ use Rattle.codeword.specs.Lanes.{lanes, Filled, Lanes}
 use Rattle.codeword.specs.Places.{inverses}
 use Rattle.codeword.specs.Search.{valueOf}
 use Rattle.codeword.specs.Values.{errorOf, Added, Corrected}
-use Rattle.codeword.proofs.Arrays.{replicate-at}
-use Rattle.codeword.proofs.Searching.{HornerFrom, horner-start, horner-next, horner-done}
-
--- ---- Horner's rule
 
 pub valueOf-octet : (p : List ℕ) (l x : ℕ) → valueOf p l x < Octet.size
 unfolding valueOf
 valueOf-octet p l x = octet-lt _
-
-pub record HornersFrom (f : List ℕ) (n : ℕ) (x : List ℕ) (i : ℕ) (v : List ℕ) : Type 0 where
-  pub long : length v ≡ lanes
-  pub each : (k : ℕ) → k < lanes → HornerFrom f n (getD x k 0) i (getD v k 0)
-
-pub horners-start : {f : List ℕ} {n : ℕ} {x : List ℕ} → HornersFrom f n x n (replicate lanes 0)
-horners-start = record { long = refl; each = λ k l. rw (replicate-at lanes k) horner-start }
-
-pub horners-next : {f : List ℕ} {n i a : ℕ} {x v u : List ℕ} → i < n → a ≡ getD f i 0 → a < Octet.size → Lanes (λ k. Octet.sum (Octet.product (getD x k 0) (getD v k 0)) a) u
-    → HornersFrom f n x (i + 1) v → HornersFrom f n x i u
-horners-next l e octet t h = record {
-  long = t .long;
-  each = λ k m. horner-next l (rw (t .entry k m) (sum-octet _ _ (product-octet _ _) octet)) (t .entry k m ∙ ap (Octet.sum _) e) (h .each k m);
-}
-
-pub horners-done : {f : List ℕ} {n : ℕ} {x v : List ℕ} → HornersFrom f n x 0 v → Lanes (λ k. valueOf f n (getD x k 0)) v
-horners-done h = record { long = h .long; entry = λ k l. horner-done (h .each k l) }
-
--- ---- the corrections
 
 pub added-start : {j : ℕ} {at y w : List ℕ} → Added j 0 at y w w
 added-start = record { long = refl; changed = λ k m. absurd (omega arith); same = λ p m. refl }

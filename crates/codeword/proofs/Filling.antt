@@ -18,8 +18,9 @@ use lib.ListN.{length, getD, set, length-set}
 use lib.Seq.{getD-set-same, getD-set-other}
 use Rattle.algebra.specs.Power.{pow}
 use Rattle.octets.specs.Written.{written, written-length, written-inside, written-outside}
-use Rattle.field.specs.Octet.{order}
+use Rattle.field.specs.Octet as Octet
 use Rattle.codeword.specs.Element.{elements, element, α}
+use Rattle.codeword.specs.Element.Laws.{element-power}
 use Rattle.codeword.specs.Lanes.{lanes, Lanes}
 use Rattle.codeword.specs.Rows.{Evaluated, Spread, Known, Worth, Filling, Repeated}
 use Rattle.codeword.proofs.Word.{pow-wrap}
@@ -41,19 +42,21 @@ spread-next {n} {r} {x} {a} {v} {u} h l m long e = record {
 
 -- ---- the columns' values, root by root
 
-pub filling-spread : {n r m : ℕ} {f a v u : List ℕ} → r < 48 → Evaluated n (15 * r) 0 f 16 0 a → Spread 15 r a v u → Filling n f 1 (λ j. r) m v u
-filling-spread {n} {r} {m} {f} {a} {v} {u} l h s = record {
+pub filling-spread : {n r m y : ℕ} {f a v u : List ℕ} → r < 48 → y ≡ Octet.power Octet.α (15 * r) → Evaluated n (λ i. y) f 16 0 a → Spread 15 r a v u → Filling n f 1 (λ j. r) m v u
+filling-spread {n} {r} {m} {y} {f} {a} {v} {u} l at h s = record {
   stays = λ w W k m old. go w (W 0 (lit< tt)) k m old (ℕ-discrete k r);
   filled = λ w W j k e. new w (W 0 (lit< tt));
 }
   where
+    point : element y ≡ pow elements α (15 * r)
+    point = ap element at ∙ element-power (15 * r)
+
     new : (w : List ℕ) → Worth w n r f → Known w r u
     new w W = record {
       used = λ q k.
           let e : 48 * q + r ≡ 48 * (14 - (14 - q)) + r = omega arith in
           let back : 14 - (14 - q) ≡ q = omega arith in
           let lane : 0 + (14 - q) ≡ 14 - q = omega arith in
-          let point : 15 * r + 0 * (14 - q) ≡ 15 * r = omega arith in
           ap (λ (i : ℕ). element (getD u i 0)) e ∙ ap element (s .done (14 - q) (omega arith)) ∙ (rw (lane, point) at (h .used (14 - q) (omega arith)))
           ∙ (rw back at (W .worth (14 - q) (omega arith)));
     }
@@ -114,7 +117,7 @@ repeated-filled r h l f = record {
   used = λ q m.
       let a : 48 * q + (18 + r) ≡ 48 * q + 18 + r = omega arith in
       let b : 48 * q + 1 + r ≡ 48 * q + (1 + r) = omega arith in
-      let c : 15 * (18 + r) % order ≡ 15 * (1 + r) % order = omega arith in
+      let c : 15 * (18 + r) % Octet.order ≡ 15 * (1 + r) % Octet.order = omega arith in
       let point : pow elements α (15 * (18 + r)) ≡ pow elements α (15 * (1 + r)) =
       sym (pow-wrap (15 * (18 + r))) ∙ ap (pow elements α) c ∙ pow-wrap (15 * (1 + r)) in
       rw (a, point) (ap element (h .behind q r m l) ∙ (rw b (f .used q m)));

@@ -1,9 +1,13 @@
 -- The two polynomials of which the roots are α^15r, and the columns' values at all of these.
 --
 --   residue-roots, other-roots      the r of which α^15r is a root of the one polynomial, and of the other
---   residues-small, others-small,   .. as small as the code asks them to be
 --   residue-roots-small, other-roots-small, last-root-small
---   values-are                      all the values are filled in
+--                                   .. as small as the code asks them to be, and so is the last
+--   Gained w c roots m v u          u has what v has of the columns of w, and their values at those of the c roots that are up to m
+--   residues-gained, others-gained, last-gained
+--                                   .. by a list of roots that is filled in
+--   others-past                     .. or by none, where no root is up to m
+--   values-are, few-values-are      all the values are filled in
 --
 -- That these are roots is worked out for each. Assumes nothing.
 use mathlib.Core.Path.{_≡_, refl, sym, ap, ap₂, _∙_}
@@ -49,14 +53,6 @@ small-at : (l : List ℕ) (n : ℕ) → T (areSmall l n) → (j : ℕ) → j < l
 unfolding areSmall isSmall
 small-at l n h j k = ltb→lt _ _ (every-at (isSmall l n) (length l) h j k)
 
-pub residues-small : (j : ℕ) → j < 6 → getD residues j 0 < 8
-unfolding areSmall isSmall
-residues-small j l = small-at residues 8 tt j l
-
-pub others-small : (j : ℕ) → j < 4 → getD others j 0 < 8
-unfolding areSmall isSmall
-others-small j l = small-at others 8 tt j l
-
 pub residue-roots-small : (j : ℕ) → j < 8 → getD residue-roots j 0 < 18
 unfolding areSmall isSmall
 residue-roots-small j l = small-at residue-roots 18 tt j l
@@ -68,6 +64,13 @@ other-roots-small j l = small-at other-roots 18 tt j l
 pub last-root-small : (j : ℕ) → j < 1 → getD (17 ∷ []) j 0 < 18
 unfolding areSmall isSmall
 last-root-small j l = small-at (17 ∷ []) 18 tt j l
+
+isLarge : List ℕ → ℕ → ℕ → Bool
+isLarge l n j = ltb n (getD l j 0)
+
+other-roots-large : (j : ℕ) → j < 8 → 2 < getD other-roots j 0
+unfolding isLarge
+other-roots-large j l = ltb→lt _ _ (every-at (isLarge other-roots 2) 8 tt j l)
 
 -- ---- powers that can be computed
 
@@ -134,6 +137,40 @@ module _ {w rows : List ℕ} (are : RowsAre w rows) where
   folded-worth : {t f : List ℕ} (r : ℕ) → Folded 8 t rows f → Folding t (pow elements α (15 * r)) → Worth w 8 r f
   folded-worth r h root = record { worth = λ p l. h .worth p _ (omega arith) root ∙ rows-worth p _ l }
 
+-- ---- what is filled in of a word's columns, by one list of roots after another
+
+pub record Gained (w : List ℕ) (c : ℕ) (roots : ℕ → ℕ) (m : ℕ) (v u : List ℕ) : Type 0 where
+  pub stays : (r : ℕ) → r < 48 → Known w r v → Known w r u
+  pub filled : (j : ℕ) → j < c → roots j ≤ m → Known w (roots j) u
+
+gained-filling : {n c m : ℕ} {w f v u : List ℕ} {roots : ℕ → ℕ} → ((j : ℕ) → j < c → Worth w n (roots j) f) → Filling n f c roots m v u
+    → Gained w c roots m v u
+gained-filling {w = w} W h = record { stays = h .stays w W; filled = h .filled w W }
+
+gained-past : {c m : ℕ} {w v : List ℕ} {roots : ℕ → ℕ} → ((j : ℕ) → j < c → m < roots j) → Gained w c roots m v v
+gained-past past = record { stays = λ r l k. k; filled = λ j l e. absurd (omega (arith, past j l)) }
+
+module _ {m : ℕ} {w rows v u : List ℕ} (are : RowsAre w rows) where
+  pub residues-gained : {f : List ℕ} → Folded 8 residues rows f → Filling 8 f 8 (λ j. getD residue-roots j 0) m v u
+      → Gained w 8 (λ j. getD residue-roots j 0) m v u
+  residues-gained h = gained-filling (λ j l. folded-worth are _ h (roots-folding residues residue-roots residues-fold j l))
+
+  pub others-gained : {f : List ℕ} → Folded 8 others rows f → Filling 8 f 8 (λ j. getD other-roots j 0) m v u → Gained w 8 (λ j. getD other-roots j 0) m v u
+  others-gained h = gained-filling (λ j l. folded-worth are _ h (roots-folding others other-roots others-fold j l))
+
+  pub last-gained : Filling 17 rows 1 (λ j. getD (17 ∷ []) j 0) m v u → Gained w 1 (λ j. getD (17 ∷ []) j 0) m v u
+  last-gained = gained-filling (λ j l. unfolded-worth are _)
+
+pub others-past : {m : ℕ} {w v : List ℕ} → m ≤ 2 → Gained w 8 (λ j. getD other-roots j 0) m v v
+others-past h = gained-past (λ j l. omega (arith, other-roots-large j l))
+
+last-past : {m : ℕ} {w v : List ℕ} → m ≤ 16 → Gained w 1 (λ j. getD (17 ∷ []) j 0) m v v
+last-past {m} h = gained-past past
+  where
+    past : (j : ℕ) → j < 1 → m < getD (17 ∷ []) j 0
+    past zero l = omega arith
+    past (suc j) l = absurd (omega arith)
+
 -- the roots in the order in which they are filled in, and where each stands in it
 order-filled : List ℕ
 order-filled = residue-roots ++ (other-roots ++ 17 ∷ [])
@@ -159,16 +196,8 @@ placed : (r : ℕ) → r < 17 → getD order-filled (place (suc r)) 0 ≡ suc r
 unfolding isPlaced
 placed r l = eqb→eq _ _ (every-at isPlaced 17 all-placed r l)
 
-module _ {m : ℕ} {w rows f g v₀ v₁ v₂ v₃ : List ℕ} (are : RowsAre w rows)
-    (f-is : Folded 8 residues rows f) (one : Filling 8 f 8 (λ j. getD residue-roots j 0) m v₀ v₁)
-    (g-is : Folded 8 others rows g) (two : Filling 8 g 8 (λ j. getD other-roots j 0) m v₁ v₂)
-    (three : Filling 17 rows 1 (λ j. getD (17 ∷ []) j 0) m v₂ v₃) where
-  f-worth : (j : ℕ) → j < 8 → Worth w 8 (getD residue-roots j 0) f
-  f-worth j l = folded-worth are _ f-is (roots-folding residues residue-roots residues-fold j l)
-
-  g-worth : (j : ℕ) → j < 8 → Worth w 8 (getD other-roots j 0) g
-  g-worth j l = folded-worth are _ g-is (roots-folding others other-roots others-fold j l)
-
+module _ {m : ℕ} {w v₀ v₁ v₂ v₃ : List ℕ} (one : Gained w 8 (λ j. getD residue-roots j 0) m v₀ v₁)
+    (two : Gained w 8 (λ j. getD other-roots j 0) m v₁ v₂) (three : Gained w 1 (λ j. getD (17 ∷ []) j 0) m v₂ v₃) where
   -- by the place of r in the order
   by-place : (r j : ℕ) → getD order-filled j 0 ≡ r → j < 17 → r < 48 → r ≤ m → Known w r v₃
   unfolding order-filled
@@ -180,31 +209,33 @@ module _ {m : ℕ} {w rows f g v₀ v₁ v₂ v₃ : List ℕ} (are : RowsAre w 
       later : (i : ℕ) → j ≡ 8 + i → getD rest i 0 ≡ r
       later i a = sym (ap (λ (n : ℕ). getD (residue-roots ++ rest) n 0) a ∙ getD-append-add residue-roots rest i 0) ∙ e
 
-      on : Known w r v₂ → Known w r v₃
-      on = three .stays w (λ j l. unfolded-worth are _) r s
-
       go : Dec (j < 8) → Dec (j < 16) → Known w r v₃
       go (yes a) d =
           let q : getD residue-roots j 0 ≡ r = sym (List·getD-append residue-roots rest 0 j a) ∙ e in
-          on (two .stays w g-worth r s (rw q at (one .filled w f-worth j a (rw q h))))
+          three .stays r s (two .stays r s (rw q at (one .filled j a (rw q h))))
       go (no a) (yes b) =
           let q : getD other-roots (j - 8) 0 ≡ r = sym (List·getD-append other-roots (17 ∷ []) 0 (j - 8) (omega arith)) ∙ later (j - 8) (omega arith) in
-          on (rw q at (two .filled w g-worth (j - 8) (omega arith) (rw q h)))
+          three .stays r s (rw q at (two .filled (j - 8) (omega arith) (rw q h)))
       go (no a) (no b) =
           let z : j - 8 ≡ 8 = omega arith in
           let q : 17 ≡ r = rw z at (later (j - 8) (omega arith)) in
-          rw q at (three .filled w (λ j l. unfolded-worth are _) 0 (lit< tt) (rw q h))
+          rw q at (three .filled 0 (lit< tt) (rw q h))
+
+  all-known : (r : ℕ) → 0 < r → r < 18 → r ≤ m → Known w r v₃
+  all-known r a b e =
+      let s : suc (r - 1) ≡ r = omega arith in
+      by-place r (place r) (rw s at (placed (r - 1) (omega arith))) (place-small r b) (omega arith) e
 
   pub values-are : {u : List ℕ} → Repeated 15 v₃ u → ColumnsAre m w u
   values-are {u} h r a b e = go (decLt r 18)
     where
-      low : (r : ℕ) → 0 < r → r < 18 → r ≤ m → Known w r v₃
-      low r a b e =
-          let s : suc (r - 1) ≡ r = omega arith in
-          by-place r (place r) (rw s at (placed (r - 1) (omega arith))) (place-small r b) (omega arith) e
-
       go : Dec (r < 18) → Known w r u
-      go (yes l) = repeated-stays h l (low r a l e)
+      go (yes l) = repeated-stays h l (all-known r a l e)
       go (no l) =
           let s : 18 + (r - 18) ≡ r = omega arith in
-          rw s at (repeated-filled (r - 18) h (omega arith) (low (1 + (r - 18)) (omega arith) (omega arith) (omega arith)))
+          rw s at (repeated-filled (r - 18) h (omega arith) (all-known (1 + (r - 18)) (omega arith) (omega arith) (omega arith)))
+
+-- up to 16 values none is wanted twice, nor the one at 1
+pub few-values-are : {m : ℕ} {w v₀ v₁ v₂ : List ℕ} → m ≤ 16 → Gained w 8 (λ j. getD residue-roots j 0) m v₀ v₁
+    → Gained w 8 (λ j. getD other-roots j 0) m v₁ v₂ → ColumnsAre m w v₂
+few-values-are l one two r a b e = all-known one two (last-past l) r a (omega arith) e

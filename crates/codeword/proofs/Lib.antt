@@ -3,6 +3,7 @@ pub mod Arrays
 pub mod Word
 pub mod Criterion
 pub mod Laning
+pub mod Horner
 pub mod Columns
 pub mod Filling
 pub mod Folds

@@ -1,13 +1,8 @@
--- Horner's rule, and the search for the roots, place by place.
+-- The search for the roots, place by place.
 --
---   HornerFrom c n x i v                              v is what Horner's rule has after the coefficients from i on
---   horner-start, horner-next, horner-done            .. from the highest coefficient down
---   horner-first                                      .. at the highest one
---   HornerAt c n k j a                                the same in 16 lanes, at αᵏ, αᵏ⁺¹, ..
---   horner-turned                                     .. and one coefficient more
---   inverse-of-place                                  the inverse of the locator of place p is α to the 256 - n + p
---   gathered-start, gathered-skip, gathered-hit       the zeros among the values, one place after another
---   gathered-searched                                 .. are the roots
+--   inverse-of-place                              the inverse of the locator of place p is α to the 256 - n + p
+--   gathered-start, gathered-skip, gathered-hit   the zeros among the values, one place after another
+--   gathered-searched                             .. are the roots
 --
 -- Assumes nothing.
 use mathlib.Core.Path.{_≡_, refl, sym, ap, ap₂, _∙_}
@@ -17,62 +12,20 @@ use Prim.Native.Nat.{ℕ, suc, _+_, _-_, _≤_, _<_}
 use native.Mathlib.Numerals.{add-one}
 use native.Mathlib.Omega.{arith}
 use native.Mathlib.Decide.{decLt}
-use lib.Dec.{lit<}
 use lib.ListN.{length, getD, set, length-set}
 use lib.Seq.{getD-set-same, getD-set-other}
 use Rattle.algebra.specs.Field.{Field}
-use Rattle.algebra.specs.Value.{ev, from}
-use Rattle.algebra.proofs.Laws.{⊕-comm, ev-zero, from-zero, horner, lists-none, lists-as}
+use Rattle.algebra.specs.Value.{ev}
+use Rattle.algebra.proofs.Laws.{lists-none, lists-as}
 use Rattle.field.specs.Octet as Octet
-use Rattle.field.specs.Octet.Laws.{sum-octet, sum-comm, sum-zero, product-octet, product-zero}
 use Rattle.codeword.specs.Element.{elements, element, octet}
-use Rattle.codeword.specs.Element.Laws.{octet-element, octet-same, octet-nil, octet-pow, element-octet, element-sum, element-product, element-zero}
+use Rattle.codeword.specs.Element.Laws.{octet-same, octet-nil, octet-pow, element-octet}
 use Rattle.codeword.specs.CodeWord.{longestWord}
 use Rattle.codeword.specs.Places.{places, inverses}
-use Rattle.codeword.specs.Lanes.{lanes}
-use Rattle.codeword.specs.Search.{valueOf, TurnedAt, SearchIs, Gathered}
+use Rattle.codeword.specs.Search.{valueOf, SearchIs, Gathered}
 use Rattle.codeword.proofs.Arrays.{zeros}
-use Rattle.codeword.proofs.Word.{places-at, inverses-at}
-
-infixl 60 _⊕_
-infixl 70 _⊙_
-open Field elements using (Carrier as F, add as _⊕_, mul as _⊙_, nil as 𝟘)
-
--- ---- Horner's rule
-
--- what it has after the coefficients from i on
-pub record HornerFrom (c : List ℕ) (n x i v : ℕ) : Type 0 where
-  pub small : v < Octet.size
-  pub is : element v ≡ ev elements (n - i) (from elements i (places c)) (element x)
-
-pub horner-start : {c : List ℕ} {n x : ℕ} → HornerFrom c n x n 0
-horner-start {c} {n} {x} = let e : n - n ≡ 0 = omega arith in record { small = lit< tt; is = element-zero ∙ (rw (e, ev-zero)) }
-
-pub horner-next : {c : List ℕ} {n x i u v : ℕ} → i < n → v < Octet.size → v ≡ Octet.sum (Octet.product x u) (getD c i 0)
-    → HornerFrom c n x (i + 1) u → HornerFrom c n x i v
-horner-next {c} {n} {x} {i} {u} {v} l small e h = record {
-  small = small;
-  is = ap element e ∙ element-sum _ _
-      ∙ ap₂ (λ (y z : F). y ⊕ z) (element-product x u ∙ ap (λ (y : F). element x ⊙ y) (rw (add-one i) at (h .is))) (sym (places-at c i))
-      ∙ sym (horner elements n i (places c) (element x) l ∙ ⊕-comm elements _ _);
-}
-
--- the highest coefficient
-pub horner-first : {c : List ℕ} {l x v : ℕ} → v < Octet.size → v ≡ getD c l 0 → HornerFrom c (l + 1) x l v
-horner-first {c} {l} {x} small e =
-    horner-next (omega arith) small (e ∙ sym (ap (λ (y : ℕ). Octet.sum y (getD c l 0)) (product-zero x) ∙ sum-comm 0 _ ∙ sum-zero _)) horner-start
-
-abbrev pub HornerAt : List ℕ → ℕ → ℕ → ℕ → List ℕ → Type 0
-HornerAt c n k j a = (i : ℕ) → i < lanes → HornerFrom c n (Octet.power Octet.α (k + i)) j (getD a i 0)
-
-pub horner-turned : (k : ℕ) (a : List ℕ) {c b : List ℕ} {n j x : ℕ} → j < n → x < Octet.size → x ≡ getD c j 0 → TurnedAt k x a b → HornerAt c n k (j + 1) a
-    → HornerAt c n k j b
-horner-turned k a {c} l small e t h i m =
-    horner-next l (rw (t .entry i m) (sum-octet _ _ (product-octet _ _) small)) (t .entry i m ∙ ap (Octet.sum _) e) (h i m)
-
-pub horner-done : {c : List ℕ} {n x v : ℕ} → HornerFrom c n x 0 v → v ≡ valueOf c n x
-unfolding valueOf
-horner-done {c} {n} {x} {v} h = let e : n - 0 ≡ n = omega arith in sym (octet-element v (h .small)) ∙ ap octet (rw (e, from-zero) at (h .is))
+use Rattle.codeword.proofs.Word.{inverses-at}
+open Field elements using (Carrier as F, nil as 𝟘)
 
 pub inverse-of-place : (n p : ℕ) → p < n → n ≤ longestWord → octet (inverses n p) ≡ Octet.power Octet.α (256 - n + p)
 inverse-of-place n p l h =

@@ -19,10 +19,9 @@ use Rattle.algebra.specs.Power.{rising}
 use Rattle.algebra.specs.Value.{ev}
 use Rattle.algebra.specs.Derivative.{odds}
 use Rattle.algebra.specs.Interpolation.{quo, total, interpolated}
-use Rattle.field.specs.Octet as Octet
 use Rattle.codeword.specs.Element.{elements, element, α}
 use Rattle.codeword.specs.CodeWord.{longestWord, Octets}
-use Rattle.codeword.specs.Lanes.{lanes}
+use Rattle.codeword.specs.Lanes.{lanes, OctetLanes}
 use Rattle.codeword.specs.Register.{G}
 
 infixl 60 _⊕_
@@ -33,7 +32,7 @@ abbrev pub points : Series elements
 points = rising elements α
 
 pub record ElementLanes (f : ℕ → F) (r : List ℕ) : Type 0 where
-  pub octet : (k : ℕ) → k < lanes → getD r k 0 < Octet.size
+  pub octet : OctetLanes r
   pub is : (k : ℕ) → k < lanes → element (getD r k 0) ≡ f k
 
 abbrev pub divisor : ℕ → F → F

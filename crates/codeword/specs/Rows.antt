@@ -1,22 +1,21 @@
 -- What the steps on the way to the syndromes answer. The word, with zeros in front to 255 octets, stands in 17 rows of 15; a row is 16 octets
 -- side by side, of which the last is of no use.
 --
---   RowAdded n o a f g           g is f, with n octets of a added to those from o on
+--   RowAdded n o a f g        g is f, with n octets of a added to those from o on
 --   spaced f s k              the series of f's entries k, s + k, 2 s + k, ..
---   Ahead k j a f o b       one turn of Horner's rule, in lane i at the point αᵏ⁺ʲⁱ: a becomes αᵏ⁺ʲⁱ a + f₍ₒ₊ᵢ₎
---   Evaluated n k j f s o a   lane i of a is the value at αᵏ⁺ʲⁱ of the polynomial of n coefficients f₍ₒ₊ᵢ₎, f₍ₛ₊ₒ₊ᵢ₎, ..
+--   Evaluated n x f s o a     lane i of a is the value at xᵢ of the polynomial of n coefficients f₍ₒ₊ᵢ₎, f₍ₛ₊ₒ₊ᵢ₎, ..
 --   column w q                column q of the word w: the coefficients of x^q, x^(15 + q), .. of its polynomial
 --   RowsAre w f               row d of f has the coefficients of x^(15 d + 14), .., x^(15 d) of the word w
 --   residues, others          the taps of y⁸ = y⁷ + y⁶ + y⁴ + y² + y + 1, and of y⁸ = y⁵ + y⁴ + y³ + 1
 --   Folding taps y            y⁸ is the sum of the powers of y that the taps name
---   RowFolded d taps f g      row d of f is added to the rows that the taps name, d - 8 rows on
 --   Folded n taps f g         n rows of g are worth at each such y what 17 rows of f are
 --   Spread n r a v u          u is v with the first n lanes of a as entry r of the rows 14, 13, ..
 --   Known w r v               entries r, 48 + r, .. of v are the values of the columns of w at α^15r
 --   Worth w n r f             n rows of f are worth at α^15r what the columns of w are
---   Filling n f c roots m v u   u is v with the values of the n rows of f filled in, at each α^15r for those of the c roots r that are up to m
+--   Filling n f c roots m v u
+--                             u is v with the values of the n rows of f filled in, at each α^15r for those of the c roots r that are up to m
 --   Repeated n v u            in n rows of v entries 1 to 16 are repeated from entry 18 on
---   ColumnsAre m w v           the values of the columns of w are filled in up to m, and twice round
+--   ColumnsAre m w v          the values of the columns of w are filled in up to m, and twice round
 --
 -- Assumes nothing.
 use mathlib.Core.Path.{_≡_}
@@ -30,7 +29,7 @@ use Rattle.algebra.specs.Polynomial.{polynomial}
 use Rattle.algebra.specs.Value.{ev, terms}
 use Rattle.field.specs.Octet as Octet
 use Rattle.codeword.specs.Element.{elements, element, α}
-use Rattle.codeword.specs.Lanes.{lanes, Lanes}
+use Rattle.codeword.specs.Lanes.{lanes}
 use Rattle.codeword.specs.CodeWord.{word}
 
 pub record RowAdded (n o : ℕ) (a f g : List ℕ) : Type 0 where
@@ -41,12 +40,9 @@ pub record RowAdded (n o : ℕ) (a f g : List ℕ) : Type 0 where
 unfoldable pub spaced : List ℕ → ℕ → ℕ → Series elements
 spaced f s k d = element (getD f (s * d + k) 0)
 
-abbrev pub Ahead : (k j : ℕ) (a f : List ℕ) (o : ℕ) → List ℕ → Type 0
-Ahead k j a f o b = Lanes (λ i. Octet.sum (Octet.product (Octet.power Octet.α (k + j * i)) (getD a i 0)) (getD f (o + i) 0)) b
-
-pub record Evaluated (n k j : ℕ) (f : List ℕ) (s o : ℕ) (a : List ℕ) : Type 0 where
+pub record Evaluated (n : ℕ) (x : ℕ → ℕ) (f : List ℕ) (s o : ℕ) (a : List ℕ) : Type 0 where
   pub long : length a ≡ lanes
-  pub used : (i : ℕ) → i < lanes → element (getD a i 0) ≡ ev elements n (spaced f s (o + i)) (pow elements α (k + j * i))
+  pub used : (i : ℕ) → i < lanes → element (getD a i 0) ≡ ev elements n (spaced f s (o + i)) (element (x i))
 
 unfoldable pub column : List ℕ → ℕ → Series elements
 column w q d = polynomial elements (word w) (15 * d + q)
@@ -63,10 +59,6 @@ others = 0 ∷ 3 ∷ 4 ∷ 5 ∷ []
 abbrev pub Folding : List ℕ → elements .Carrier → Type 0
 Folding taps y = pow elements y 8 ≡ terms elements (length taps) (λ j. getD taps j 0) y
 
-pub record RowFolded (d : ℕ) (taps f g : List ℕ) : Type 0 where
-  pub worth : (p : ℕ) (y : elements .Carrier) → p < lanes → Folding taps y
-      → ev elements d (spaced g 16 p) y ≡ ev elements (d + 1) (spaced f 16 p) y
-
 pub record Folded (n : ℕ) (taps f g : List ℕ) : Type 0 where
   pub worth : (p : ℕ) (y : elements .Carrier) → p < lanes → Folding taps y
       → ev elements n (spaced g 16 p) y ≡ ev elements 17 (spaced f 16 p) y
@@ -82,9 +74,9 @@ pub record Known (w : List ℕ) (r : ℕ) (v : List ℕ) : Type 0 where
 pub record Worth (w : List ℕ) (n r : ℕ) (f : List ℕ) : Type 0 where
   pub worth : (p : ℕ) → p < 15 → ev elements n (spaced f 16 p) (pow elements α (15 * r)) ≡ ev elements 17 (column w (14 - p)) (pow elements α (15 * r))
 
-pub record Filling (n : ℕ) (f : List ℕ) (count : ℕ) (roots : ℕ → ℕ) (m : ℕ) (v u : List ℕ) : Type 0 where
-  pub stays : (w : List ℕ) → ((j : ℕ) → j < count → Worth w n (roots j) f) → (r : ℕ) → r < 48 → Known w r v → Known w r u
-  pub filled : (w : List ℕ) → ((j : ℕ) → j < count → Worth w n (roots j) f) → (j : ℕ) → j < count → roots j ≤ m → Known w (roots j) u
+pub record Filling (n : ℕ) (f : List ℕ) (c : ℕ) (roots : ℕ → ℕ) (m : ℕ) (v u : List ℕ) : Type 0 where
+  pub stays : (w : List ℕ) → ((j : ℕ) → j < c → Worth w n (roots j) f) → (r : ℕ) → r < 48 → Known w r v → Known w r u
+  pub filled : (w : List ℕ) → ((j : ℕ) → j < c → Worth w n (roots j) f) → (j : ℕ) → j < c → roots j ≤ m → Known w (roots j) u
 
 pub record Repeated (n : ℕ) (v u : List ℕ) : Type 0 where
   pub long : length u ≡ length v

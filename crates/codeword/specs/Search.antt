@@ -1,7 +1,6 @@
 -- What the search for the roots of the locator answers.
 --
 --   valueOf c n x              c₀ + c₁ x + .. + c₍ₙ₋₁₎ x^(n-1), on octets
---   TurnedAt k x a b           one turn of Horner's rule at the points αᵏ, αᵏ⁺¹, ..: lane i of a becomes αᵏ⁺ⁱ a + x
 --   SearchIs n p l c at count  the first `count` numbers of `at` are, rising, all the first p places of n at the inverse of whose locator the
 --                              polynomial c of degree at most l is zero
 --   Least n o v r              r is the least of the n octets of v from o on, or 255 where there are none
@@ -19,13 +18,9 @@ use Rattle.field.specs.Octet as Octet
 use Rattle.codeword.specs.Element.{elements, element, octet}
 use Rattle.codeword.specs.CodeWord.{longestWord}
 use Rattle.codeword.specs.Places.{places, inverses}
-use Rattle.codeword.specs.Lanes.{Lanes}
 
 unfoldable pub valueOf : List ℕ → ℕ → ℕ → ℕ
 valueOf c n x = octet (ev elements n (places c) (element x))
-
-abbrev pub TurnedAt : ℕ → ℕ → List ℕ → List ℕ → Type 0
-TurnedAt k x a b = Lanes (λ i. Octet.sum (Octet.product (Octet.power Octet.α (k + i)) (getD a i 0)) x) b
 
 pub record SearchIs (n p l : ℕ) (c at : List ℕ) (count : ℕ) : Type 0 where
   pub long : length at ≡ longestWord

@@ -92,7 +92,7 @@ pub(crate) fn remainder(
 {
     let m = 2 * e;
     let w = raised(message);
-    let s = syndromes::syndromes(&w[..message.len() + m], m);
+    let s = syndromes::syndromes(&w[..message.len() + m], m, powers);
     let mut p = [0u8; LONGEST_WORD];
     let mut o: usize = 0;
     while o < m {

@@ -1,10 +1,12 @@
 // 16 octets side by side, the lanes. Each loop has the fixed length 16 and no test, and works on arrays of 16 by value: the compiler makes one
 // vector operation of a turn of it for all lanes, and keeps such an array in a register.
+use field::LAID;
 ghost use mathlib.Core.Path.{_≡_};
 ghost use Prim.Native.Nat.{_+_, _≤_, _<_};
 ghost use lib.ListN.{length, getD};
 ghost use Rattle.field.specs.Octet;
-ghost use Rattle.codeword.specs.Lanes.{lanes, Lanes, Stored, Summed};
+ghost use Rattle.field.specs.Octet.Table.{Laid};
+ghost use Rattle.codeword.specs.Lanes.{lanes, Lanes, Stored, Summed, along, Reached, Turned};
 
 // How many of n are taken at once: all, or 16 where there are more.
 pub(crate) fn at_once(n: usize) -> usize
@@ -90,6 +92,20 @@ pub(crate) fn horner(a: [u8; 16], b: [u8; 16], c: u8) -> [u8; 16]
     while k < 16 {
         r[k] = field::sum(field::product(a[k], b[k]), c);
         k += 1;
+    }
+    r
+}
+
+// A turn of Horner's rule at the 16 points α^k, α^(k + 1), ..: lane i becomes α^(k + i) a + c.
+pub(crate) fn ahead(a: [u8; 16], powers: &[u8; LAID], k: usize, c: [u8; 16]) -> [u8; 16]
+    requires { ⌜ Laid (now powers) × Reached k ⌝ }
+    ensures { λ r. ⌜ Turned (along k) a (λ i. getD c i 0) r ⌝ }
+{
+    let mut r = [0u8; 16];
+    let mut i: usize = 0;
+    while i < 16 {
+        r[i] = field::sum(field::product_at(powers, k + i, a[i]), c[i]);
+        i += 1;
     }
     r
 }

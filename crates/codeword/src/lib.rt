@@ -108,7 +108,7 @@ pub fn repair(received: &[u8], e: usize, repaired: &mut [u8], places: &mut [u8])
         return Reach::OutOfReach;
     }
     let powers = field::powers();
-    let s = syndromes::syndromes(received, 2 * e);
+    let s = syndromes::syndromes(received, 2 * e, &powers);
     if syndromes::clean(&s, 2 * e) {
         octets::write(repaired, 0, received);
         return Reach::Found(0);

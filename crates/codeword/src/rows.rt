@@ -13,10 +13,10 @@ use field::LAID;
 ghost use mathlib.Core.Path.{_≡_};
 ghost use Prim.Native.Nat.{ℕ, _+_, _-_, _*_, _≤_, _<_};
 ghost use lib.ListN.{length, getD};
-ghost use Rattle.field.specs.Octet.Table.{laid, Laid};
+ghost use Rattle.field.specs.Octet.Table.{Laid};
 ghost use Rattle.codeword.specs.CodeWord.{longestWord};
 ghost use Rattle.codeword.specs.Lanes.{lanes};
-ghost use Rattle.codeword.specs.Rows.{RowAdded, Ahead, Evaluated, RowsAre, RowFolded, Folded, Spread, Filling, Repeated, ColumnsAre};
+ghost use Rattle.codeword.specs.Rows.{RowAdded, Evaluated, RowsAre, residues, others, Folded, Spread, Filling, Repeated, ColumnsAre};
 
 // 17 rows of 16 octets, of which 15 count.
 const ROWS: usize = 272;
@@ -51,57 +51,52 @@ fn add(f: &mut [u8; ROWS], o: usize, a: [u8; 16])
     }
 }
 
-// Adds row d to the rows that the taps name.
-fn fold_row(f: &mut [u8; ROWS], d: usize, taps: &[usize])
-    requires { ⌜ (8 ≤ d) × (d ≤ 16) × ((j : ℕ) → j < length (now taps) → getD (now taps) j 0 < 8) ⌝ }
-    ensures { λ _. ⌜ RowFolded d (now (taps .entry)) (now (f .entry)) (now (f .exit)) ⌝ }
+// 8 rows that are worth as much as 17 where y^8 = y^7 + y^6 + y^4 + y^2 + y + 1.
+fn fold_residues(rows: [u8; ROWS]) -> [u8; ROWS]
+    ensures { λ r. ⌜ Folded 8 residues rows r ⌝ }
 {
-    let a = lanes::load(f, 16 * d);
-    let mut j: usize = 0;
-    while j < taps.len() {
-        add(f, 16 * (d - 8 + taps[j]), a);
-        j += 1;
-    }
-}
-
-// 8 rows that are worth as much as 17 where y^8 is the sum of the powers that the taps name.
-fn fold(rows: &[u8; ROWS], taps: &[usize]) -> [u8; ROWS]
-    requires { ⌜ ((j : ℕ) → j < length (now taps) → getD (now taps) j 0 < 8) ⌝ }
-    ensures { λ r. ⌜ Folded 8 (now (taps .entry)) (now (rows .entry)) r ⌝ }
-{
-    let mut f = *rows;
+    let mut f = rows;
     let mut d: usize = 17;
     while 8 < d {
         d -= 1;
-        fold_row(&mut f, d, taps);
+        let a = lanes::load(&f, 16 * d);
+        add(&mut f, 16 * d - 128, a);
+        add(&mut f, 16 * d - 112, a);
+        add(&mut f, 16 * d - 96, a);
+        add(&mut f, 16 * d - 64, a);
+        add(&mut f, 16 * d - 32, a);
+        add(&mut f, 16 * d - 16, a);
     }
     f
 }
 
-// One turn of Horner's rule at α^k, for 16 columns.
-fn ahead(a: [u8; 16], powers: &[u8; LAID], k: usize, f: &[u8; ROWS], o: usize) -> [u8; 16]
-    requires { ⌜ Laid (now powers) × (k + 8 ≤ laid) × (o + 16 ≤ 272) ⌝ }
-    ensures { λ r. ⌜ Ahead k 0 a (now (f .entry)) o r ⌝ }
+// The same where y^8 = y^5 + y^4 + y^3 + 1.
+fn fold_others(rows: [u8; ROWS]) -> [u8; ROWS]
+    ensures { λ r. ⌜ Folded 8 others rows r ⌝ }
 {
-    let mut b = [0u8; 16];
-    let mut i: usize = 0;
-    while i < 16 {
-        b[i] = field::sum(field::product_at(powers, k, a[i]), f[o + i]);
-        i += 1;
+    let mut f = rows;
+    let mut d: usize = 17;
+    while 8 < d {
+        d -= 1;
+        let a = lanes::load(&f, 16 * d);
+        add(&mut f, 16 * d - 128, a);
+        add(&mut f, 16 * d - 80, a);
+        add(&mut f, 16 * d - 64, a);
+        add(&mut f, 16 * d - 48, a);
     }
-    b
+    f
 }
 
-// The values at α^k of 16 columns of n rows, by Horner's rule.
-fn column(f: &[u8; ROWS], n: usize, k: usize, powers: &[u8; LAID]) -> [u8; 16]
-    requires { ⌜ Laid (now powers) × (k + 8 ≤ laid) × (0 < n) × (n ≤ 17) ⌝ }
-    ensures { λ r. ⌜ Evaluated n k 0 (now (f .entry)) 16 0 r ⌝ }
+// The values at y of 16 columns of n rows, by Horner's rule.
+fn column(f: &[u8; ROWS], n: usize, y: u8) -> [u8; 16]
+    requires { ⌜ (0 < n) × (n ≤ 17) ⌝ }
+    ensures { λ r. ⌜ Evaluated n (λ _. y) (now (f .entry)) 16 0 r ⌝ }
 {
     let mut d = n - 1;
     let mut a = lanes::load(f, 16 * d);
     while 0 < d {
         d -= 1;
-        let b = ahead(a, powers, k, f, 16 * d);
+        let b = lanes::mixed(y, a, lanes::load(f, 16 * d));
         a = b;
     }
     a
@@ -126,7 +121,7 @@ fn fill(f: &[u8; ROWS], n: usize, r: usize, m: usize, powers: &[u8; LAID], v: &m
     ensures { λ _. ⌜ Filling n (now (f .entry)) 1 (λ _. r) m (now (v .entry)) (now (v .exit)) ⌝ }
 {
     if r <= m {
-        spread(column(f, n, 15 * r, powers), r, v);
+        spread(column(f, n, powers[15 * r]), r, v);
     }
 }
 
@@ -171,18 +166,23 @@ fn rows_of(word: &[u8]) -> [u8; ROWS]
     lay(&w)
 }
 
-// The values of the word's columns at α^15, α^30, .., as far as m syndromes ask for them.
+// The values of the word's columns at α^15, α^30, .., as far as m syndromes ask for them. The other polynomial's roots begin with
+// r = 3; at r = 17, y is 1, and from there on the values come round.
 pub(crate) fn values(word: &[u8], m: usize, powers: &[u8; LAID]) -> [u8; VALUES]
     requires { ⌜ (length (now word) ≤ longestWord) × Laid (now powers) ⌝ }
     ensures { λ r. ⌜ ColumnsAre m (now (word .entry)) r ⌝ }
 {
     let rows = rows_of(word);
     let mut v = [0u8; VALUES];
-    let f = fold(&rows, &[0, 1, 2, 4, 6, 7]);
+    let f = fold_residues(rows);
     fill_all(&f, 8, &[1, 2, 4, 8, 9, 13, 15, 16], m, powers, &mut v);
-    let g = fold(&rows, &[0, 3, 4, 5]);
-    fill_all(&g, 8, &[3, 5, 6, 7, 10, 11, 12, 14], m, powers, &mut v);
-    fill_all(&rows, 17, &[17], m, powers, &mut v);
-    repeat(&mut v);
+    if 2 < m {
+        let g = fold_others(rows);
+        fill_all(&g, 8, &[3, 5, 6, 7, 10, 11, 12, 14], m, powers, &mut v);
+    }
+    if 16 < m {
+        fill_all(&rows, 17, &[17], m, powers, &mut v);
+        repeat(&mut v);
+    }
     v
 }

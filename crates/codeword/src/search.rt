@@ -7,32 +7,17 @@ use field::ORDER;
 ghost use mathlib.Core.Path.{_≡_};
 ghost use Prim.Native.Nat.{ℕ, _+_, _<_, _≤_};
 ghost use lib.ListN.{getD};
-ghost use Rattle.field.specs.Octet;
-ghost use Rattle.field.specs.Octet.Table.{laid, Laid};
+ghost use Rattle.field.specs.Octet.Table.{Laid};
 ghost use Rattle.codeword.specs.CodeWord.{longestWord};
 ghost use Rattle.codeword.specs.Element.{octet};
 ghost use Rattle.codeword.specs.Places.{inverses};
-ghost use Rattle.codeword.specs.Lanes.{lanes};
-ghost use Rattle.codeword.specs.Search.{valueOf, TurnedAt, SearchIs, Least, Gathered};
+ghost use Rattle.codeword.specs.Lanes.{Lanes, lanes, along, Reached};
+ghost use Rattle.codeword.specs.Search.{valueOf, SearchIs, Least, Gathered};
 
 // The places found, rising from the front, and how many these are.
 pub struct Places {
     pub at: [u8; LONGEST_WORD],
     pub count: usize,
-}
-
-// One turn of Horner's rule at the 16 points α^k, α^(k + 1), ..
-fn turn(a: [u8; 16], powers: &[u8; LAID], k: usize, x: u8) -> [u8; 16]
-    requires { ⌜ Laid (now powers) × (k + 23 ≤ laid) ⌝ }
-    ensures { λ r. ⌜ TurnedAt k x a r ⌝ }
-{
-    let mut b = [0u8; 16];
-    let mut i: usize = 0;
-    while i < 16 {
-        b[i] = field::sum(field::product_at(powers, k + i, a[i]), x);
-        i += 1;
-    }
-    b
 }
 
 // Coefficient j of c.
@@ -43,16 +28,16 @@ fn coefficient(c: &[u8; LONGEST_WORD], j: usize) -> u8
     c[j]
 }
 
-// c[0] + c[1] x + .. + c[l] x^l at these 16 points, by Horner's rule.
+// c[0] + c[1] x + .. + c[l] x^l at the 16 points α^k, α^(k + 1), .., by Horner's rule.
 fn values(c: &[u8; LONGEST_WORD], l: usize, k: usize, powers: &[u8; LAID]) -> [u8; 16]
-    requires { ⌜ (l < longestWord) × Laid (now powers) × (k + 23 ≤ laid) ⌝ }
-    ensures { λ r. ⌜ ((i : ℕ) → i < lanes → getD r i 0 ≡ valueOf (now (c .entry)) (l + 1) (Octet.power Octet.α (k + i))) ⌝ }
+    requires { ⌜ (l < longestWord) × Laid (now powers) × Reached k ⌝ }
+    ensures { λ r. ⌜ Lanes (λ i. valueOf (now (c .entry)) (l + 1) (along k i)) r ⌝ }
 {
     let mut a = [coefficient(c, l); 16];
     let mut j = l;
     while 0 < j {
         j -= 1;
-        let b = turn(a, powers, k, coefficient(c, j));
+        let b = lanes::ahead(a, powers, k, [coefficient(c, j); 16]);
         a = b;
     }
     a

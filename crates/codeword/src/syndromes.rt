@@ -11,44 +11,56 @@ use field::LAID;
 ghost use mathlib.Core.Path.{_≡_};
 ghost use Prim.Native.Nat.{ℕ, _+_, _<_, _≤_};
 ghost use lib.ListN.{length, getD};
-ghost use Rattle.field.specs.Octet.Table.{laid, Laid};
+ghost use Rattle.field.specs.Octet.Table.{Laid};
 ghost use Rattle.codeword.specs.CodeWord.{longestWord};
-ghost use Rattle.codeword.specs.Rows.{Ahead, Evaluated};
+ghost use Rattle.codeword.specs.Lanes.{along, Reached};
+ghost use Rattle.codeword.specs.Rows.{Evaluated};
 ghost use Rattle.codeword.specs.Syndromes.{SyndromesAre, allZero};
-
-// One turn of Horner's rule at the 16 points α^k, α^(k + 1), ..
-fn along(a: [u8; 16], powers: &[u8; LAID], k: usize, f: &[u8; VALUES], o: usize) -> [u8; 16]
-    requires { ⌜ Laid (now powers) × (k + 23 ≤ laid) × (o + 16 ≤ 720) ⌝ }
-    ensures { λ r. ⌜ Ahead k 1 a (now (f .entry)) o r ⌝ }
-{
-    let mut b = [0u8; 16];
-    let mut i: usize = 0;
-    while i < 16 {
-        b[i] = field::sum(field::product_at(powers, k + i, a[i]), f[o + i]);
-        i += 1;
-    }
-    b
-}
 
 // The values at α^k, α^(k + 1), .. of the polynomials whose coefficients stand in the rows of v, from entry o on.
 fn join(v: &[u8; VALUES], o: usize, k: usize, powers: &[u8; LAID]) -> [u8; 16]
-    requires { ⌜ Laid (now powers) × (k + 23 ≤ laid) × (o + 16 ≤ 48) ⌝ }
-    ensures { λ r. ⌜ Evaluated 15 k 1 (now (v .entry)) 48 o r ⌝ }
+    requires { ⌜ Laid (now powers) × Reached k × (o + 16 ≤ 48) ⌝ }
+    ensures { λ r. ⌜ Evaluated 15 (along k) (now (v .entry)) 48 o r ⌝ }
 {
     let mut q: usize = 14;
     let mut a = lanes::load(v, 48 * q + o);
     while 0 < q {
         q -= 1;
-        let b = along(a, powers, k, v, 48 * q + o);
+        let b = lanes::ahead(a, powers, k, lanes::load(v, 48 * q + o));
         a = b;
     }
     a
 }
 
+// The values at 32 points in a row, in two halves.
+struct Pair {
+    low: [u8; 16],
+    high: [u8; 16],
+}
+
+// The same at α^k, .. with the entries from o on, and at α^(k + 16), .. with those from u on: two chains of turns, of which neither waits for
+// the other.
+fn join_two(v: &[u8; VALUES], o: usize, u: usize, k: usize, powers: &[u8; LAID]) -> Pair
+    requires { ⌜ Laid (now powers) × Reached (k + 16) × (o + 16 ≤ 48) × (u + 16 ≤ 48) ⌝ }
+    ensures { λ r. ⌜ Evaluated 15 (along k) (now (v .entry)) 48 o (r .low) × Evaluated 15 (along (k + 16)) (now (v .entry)) 48 u (r .high) ⌝ }
+{
+    let mut q: usize = 14;
+    let mut low = lanes::load(v, 48 * q + o);
+    let mut high = lanes::load(v, 48 * q + u);
+    while 0 < q {
+        q -= 1;
+        let a = lanes::ahead(low, powers, k, lanes::load(v, 48 * q + o));
+        low = a;
+        let b = lanes::ahead(high, powers, k + 16, lanes::load(v, 48 * q + u));
+        high = b;
+    }
+    Pair { low, high }
+}
+
 // The first m octets of s; zero where unused.
-fn first(s: [u8; 256], m: usize) -> [u8; LONGEST_WORD]
-    requires { ⌜ m < longestWord ⌝ }
-    ensures { λ r. ⌜ ((i : ℕ) → i < m → getD r i 0 ≡ getD s i 0) × ((i : ℕ) → m ≤ i → getD r i 0 ≡ 0) ⌝ }
+fn first(s: &[u8], m: usize) -> [u8; LONGEST_WORD]
+    requires { ⌜ (m < longestWord) × (m ≤ length (now s)) ⌝ }
+    ensures { λ r. ⌜ ((i : ℕ) → i < m → getD r i 0 ≡ getD (now (s .entry)) i 0) × ((i : ℕ) → m ≤ i → getD r i 0 ≡ 0) ⌝ }
 {
     let mut r = [0u8; LONGEST_WORD];
     octets::write(&mut r, 0, &s[..m]);
@@ -56,33 +68,38 @@ fn first(s: [u8; 256], m: usize) -> [u8; LONGEST_WORD]
 }
 
 // The m syndromes of a word; zero where unused.
-pub(crate) fn syndromes(word: &[u8], m: usize) -> [u8; LONGEST_WORD]
-    requires { ⌜ (m < longestWord) × (length (now word) ≤ longestWord) ⌝ }
+pub(crate) fn syndromes(word: &[u8], m: usize, powers: &[u8; LAID]) -> [u8; LONGEST_WORD]
+    requires { ⌜ (m < longestWord) × (length (now word) ≤ longestWord) × Laid (now powers) ⌝ }
     ensures { λ r. ⌜ SyndromesAre m (now (word .entry)) r ⌝ }
 {
-    let powers = field::powers();
-    let v = rows::values(word, m, &powers);
+    let v = rows::values(word, m, powers);
     let mut s = [0u8; 256];
+    if m <= 16 {
+        let a = join(&v, 1, 1, powers);
+        return first(&a, m);
+    }
     let mut from: usize = 0;
     while from < m {
-        let a = join(&v, from % 17 + 1, from + 1, &powers);
-        octets::write(&mut s, from, &a);
-        from += 16;
+        let two = join_two(&v, from % 17 + 1, (from + 16) % 17 + 1, from + 1, powers);
+        let low = two.low;
+        let high = two.high;
+        octets::write(&mut s, from, &low);
+        octets::write(&mut s, from + 16, &high);
+        from += 32;
     }
-    first(s, m)
+    first(&s, m)
 }
 
-// Whether the first m octets are zero: the word is a code word.
+// Whether the first m octets are zero: the word is a code word. All are looked at, so that the loop has no test, and goes 16 at a time.
 pub(crate) fn clean(s: &[u8; LONGEST_WORD], m: usize) -> bool
     requires { ⌜ m ≤ longestWord ⌝ }
     ensures { λ r. ⌜ r ≡ allZero m (now (s .entry)) ⌝ }
 {
+    let mut any: u8 = 0;
     let mut i = 0;
     while i < m {
-        if s[i] != 0 {
-            return false;
-        }
+        any |= s[i];
         i += 1;
     }
-    true
+    any == 0
 }

@@ -4,7 +4,7 @@
 // table specs/Octet/Table.antt. The one table is that of the powers: a product is worked out by shifting and adding, and an inverse by products
 // and by the images of 1, x, .., x^7.
 ghost use mathlib.Core.Path.{_≡_};
-ghost use Prim.Native.Nat.{_+_, _≤_};
+ghost use Prim.Native.Nat.{_≤_};
 ghost use lib.Dec.{T};
 ghost use lib.ListN.{length};
 ghost use Rattle.field.specs.Octet;
@@ -145,7 +145,7 @@ pub fn powers() -> [u8; LAID]
 
 // Entry k of the powers times b, as `product`: its doublings are the seven entries behind it.
 pub fn product_at(powers: &[u8; LAID], k: usize, b: u8) -> u8
-    requires { ⌜ Table.Laid (now powers) × (k + 8 ≤ Table.laid) ⌝ }
+    requires { ⌜ Table.Laid (now powers) × Table.Doublings k ⌝ }
     ensures { λ r. ⌜ r ≡ Octet.product (Octet.power Octet.α k) b ⌝ }
 {
     let mut total: u8 = 0;

@@ -33,7 +33,7 @@ returns-6 : tie.Need-returns-6
 returns-6 c =
     let tested = c .before .before .before .before .before in
     let formed = tested .before .before in
-    let fits = formed .before .before in
+    let fits = formed .before .before .before in
     let short = fits .before .before .before .before in
     let known = short .before .before .before in
     let a = known .before .args in

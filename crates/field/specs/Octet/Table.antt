@@ -6,12 +6,13 @@
 --   powers-at       entry k of a list that passes is αᵏ, for each k below the order
 --   laid            how many powers are laid out in a row: each twice
 --   Laid p          p is such a row: entry k is αᵏ
+--   Doublings k     the seven doublings of entry k stand in the row behind it
 --
 -- The rule is tested once over all the entries of the code's constant, and a lemma carries it to each. Assumes nothing.
 use mathlib.Core.Path.{_≡_, refl, sym, ap, _∙_}
 use mathlib.Core.Bool.{Bool, _&&_}
 use mathlib.Core.List.{List}
-use Prim.Native.Nat.{ℕ, zero, suc, _-_, _*_, _<_}
+use Prim.Native.Nat.{ℕ, zero, suc, _+_, _-_, _*_, _<_}
 use native.Mathlib.Nat.{le-of-suc-le-suc}
 use native.Mathlib.Omega.{arith}
 use lib.Dec.{T, eqb, eqb→eq}
@@ -46,3 +47,6 @@ laid = 2 * order
 
 abbrev pub Laid : List ℕ → Type 0
 Laid p = (k : ℕ) → k < laid → getD p k 0 ≡ power α k
+
+abbrev pub Doublings : ℕ → Type 0
+Doublings k = k + 7 < laid

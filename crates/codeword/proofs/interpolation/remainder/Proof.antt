@@ -26,7 +26,7 @@ syndromes-requires c κs =
     let start = made .before .before in
     let w = made .raised in
     let long = length-take-le (length (now (start .args .message)) + 2 * start .args .e) (w .result) (omega (arith, w .ensures .long, start .pre .0)) in
-    (search needs, rw long (start .pre .0))
+    (search needs, (rw long (start .pre .0)), search needs)
 
 returns : tie.Need-returns Inv-loop μ-loop
 returns c =

@@ -36,7 +36,7 @@ loop-again c =
       search needs,
       (rw (wrote .write .ensures)
           (blocks-next (λ q y. y ≡ valueOf f (a .l + 1) (octet (inverses (a .n) q))) (l .p) (a .n) (l .v) _ (omega (arith, l .inv .1, l .inv .2)) (search needs) (l .inv .3)
-          (λ j k m. valued .values .ensures j k ∙ ap (valueOf f (a .l + 1)) (sym (inverse-of-place (a .n) (l .p + j) m (search needs) ∙ ap (Octet.power Octet.α) (omega arith)))))),
+          (λ j k m. valued .values .ensures .entry j k ∙ ap (valueOf f (a .l + 1)) (sym (inverse-of-place (a .n) (l .p + j) m (search needs) ∙ ap (Octet.power Octet.α) (omega arith)))))),
     )
 
 returns : tie.Need-returns Inv-loop μ-loop
