@@ -4,7 +4,7 @@
  *   - encoding is all products and remainders: no jump and no address may depend on an octet of the message;
  *   - a clean word is asked once whether its syndromes are all zero, and nothing else;
  *   - a damaged one, besides, whether it fails each of the 2e steps of the locator, whether there is a root among each 16 of the 255 places,
- *     and where there is one, whether it is each of them;
+ *     and where there is one, whether it is each of them (the last 16 reach past the word, where the first place comes again);
  *   - with a check, besides, whether each octet of the check agrees.
  */
 #include "kyteblossom.h"
@@ -57,7 +57,7 @@ static void try_limit(uint32_t width, uint32_t e)
     if (n > (e > 0) + width / 8)
         fail("receiving a clean word", e, n);
     n = in_receiving(width, e, e);
-    unsigned blocks = (KYTE_LONGEST + 15) / 16, looked_at = e < blocks ? 16 * e : KYTE_LONGEST;
+    unsigned blocks = (KYTE_LONGEST + 15) / 16, looked_at = e + 1 < blocks ? 16 * (e + 1) : KYTE_LONGEST;
     if (n > (e > 0) * (1 + 2 * e + blocks + looked_at) + width / 8)
         fail("receiving a damaged word", e, n);
 }
