@@ -118,9 +118,9 @@ static void measure(struct state *s, int which, double least[2])
 {
     draw_words(s, which);
     if (which == ENCODE)
-        measure_both(our_encode, their_encode, s, least);
+        measure_both(our_encode, their_encode, s, WORDS, least);
     else
-        measure_both(our_receive, their_receive, s, least);
+        measure_both(our_receive, their_receive, s, WORDS, least);
 }
 
 /* ---- beside libfec */
@@ -226,8 +226,7 @@ static void print_lengths(void)
         print_cell(least);
         printf("\n");
     }
-    printf("\nThe library lays every word out to 255 octets, in 17 rows of 15, and takes all the rows: so its time is nearly the same at every length, where "
-           "libfec's goes with it.\n");
+    printf("\nThe library lays every word out to 255 octets, in 17 rows of 15, and takes all the rows at every length; libfec takes the word's octets.\n");
 }
 
 /* ---- the checks */
@@ -250,7 +249,7 @@ static void print_checks(void)
         all[3 + k] = (struct measured){ our_receive, &s[k], 0 };
         free_rs_char(s[k].tables);
     }
-    measure_by_turns(all, 6);
+    measure_by_turns(all, 6, WORDS);
     memcpy(encode, all, sizeof encode);
     memcpy(clean, all + 3, sizeof clean);
     printf("| check | %s | the check | share | %s | the check | share |\n|---|--:|--:|--:|--:|--:|--:|\n", names[ENCODE], names[CLEAN]);

@@ -28,10 +28,10 @@ static inline double measure_round(measured *call, void *state, unsigned r, unsi
     return (measure_now() - began) / calls;
 }
 
-/* So many calls that a round takes 200 microseconds at least, beside which reading the clock is nothing. */
-static inline unsigned measure_calls(measured *call, void *state)
+/* So many calls, a multiple of `set`, that a round takes 200 microseconds at least, beside which reading the clock is nothing. */
+static inline unsigned measure_calls(measured *call, void *state, unsigned set)
 {
-    unsigned calls = 1;
+    unsigned calls = set;
     while (calls * measure_round(call, state, 0, calls) < 200)
         calls *= 2;
     return calls;
@@ -46,12 +46,13 @@ struct measured {
     double least;
 };
 
-/* The least microseconds of one call of each, in rounds by turns so that all meet the same machine: what else that does only adds to them. */
-static inline void measure_by_turns(struct measured *each, unsigned count)
+/* The least microseconds of one call of each, in rounds by turns so that all meet the same machine: what else that does only adds to them. Calls
+   differ, and repeat after `set`: a round has each of them as often, so that the least is not that of the easiest. */
+static inline void measure_by_turns(struct measured *each, unsigned count, unsigned set)
 {
     unsigned calls[MEASURE_MOST];
     for (unsigned k = 0; k < count; k++) {
-        calls[k] = measure_calls(each[k].call, each[k].state);
+        calls[k] = measure_calls(each[k].call, each[k].state, set);
         each[k].least = measure_round(each[k].call, each[k].state, 0, calls[k]);
     }
     for (unsigned r = 1; r < MEASURE_ROUNDS; r++)
@@ -63,10 +64,10 @@ static inline void measure_by_turns(struct measured *each, unsigned count)
 }
 
 /* .. of two, with one state. */
-static inline void measure_both(measured *first, measured *second, void *state, double least[2])
+static inline void measure_both(measured *first, measured *second, void *state, unsigned set, double least[2])
 {
     struct measured both[2] = { { first, state, 0 }, { second, state, 0 } };
-    measure_by_turns(both, 2);
+    measure_by_turns(both, 2, set);
     least[0] = both[0].least;
     least[1] = both[1].least;
 }

@@ -104,7 +104,7 @@ static void print_rows(void)
     printf("| payload of 255 octets under | demultiplexer | multiplexer | memcpy |\n|---|--:|--:|--:|\n");
     for (int k = 0; k < 2; k++) {
         struct measured all[] = { { demux, &states[k], 0 }, { mux, &states[k], 0 }, { copy, &states[k], 0 } };
-        measure_by_turns(all, 3);
+        measure_by_turns(all, 3, 1);
         printf("| %s | %.0f | %.0f | %.0f |\n", names[k], payload_of(&all[0]), payload_of(&all[1]), payload_of(&all[2]));
     }
 }
@@ -122,7 +122,7 @@ static void print_points(const char *what, const char *one, const unsigned at[PO
     double time[2][POINTS];
     for (int k = 0; k < 2 * POINTS; k++)
         all[k] = (struct measured){ k < POINTS ? demux : mux, &states[k % POINTS], 0 };
-    measure_by_turns(all, 2 * POINTS);
+    measure_by_turns(all, 2 * POINTS, 1);
     for (int k = 0; k < 2 * POINTS; k++)
         time[k / POINTS][k % POINTS] = payload_of(&all[k]);
     printf("| %s | demultiplexer | %s more | multiplexer | %s more |\n|--:|--:|--:|--:|--:|\n", what, one, one);

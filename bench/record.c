@@ -75,8 +75,8 @@ int main(void)
     for (size_t k = 0; k < sizeof lengths / sizeof *lengths; k++) {
         double writing[2], reading[2];
         draw_units(&s, lengths[k]);
-        measure_both(write_record, copy, &s, writing);
-        measure_both(read_record, copy, &s, reading);
+        measure_both(write_record, copy, &s, 1, writing);
+        measure_both(read_record, copy, &s, 1, reading);
         printf("| %zu | %zu | %zu | %.3f | %.3f | %.3f |\n", lengths[k], s.units_len / 4, s.record_len, writing[0] / 1e3, reading[0] / 1e3,
                writing[1] / 1e3);
         s.failed |= memcmp(s.read_units, s.units, sizeof *s.units * s.units_len) || memcmp(s.read_octets, s.octets, s.octets_len);

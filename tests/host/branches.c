@@ -54,11 +54,14 @@ static void try_limit(uint32_t width, uint32_t e)
     if (n > 0)
         fail("encoding", e, n);
     n = in_receiving(width, e, 0);
-    if (n > (e > 0) + width / 8)
+    if (n != (e > 0) + width / 8)
         fail("receiving a clean word", e, n);
     n = in_receiving(width, e, e);
-    unsigned blocks = (KYTE_LONGEST + 15) / 16, looked_at = e + 1 < blocks ? 16 * (e + 1) : KYTE_LONGEST;
-    if (n > (e > 0) * (1 + 2 * e + blocks + looked_at) + width / 8)
+    /* the e wrong octets lie in the first (e + 7) / 8 blocks; the last block's 16th value is the first place's again, which is wrong too */
+    unsigned blocks = (KYTE_LONGEST + 15) / 16, looked_at = 16 * ((e + 7) / 8) + 15;
+    if (looked_at > KYTE_LONGEST)
+        looked_at = KYTE_LONGEST;
+    if (n != (e > 0) * (1 + 2 * e + blocks + looked_at) + width / 8)
         fail("receiving a damaged word", e, n);
 }
 

@@ -13,29 +13,26 @@
 -- It takes nothing from the other proofs: a definition that fails a claim is refused here, before a lemma that it breaks besides.
 --
 -- Assumes nothing.
-use mathlib.Core.Path.{_≡_, refl, sym, ap, _∙_, subst}
-use mathlib.Core.Logic.{_↔_, _⊎_, ⊎-elim, inl, inr}
-use mathlib.Core.Bool.{Bool, true, false, cond, not, and-true, and-false}
+use mathlib.Core.Path.{_≡_, refl, ap, _∙_}
+use mathlib.Core.Logic.{_↔_, _⊎_, ⊎-elim}
+use mathlib.Core.Bool.{Bool, true, false, not, and-true, and-false}
 use mathlib.Core.List.{List, [], _∷_, _++_}
 use Prim.Native.Nat.{ℕ, _+_, _-_, _*_, _≤_}
 use native.Mathlib.Nat.{zero-add}
 use native.Mathlib.Omega.{arith}
-use borrow.Author.Tests.{le-leb, leb-true, eqb-true}
-use lib.Dec.{T, leb, ltb, eqb}
+use borrow.Author.Tests.{le-leb, leb-true}
+use lib.Dec.{leb, ltb, eqb}
 use lib.ListN.{length, take, drop, length-append}
-use lib.Seq.{take-at, drop-at}
+use lib.Seq.{take-at}
 use Rattle.octets.specs.Exact.{chain, both-of, is-true, is-false, denied, less, two-at-most, either-over, equal}
-use Rattle.octets.specs.Same.{same, same-self, same-equal}
 use Rattle.octets.specs.Tests.{both-true, never}
 use Rattle.codeword.specs.Repair.{RepairLent, hasRepairRoom}
 use Rattle.calls.specs.Refusal.{told, _when_, refusal, Gives}
 use Rattle.calls.proofs.Laws.{given-exactly}
 use Rattle.checks.specs.Bits.{octetsOf}
-use Rattle.checks.specs.Check.{Kind, none, eight, sixteen, checkOf, agrees}
-use Rattle.checks.specs.Width.{widthOf, isKnown, kindAt}
+use Rattle.checks.specs.Check.{none, eight, sixteen, checkOf, agrees}
+use Rattle.checks.specs.Width.{widthOf, isWidth, kindAt}
 use Rattle.checks.proofs.Laws.{checks-exactly}
-use Rattle.checks.specs.declared.Asked.the-variants.{Known, Unknown}
-use Rattle.checks.specs.declared.Width.the-variants.{Zero, Eight, Sixteen}
 use Rattle.adaptation.specs.AL1M.{isSetting, sentOctets, isSendable, al1mTests, sentLength}
 use Rattle.adaptation.specs.Receiving.{isWord, receiveTests, isBare}
 use Rattle.adaptation.specs.Handed.{isUnit}
@@ -49,34 +46,11 @@ use Rattle.adaptation.specs.Exactly.{OfAL1M, OfUnits, WholeIs}
 
 -- ---- the settings
 
-known : (b : ℕ) → isKnown (widthOf b) ≡ true → (b ≡ 0) ⊎ ((b ≡ 8) ⊎ (b ≡ 16))
-unfolding widthOf
-known b = zero (eqb b 0) refl
-  where
-    sixteenth : (t : Bool) → eqb b 16 ≡ t → isKnown (cond t (Known Sixteen) Unknown) ≡ true → (b ≡ 0) ⊎ ((b ≡ 8) ⊎ (b ≡ 16))
-    sixteenth true e h = inr (inr (eqb-true b 16 e))
-    sixteenth false e h = never (cc)
-
-    eighth : (t : Bool) → eqb b 8 ≡ t → isKnown (cond t (Known Eight) (cond (eqb b 16) (Known Sixteen) Unknown)) ≡ true → (b ≡ 0) ⊎ ((b ≡ 8) ⊎ (b ≡ 16))
-    eighth true e h = inr (inl (eqb-true b 8 e))
-    eighth false e h = sixteenth (eqb b 16) refl h
-
-    zero : (t : Bool) → eqb b 0 ≡ t → isKnown (cond t (Known Zero) (cond (eqb b 8) (Known Eight) (cond (eqb b 16) (Known Sixteen) Unknown))) ≡ true
-        → (b ≡ 0) ⊎ ((b ≡ 8) ⊎ (b ≡ 16))
-    zero true e h = inl (eqb-true b 0 e)
-    zero false e h = eighth (eqb b 8) refl h
-
-known-back : (b : ℕ) → (b ≡ 0) ⊎ ((b ≡ 8) ⊎ (b ≡ 16)) → isKnown (widthOf b) ≡ true
-unfolding widthOf
-known-back b (inl e) = rw e
-known-back b (inr (inl e)) = rw e
-known-back b (inr (inr e)) = rw e
-
 settings : (b e : ℕ) → isSetting b e ≡ true ↔ (((b ≡ 0) ⊎ ((b ≡ 8) ⊎ (b ≡ 16))) × (e ≤ 127))
 unfolding isSetting
 settings b e = (
-  λ h. let t = both-true (isKnown (widthOf b)) (leb e 127) h in (known b (t .0), leb-true e 127 (t .1)),
-  λ h. rw (known-back b (h .0), le-leb e 127 (h .1)),
+  λ h. let t = both-true (isWidth b) (leb e 127) h in (checks-exactly .known b .0 (t .0), leb-true e 127 (t .1)),
+  λ h. rw (checks-exactly .known b .1 (h .0), le-leb e 127 (h .1)),
 )
 
 -- ---- lengths

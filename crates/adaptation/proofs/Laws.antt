@@ -15,7 +15,6 @@
 --   sentIsWhole, readBack, readIsWhole, nextInOrder, plainReceived   AL2's sending and receiving undo each other (InStep)
 --   inStep, wholesFrom-append, numberAfter-append, expectedAfter-append, numberAfter-lt
 --                                        .. and so do units that follow one another, and their numbers (InStep)
---   check8-once                          one check of 8 bits (Unique)
 --   badge-most                           the badges' numbers go to 4 (Unique)
 --   says-once, passed-once, read-once, received-once   one answer of AL1 and AL2 (Unique)
 --
@@ -28,4 +27,4 @@ pub use Rattle.adaptation.proofs.Badges.{foundIsShown, badge-exactly, o
 pub use Rattle.adaptation.proofs.Theorems.{sent-small, handed-small, sentIsHandedUp, encodedUnique, receivedUnique}
 pub use Rattle.adaptation.proofs.InStep.{sentIsWhole, readBack, readIsWhole, nextInOrder, plainReceived, inStep}
 pub use Rattle.adaptation.proofs.InStep.{wholesFrom-append, numberAfter-append, expectedAfter-append, numberAfter-lt}
-pub use Rattle.adaptation.proofs.Unique.{check8-once, badge-most, says-once, passed-once, read-once, received-once}
+pub use Rattle.adaptation.proofs.Unique.{badge-most, says-once, passed-once, read-once, received-once}

@@ -17,7 +17,7 @@ use Prim.Native.Nat.{ℕ}
 use lib.ListN.{length}
 use Rattle.octets.specs.Tests.{never}
 use Rattle.octets.specs.Written.{written}
-use Rattle.calls.specs.Refusal.{refused, told, Ended, leaving, checked, refusal, ended}
+use Rattle.calls.specs.Refusal.{refused, told, Ended, checked, refusal, ended}
 use Rattle.adaptation.specs.AL1M.{al1mTests}
 use Rattle.adaptation.specs.AL2.{whole, sendTests, sent}
 use Rattle.adaptation.specs.declared.al2.Number.{Number}

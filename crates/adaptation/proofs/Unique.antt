@@ -6,18 +6,16 @@
 --   read-once        .. to reading
 --   says-once        .. to receiving, by what they say of a unit where a number is expected
 --   received-once    .. so there is one
---   check8-once      the checks of 8 bits
 --
 -- The other promises are equations `r ≡ ..`, for which `p ∙ sym q` is the proof. Assumes nothing.
 use mathlib.Core.Path.{_≡_, refl, sym, ap, _∙_}
 use mathlib.Core.Bool.{Bool, cond}
-use mathlib.Core.List.{List, [], _∷_, head-eq-of-cons-eq}
+use mathlib.Core.List.{List}
 use Prim.Native.Nat.{ℕ, _≤_}
 use native.Mathlib.Omega.{arith}
 use lib.Dec.{eqb}
 use Rattle.calls.specs.Refusal.{Told, refused, told}
 use Rattle.calls.proofs.Laws.{once}
-use Rattle.checks.specs.Check.{checkOf, eight}
 use Rattle.adaptation.specs.Handed.{badgeNumber, Handed}
 use Rattle.adaptation.specs.AL1 as al1
 use Rattle.adaptation.specs.AL2.{Parts, Receipt, handedUp, discarded, unitOf, apart, received, apartSays, receivedSays}
@@ -99,8 +97,3 @@ says-once u e a b h = once (λ (r : Received). receivedSays r u e) receivedBack 
 pub received-once : (s : Bool) (w : List ℕ) (e : ℕ) (a b : Received)
     → receivedSays a (unitOf s w) e ≡ received s w e → receivedSays b (unitOf s w) e ≡ received s w e → a ≡ b
 received-once s w e a b p q = says-once (unitOf s w) e a b (p ∙ sym q)
-
--- ---- the check of 8 bits
-
-pub check8-once : (u : List ℕ) (a b : ℕ) → a ∷ [] ≡ checkOf eight u → b ∷ [] ≡ checkOf eight u → a ≡ b
-check8-once u a b p q = head-eq-of-cons-eq (p ∙ sym q)

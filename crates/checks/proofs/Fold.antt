@@ -22,9 +22,8 @@ use native.Mathlib.Nat.{mul-suc}
 use native.Mathlib.Omega.{arith}
 use lib.Bits.{bitXor, xor-zero-r, xor-lt}
 use lib.Dec.{lit<}
-use lib.ListN.{length, getD, set, take, drop, replicate, length-append, length-replicate, length-drop, take-append-drop, replicate-append-replicate}
-use lib.ListN.{getD-replicate}
-use lib.Seq.{length-take-le, take-set-lt, drop-set-add, getD-take, getD-drop, append-snoc}
+use lib.ListN.{length, getD, set, take, drop, replicate, length-append, length-replicate, take-append-drop, replicate-append-replicate}
+use lib.Seq.{length-take-le, take-set-lt, drop-set-add, getD-take, getD-drop}
 use Rattle.algebra.specs.Division.{sum, remainder}
 use Rattle.algebra.specs.Register.{register}
 use Rattle.algebra.proofs.Laws.{remainder-length, remainder-sum, register-zeros}

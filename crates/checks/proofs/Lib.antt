@@ -6,5 +6,5 @@ pub mod Residue
 pub mod Rule
 pub mod Fold
 pub mod Turns
-pub mod Behind
+pub mod Sealed
 pub mod Laws

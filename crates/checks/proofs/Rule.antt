@@ -3,7 +3,7 @@
 --   worked κ x   `remainderOf κ x`; who unfolds this computes it
 --   leaves κ f   the test of all 256 octets: is f x the remainder of the octet x, by the check κ?
 --   leaves-at    .. if so, it is
---   left8 x      the remainder by the generator of the check of 8 bits, as src/checks.rt works it out; `left8-is`: it is
+--   left8 x      the remainder by the generator of the check of 8 bits, as src/lib.rt works it out; `left8-is`: it is
 --   left16 x     .. of 16 bits; `left16-is`
 --
 -- Assumes nothing.

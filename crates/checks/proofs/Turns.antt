@@ -11,12 +11,12 @@
 use mathlib.Core.Path.{_≡_, refl, sym, ap, ap₂, _∙_}
 use mathlib.Core.Bool.{Bool, true, false}
 use mathlib.Core.List.{List, [], _∷_}
-use Prim.Native.Nat.{ℕ, suc, _+_, _-_, _≤_, _<_, min}
+use Prim.Native.Nat.{ℕ, suc, _+_, _-_, _≤_, _<_}
 use native.Mathlib.Numerals.{add-one}
 use native.Mathlib.Nat.{zero-add}
 use native.Mathlib.Omega.{arith}
 use lib.Bits.{bitXor, xor-zero-r}
-use lib.Dec.{T, eqb→eq, lit<}
+use lib.Dec.{T, lit<}
 use lib.ListN.{length, getD, set, take, drop, replicate, length-set, length-replicate, length-drop, getD-replicate}
 use lib.Seq.{drop-cons, getD-take, getD-set-other, length-take-le}
 use Rattle.algebra.specs.Division.{sum, lowered, divided, remainder}

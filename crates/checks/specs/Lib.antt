@@ -5,3 +5,4 @@ pub mod Remainders
 pub mod Steps
 pub mod Width
 pub mod Exactly
+pub mod Small

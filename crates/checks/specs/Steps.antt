@@ -6,8 +6,8 @@
 --   remainderOf κ x   .. of the one octet x
 --   xors u v          the octets v added to the first of u
 --   added a m v       a added to each octet of v at whose place m has true
---   Folds κ i j k     the generator of κ has its terms below the highest i, j and k places behind it, and folds: before as many zeros as it has such
---                     coefficients an octet leaves what those of the zeros leave to which it is added, where the generator has its terms
+--   Folds κ i j k     the generator of κ has its terms below the highest i, j and k places behind it, and folds: an octet before as many zeros as
+--                     the generator has coefficients below the highest leaves what these zeros leave with the octet added where it has its terms
 --
 -- Assumes nothing.
 use mathlib.Core.Path.{_≡_}

@@ -1,6 +1,6 @@
 // The checks of 8 and 16 bits (000, 7.3.3.2.3 and 7.4.3.2.3). The definitions are in specs/Check.antt.
 //
-// First the content is folded. The generator at x^8 is the generator to the 8th power, since in characteristic 2 a square is the sum of the
+// A content of 16 to 1,024 octets is folded first. The generator at x^8 is the generator to the 8th power, since in characteristic 2 a square is the sum of the
 // squares: so the remainder by the generator stays where the content is divided by that, whose coefficients are octets. They are 0 and 1,
 // and an octet that goes is only added to three octets behind it: 16 - 12, 16 - 5 and 16 octets on, or 8 - 2, 8 - 1 and 8. The next octet
 // does not wait for that, as each would in the register.
@@ -10,8 +10,8 @@
 //
 // A remainder is worked out by shifting and adding. An octet's highest coefficient is its lowest bit, so that a shift to the right by k
 // bits is the product with x^k, and a shift to the left what x^-k times the octet has at x^0 and above. The octet times x^w is q times the
-// generator, and a remainder below x^w: q is the octet, and what the generator's lower terms times q have at x^w and above; the remainder
-// is what they have below it.
+// generator, and a remainder below x^w: q is the octet, and what the generator's lower terms times q have at x^w and above (which hangs on
+// the highest coefficients alone, in which q and the octet agree); the remainder is what they have below it.
 pub mod seals; // seals.rt: a check behind its octets
 
 ghost use mathlib.Core.Path.{_≡_};
@@ -27,7 +27,7 @@ ghost use Rattle.checks.specs.Width.{kindOf, widthOf};
 const LONGEST: usize = 1024;
 
 // How many octets a fold leaves.
-const LEFT: usize = 16;
+const FOLDED: usize = 16;
 
 // The width of a check: 0 bits are no check.
 pub enum Width {
@@ -110,7 +110,7 @@ fn divide16(content: &[u8], start: u8) -> [u8; 2]
     [first, second]
 }
 
-// The content, at the front of zeros.
+// The content, at the front of an array of octets.
 fn laid(content: &[u8]) -> [u8; LONGEST]
     requires { ⌜ length (now content) ≤ 1024 ⌝ }
     ensures { λ r. ⌜ take (length (now (content .entry))) r ≡ now (content .entry) × Octets r ⌝ }
@@ -121,19 +121,19 @@ fn laid(content: &[u8]) -> [u8; LONGEST]
 }
 
 // The 16 octets from `at` on.
-fn last(w: &[u8; LONGEST], at: usize) -> [u8; LEFT]
+fn sixteen_at(w: &[u8; LONGEST], at: usize) -> [u8; FOLDED]
     requires { ⌜ at + 16 ≤ 1024 ⌝ }
     ensures { λ r. ⌜ r ≡ take 16 (drop at (now (w .entry))) ⌝ }
 {
     let all = &w[..];
-    let mut r = [0u8; LEFT];
-    octets::write(&mut r, 0, &all[at..at + LEFT]);
+    let mut r = [0u8; FOLDED];
+    octets::write(&mut r, 0, &all[at..at + FOLDED]);
     r
 }
 
 // Sixteen octets that leave what the content leaves, with `ones` added to its first two octets, by a generator that has its terms `near`,
 // `middle` and `far` places behind the highest.
-fn folded(content: &[u8], ones: u8, near: usize, middle: usize, far: usize) -> [u8; LEFT]
+fn folded(content: &[u8], ones: u8, near: usize, middle: usize, far: usize) -> [u8; FOLDED]
     requires { ⌜ (16 ≤ length (now content)) × (length (now content) ≤ 1024) × (near ≤ 16) × (middle ≤ 16) × (far ≤ 16) ⌝ }
     ensures { λ r. ⌜ ((κ : Kind) → Folds κ near middle far → left κ r ≡ left κ (xors (now (content .entry)) (ones ∷ ones ∷ []))) ⌝ }
 {
@@ -142,21 +142,21 @@ fn folded(content: &[u8], ones: u8, near: usize, middle: usize, far: usize) -> [
     w[1] = w[1] ^ ones;
     let n = content.len();
     let mut i: usize = 0;
-    while i + LEFT < n {
+    while i + FOLDED < n {
         let a = w[i];
         w[i + near] = w[i + near] ^ a;
         w[i + middle] = w[i + middle] ^ a;
         w[i + far] = w[i + far] ^ a;
         i += 1;
     }
-    last(&w, i)
+    sixteen_at(&w, i)
 }
 
 // The check of 8 bits.
 pub fn check8(content: &[u8]) -> u8
     ensures { λ r. ⌜ r ∷ [] ≡ checkOf eight (now (content .entry)) ⌝ }
 {
-    if content.len() < LEFT || LONGEST < content.len() {
+    if content.len() < FOLDED || LONGEST < content.len() {
         return divide8(content);
     }
     let rest = folded(content, 0, 6, 7, 8);
@@ -167,7 +167,7 @@ pub fn check8(content: &[u8]) -> u8
 fn held16(content: &[u8]) -> [u8; 2]
     ensures { λ r. ⌜ r ≡ held sixteen (255 ∷ 255 ∷ []) (now (content .entry)) ⌝ }
 {
-    if content.len() < LEFT || LONGEST < content.len() {
+    if content.len() < FOLDED || LONGEST < content.len() {
         return divide16(content, 255);
     }
     let rest = folded(content, 255, 4, 11, 16);

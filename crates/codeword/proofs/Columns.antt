@@ -9,7 +9,7 @@
 --   spaced-at                    a coefficient of a series of spaced entries
 --   loaded                       .. in each lane, where they are loaded
 --   evaluated                    what Horner's rule has of such series in the end
---   FoldingTo n d t a f g        a is added to n of the rows that the taps t name
+--   FoldingTo n d t a f g        d rows of g are worth what those of f are, and a times the powers that n of the taps t name, d - 8 on
 --   folding-start, folding-next  .. one after another
 --   folded-start, folded-next    one row after another is folded
 --

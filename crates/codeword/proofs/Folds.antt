@@ -1,8 +1,7 @@
 -- The two polynomials of which the roots are α^15r, and the columns' values at all of these.
 --
 --   residue-roots, other-roots      the r of which α^15r is a root of the one polynomial, and of the other
---   residue-roots-small, other-roots-small, last-root-small
---                                   .. as small as the code asks them to be, and so is the last
+--   isSmall, areSmall, roots-small  all the numbers of a list are below a bound; below 34, as the code asks of roots
 --   Gained w c roots m v u          u has what v has of the columns of w, and their values at those of the c roots that are up to m
 --   residues-gained, others-gained, last-gained
 --                                   .. by a list of roots that is filled in
@@ -43,27 +42,18 @@ residue-roots = 1 ∷ 2 ∷ 4 ∷ 8 ∷ 9 ∷ 13 ∷ 15 ∷ 16 ∷ []
 abbrev pub other-roots : List ℕ
 other-roots = 3 ∷ 5 ∷ 6 ∷ 7 ∷ 10 ∷ 11 ∷ 12 ∷ 14 ∷ []
 
-isSmall : List ℕ → ℕ → ℕ → Bool
+unfoldable pub isSmall : List ℕ → ℕ → ℕ → Bool
 isSmall l n j = ltb (getD l j 0) n
 
-areSmall : List ℕ → ℕ → Bool
+unfoldable pub areSmall : List ℕ → ℕ → Bool
 areSmall l n = every (isSmall l n) (length l)
 
 small-at : (l : List ℕ) (n : ℕ) → T (areSmall l n) → (j : ℕ) → j < length l → getD l j 0 < n
 unfolding areSmall isSmall
 small-at l n h j k = ltb→lt _ _ (every-at (isSmall l n) (length l) h j k)
 
-pub residue-roots-small : (j : ℕ) → j < 8 → getD residue-roots j 0 < 18
-unfolding areSmall isSmall
-residue-roots-small j l = small-at residue-roots 18 tt j l
-
-pub other-roots-small : (j : ℕ) → j < 8 → getD other-roots j 0 < 18
-unfolding areSmall isSmall
-other-roots-small j l = small-at other-roots 18 tt j l
-
-pub last-root-small : (j : ℕ) → j < 1 → getD (17 ∷ []) j 0 < 18
-unfolding areSmall isSmall
-last-root-small j l = small-at (17 ∷ []) 18 tt j l
+pub roots-small : (l : List ℕ) → T (areSmall l 34) → (j : ℕ) → j < length l → getD l j 0 < 34
+roots-small l = small-at l 34
 
 isLarge : List ℕ → ℕ → ℕ → Bool
 isLarge l n j = ltb n (getD l j 0)

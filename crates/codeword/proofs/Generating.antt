@@ -1,8 +1,8 @@
 -- The generator's coefficients: ratios, multiplied up, and the lower half from the upper.
 --
---   powers-at                        a power from the list
---   stepped-start, stepped-next        c, 2c, .. as exponents
---   stepped-entry                     .. of the powers in the list
+--   laid-at                          a power from a row of them, at any exponent
+--   multiples-start, multiples-next  c, 2c, .. as exponents
+--   multiples-entry                  .. of the powers in the row
 --   upper-start, upper-next          one block of ratios after another
 --   upper-end                        .. which are all
 --   doubled-start, doubled-next      one block of products after another, from the top
@@ -46,20 +46,20 @@ open Field elements using (Carrier as F, add as _⊕_, mul as _⊙_, inv, nil as
 
 -- ---- powers
 
-pub powers-at : (r : List ℕ) (k : ℕ) → Laid r → getD r (k % Octet.order) 0 ≡ Octet.power Octet.α k
-powers-at r k h = h (k % Octet.order) (omega arith) ∙ power-wrap k
+pub laid-at : (r : List ℕ) (k : ℕ) → Laid r → getD r (k % Octet.order) 0 ≡ Octet.power Octet.α k
+laid-at r k h = h (k % Octet.order) (omega arith) ∙ power-wrap k
 
-pub stepped-entry : (r : List ℕ) (c at k : ℕ) {v : ℕ} → Laid r → v ≡ getD r (at % Octet.order) 0
+pub multiples-entry : (r : List ℕ) (c at k : ℕ) {v : ℕ} → Laid r → v ≡ getD r (at % Octet.order) 0
     → Octet.power Octet.α at ≡ Octet.power (Octet.power Octet.α c) (suc k) → v ≡ Octet.power (Octet.power Octet.α c) (suc k)
-stepped-entry r c at k h e p = e ∙ powers-at r at h ∙ p
+multiples-entry r c at k h e p = e ∙ laid-at r at h ∙ p
 
-pub stepped-start : (c : ℕ) → Octet.power Octet.α c ≡ Octet.power (Octet.power Octet.α c) 1
-stepped-start c = sym (power-mul Octet.α c 1 ∙ ap (Octet.power Octet.α) (omega arith))
+pub multiples-start : (c : ℕ) → Octet.power Octet.α c ≡ Octet.power (Octet.power Octet.α c) 1
+multiples-start c = sym (power-mul Octet.α c 1 ∙ ap (Octet.power Octet.α) (omega arith))
 
-pub stepped-next : (c at k : ℕ) → Octet.power Octet.α at ≡ Octet.power (Octet.power Octet.α c) (suc k)
+pub multiples-next : (c at k : ℕ) → Octet.power Octet.α at ≡ Octet.power (Octet.power Octet.α c) (suc k)
     → Octet.power Octet.α (at + c) ≡ Octet.power (Octet.power Octet.α c) (suc (k + 1))
-stepped-next c at k p =
-    power-add Octet.α at c ∙ ap₂ Octet.product p (stepped-start c) ∙ sym (power-add _ (suc k) 1) ∙ ap (Octet.power (Octet.power Octet.α c)) (omega arith)
+multiples-next c at k p =
+    power-add Octet.α at c ∙ ap₂ Octet.product p (multiples-start c) ∙ sym (power-add _ (suc k) 1) ∙ ap (Octet.power (Octet.power Octet.α c)) (omega arith)
 
 element-powers : (a d : ℕ) → element (Octet.power a d) ≡ pow elements (element a) d
 element-powers a zero = ap element (power-zero a) ∙ element-one ∙ sym (pow-zero elements _)
@@ -179,7 +179,7 @@ upper-half {e} {s} {p} b u = record {
 
 pub far-is : (r : List ℕ) (e : ℕ) → Laid r → getD r (16 * (2 * e + 1) % Octet.order) 0 ≡ Octet.power (rise e) 16
 far-is r e h =
-    powers-at r (16 * (2 * e + 1)) h ∙ ap (Octet.power Octet.α) (mul-comm 16 (2 * e + 1) ∙ ap (λ (n : ℕ). n * 16) (add-one (2 * e)))
+    laid-at r (16 * (2 * e + 1)) h ∙ ap (Octet.power Octet.α) (mul-comm 16 (2 * e + 1) ∙ ap (λ (n : ℕ). n * 16) (add-one (2 * e)))
     ∙ sym (power-mul Octet.α (suc (2 * e)) 16)
 
 pub far-lanes : (r : List ℕ) (e : ℕ) {f : List ℕ} → Laid r → Lanes (λ k. getD r (16 * (2 * e + 1) % Octet.order) 0) f → Lanes (λ k. Octet.power (rise e) 16) f

@@ -11,7 +11,7 @@
 -- Assumes nothing.
 use mathlib.Core.Path.{_≡_, refl, sym, ap, ap₂, fun-ext, _∙_, subst}
 use mathlib.Core.List.{List}
-use Prim.Native.Nat.{ℕ, zero, suc, _+_, _-_, _*_, _≤_, _<_}
+use Prim.Native.Nat.{ℕ, suc, _+_, _-_, _*_, _≤_, _<_}
 use native.Mathlib.Omega.{arith}
 use native.Mathlib.Decide.{decLt}
 use lib.Dec.{lit<}
@@ -19,9 +19,8 @@ use lib.ListN.{length, getD, set, take, replicate, length-set}
 use lib.Seq.{getD-set-other}
 use Rattle.algebra.specs.Field.{Field}
 use Rattle.algebra.specs.Series.{Series}
-use Rattle.algebra.specs.Power.{rising}
 use Rattle.algebra.specs.Points.{Distinct}
-use Rattle.algebra.specs.Polynomial.{polynomial, raised, Remainder}
+use Rattle.algebra.specs.Polynomial.{polynomial, Remainder}
 use Rattle.algebra.specs.Value.{ev, from}
 use Rattle.algebra.specs.Derivative.{odds}
 use Rattle.algebra.specs.Interpolation.{quo, total, part, interpolated}
@@ -36,7 +35,7 @@ use Rattle.codeword.specs.CodeWord.{longestWord, word}
 use Rattle.codeword.specs.Places.{value}
 use Rattle.codeword.specs.Syndromes.{SyndromesAre}
 use Rattle.codeword.specs.Lanes.{lanes, Lanes, Summed}
-use Rattle.codeword.specs.Register.{G, ones, GeneratorIs, RegisterIs}
+use Rattle.codeword.specs.Register.{G, ones, GeneratorIs, RemainderIs}
 use Rattle.codeword.specs.Interpolation.{points, ElementLanes, divisor, share, PartsAdded, Interpolates, Raised}
 use Rattle.codeword.proofs.Arrays.{replicate-at, zeros, zeros-at, zeros-octets, octets-set, set-below}
 use Rattle.codeword.proofs.Word.{below-word}
@@ -152,12 +151,12 @@ interpolates-start = record {
   unused = λ i l. zeros-at i;
 }
 
-point-at : (r x : List ℕ) (o : ℕ) → Laid r → o ≤ 32 → Lanes (λ k. getD r (o + 1 + k) 0) x → (k : ℕ) → k < lanes → element (getD x k 0) ≡ points (o + k)
+point-at : (r x : List ℕ) (o : ℕ) → Laid r → o + lanes ≤ longestWord → Lanes (λ k. getD r (o + 1 + k) 0) x → (k : ℕ) → k < lanes → element (getD x k 0) ≡ points (o + k)
 point-at r x o pw b lx k l =
     let z : o + 1 + k ≡ suc (o + k) = omega arith in
     ap element (lx .entry k l ∙ pw (o + 1 + k) (omega arith) ∙ ap (Octet.power Octet.α) z) ∙ element-power (suc (o + k)) ∙ sym (rising-at elements α (o + k))
 
-pub interpolates-next : (r : List ℕ) (e o : ℕ) {x d v w s p q : List ℕ} → o ≤ 32 → Laid r → Lanes (λ k. getD r (o + 1 + k) 0) x
+pub interpolates-next : (r : List ℕ) (e o : ℕ) {x d v w s p q : List ℕ} → o + lanes ≤ longestWord → Laid r → Lanes (λ k. getD r (o + 1 + k) 0) x
     → ElementLanes (λ k. divisor e (element (getD x k 0))) d → Lanes (λ k. getD s (o + k) 0) v
     → Lanes (λ k. Octet.product (getD v k 0) (Octet.inverse (getD d k 0))) w → PartsAdded (2 * e) (2 * e) x w p q → Interpolates e o s p
     → Interpolates e (o + lanes) s q
@@ -186,7 +185,7 @@ interpolates-next r e o {x} {d} {v} {w} {s} {p} {q} b pw lx vd lv lw h t = recor
         (ap (λ (y : F). quo elements m (G m) y c) (point-at r x o pw b lx k l) ∙ ap (λ (f : Series elements). f c) (sym (part-is elements m points (o + k))))
 
 pub interpolates-end : (e o : ℕ) (u w s p : List ℕ) → length u + 2 * e ≤ longestWord → 2 * e < longestWord → 2 * e ≤ o → Raised longestWord u w
-    → SyndromesAre (2 * e) (take (length u + 2 * e) w) s → Interpolates e o s p → RegisterIs (2 * e) u p
+    → SyndromesAre (2 * e) (take (length u + 2 * e) w) s → Interpolates e o s p → RemainderIs (2 * e) u p
 unfolding value
 interpolates-end e o u w s p fits small all r sy t = record {
   long = t .long;

@@ -16,11 +16,10 @@ use lib.Dec.{lit<}
 use lib.ListN.{length, getD, set, length-set}
 use lib.Seq.{getD-set-same, getD-set-other}
 use Rattle.algebra.specs.Field.{Field}
-use Rattle.algebra.specs.Interpolation.{total}
 use Rattle.algebra.proofs.Laws.{total-zero, total-suc}
 use Rattle.field.specs.Octet as Octet
 use Rattle.field.specs.Octet.Laws.{sum-octet, product-octet}
-use Rattle.codeword.specs.Element.{elements, element}
+use Rattle.codeword.specs.Element.{elements}
 use Rattle.codeword.specs.Element.Laws.{element-sum, element-product, element-zero}
 use Rattle.codeword.specs.Lanes.{lanes, Filled, Stored, Summed}
 use Rattle.codeword.proofs.Arrays.{set-below}

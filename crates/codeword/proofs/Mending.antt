@@ -1,6 +1,6 @@
 -- a z + q x^n v, 16 coefficients at a time from the top down, and as series.
 --
---   place-low, place-high, place-fits   where a block stands, and that it is in the array
+--   block-low, block-high, block-fits   where a block stands, and that it is in the array
 --   mended-start, mended-next       one block after another
 --   kept-start, kept-next           .. of z into v
 --   part-at, part-long, part-past   the octets of a part, how many they are, and zeros past them
@@ -30,7 +30,7 @@ use Rattle.codeword.specs.Element.{elements, element}
 use Rattle.codeword.specs.Element.Laws.{element-sum, element-product, element-zero}
 use Rattle.codeword.specs.Lanes.{lanes, Lanes, Stored}
 use Rattle.codeword.specs.Places.{places}
-use Rattle.codeword.specs.Locator.{margin, HasMargin, behind, second, room, part, placeOf, Among, Saved, Mended, Kept}
+use Rattle.codeword.specs.Locator.{margin, HasMargin, behind, second, room, part, blockAt, Among, Saved, Mended, Kept}
 use Rattle.codeword.proofs.Word.{places-at}
 
 infixl 60 _⊕_ _⊞_
@@ -45,71 +45,71 @@ mix a q x y = Octet.sum (Octet.product a x) (Octet.product q y)
 
 -- ---- where a block stands
 
-pub place-low : (low i : ℕ) → i < low → placeOf low i ≡ lanes * i
-unfolding placeOf
-place-low low i l = rw (lt-ltb i low l)
+pub block-low : (low i : ℕ) → i < low → blockAt low i ≡ lanes * i
+unfolding blockAt
+block-low low i l = rw (lt-ltb i low l)
 
-pub place-high : (low i : ℕ) → low ≤ i → placeOf low i ≡ second + lanes * (i - low)
-unfolding placeOf
-place-high low i l = rw (le-ltb i low l)
+pub block-high : (low i : ℕ) → low ≤ i → blockAt low i ≡ second + lanes * (i - low)
+unfolding blockAt
+block-high low i l = rw (le-ltb i low l)
 
-pub place-fits : (low high i : ℕ) → low ≤ 8 → high ≤ 16 → i < low + high → placeOf low i + lanes ≤ room
-place-fits low high i p q l = elim (decLt i low) [
-  | yes r ↦ omega (arith, place-low low i r)
-  | no r ↦ omega (arith, place-high low i (omega arith))
+pub block-fits : (low high i : ℕ) → low ≤ 8 → high ≤ 16 → i < low + high → blockAt low i + lanes ≤ room
+block-fits low high i p q l = elim (decLt i low) [
+  | yes r ↦ omega (arith, block-low low i r)
+  | no r ↦ omega (arith, block-high low i (omega arith))
 ]
 
 -- ---- block after block
 
 -- past the last block stands nothing
-none : (low high k : ℕ) → low ≤ 8 → placeOf low (low + high) ≤ k → Among low high k → ⊥
+none : (low high k : ℕ) → low ≤ 8 → blockAt low (low + high) ≤ k → Among low high k → ⊥
 none low high k few l = ⊎-elim (λ p. omega (arith, end)) (λ p. omega (arith, p, end))
   where
-    end : placeOf low (low + high) ≡ second + lanes * (low + high - low)
-    end = place-high low (low + high) (omega arith)
+    end : blockAt low (low + high) ≡ second + lanes * (low + high - low)
+    end = block-high low (low + high) (omega arith)
 
-pub mended-start : {low high n a q : ℕ} {z v : List ℕ} → low ≤ 8 → Mended low high (placeOf low (low + high)) n a q z v z
+pub mended-start : {low high n a q : ℕ} {z v : List ℕ} → low ≤ 8 → Mended low high (blockAt low (low + high)) n a q z v z
 mended-start {low} {high} few = record { long = refl; done = λ k l m. absurd (none low high k few l m); left = λ k m. refl }
 
-pub kept-start : {grows : Bool} {low high : ℕ} {z v : List ℕ} → low ≤ 8 → Kept grows low high (placeOf low (low + high)) z v v
+pub kept-start : {grows : Bool} {low high : ℕ} {z v : List ℕ} → low ≤ 8 → Kept grows low high (blockAt low (low + high)) z v v
 kept-start {grows} {low} {high} few = record { long = refl; done = λ g k l m. absurd (none low high k few l m); left = λ j m. refl; same = λ g. refl }
 
-module _ (low high i : ℕ) {o next : ℕ} (few : low ≤ 8) (inside : i < low + high) (here : o ≡ placeOf low i) (after : next ≡ i + 1) where
+module _ (low high i : ℕ) {o next : ℕ} (few : low ≤ 8) (inside : i < low + high) (here : o ≡ blockAt low i) (after : next ≡ i + 1) where
   -- the block above is the next, or the first of d
-  above : (placeOf low next ≡ o + lanes) ⊎ ((o + lanes ≡ lanes * low) × (placeOf low next ≡ second))
+  above : (blockAt low next ≡ o + lanes) ⊎ ((o + lanes ≡ lanes * low) × (blockAt low next ≡ second))
   above = elim (decLt i low) [
     | yes p ↦ elim (decLt next low) [
-      | yes q ↦ inl (omega (arith, place-low low i p, place-low low next q))
-      | no q ↦ inr (omega (arith, place-low low i p), omega (arith, place-high low next (omega arith)))
+      | yes q ↦ inl (omega (arith, block-low low i p, block-low low next q))
+      | no q ↦ inr (omega (arith, block-low low i p), omega (arith, block-high low next (omega arith)))
     ]
-    | no p ↦ inl (omega (arith, place-high low i (omega arith), place-high low next (omega arith)))
+    | no p ↦ inl (omega (arith, block-high low i (omega arith), block-high low next (omega arith)))
   ]
 
-  rises : o + lanes ≤ placeOf low next
+  rises : o + lanes ≤ blockAt low next
   rises = ⊎-elim (λ p. omega arith) (λ p. omega (arith, p)) above
 
   among : (k : ℕ) → o ≤ k → k < o + lanes → Among low high k
   among k l m = elim (decLt i low) [
-    | yes p ↦ inl (omega (arith, place-low low i p))
-    | no p ↦ inr (omega (arith, place-high low i (omega arith)), omega (arith, place-high low i (omega arith)))
+    | yes p ↦ inl (omega (arith, block-low low i p))
+    | no p ↦ inr (omega (arith, block-high low i (omega arith)), omega (arith, block-high low i (omega arith)))
   ]
 
   -- between them stands nothing
-  beyond : (k : ℕ) → Among low high k → o + lanes ≤ k → placeOf low next ≤ k
+  beyond : (k : ℕ) → Among low high k → o + lanes ≤ k → blockAt low next ≤ k
   beyond k m l = ⊎-elim (λ p. omega arith) (λ p. ⊎-elim (λ c. absurd (omega (arith, p))) (λ d. omega (arith, p, d)) m) above
 
-  past : (k : ℕ) → o ≤ k → (k < placeOf low i) ⊎ (Among low high k → ⊥) → o + lanes ≤ k
+  past : (k : ℕ) → o ≤ k → (k < blockAt low i) ⊎ (Among low high k → ⊥) → o + lanes ≤ k
   past k l m = elim (decLt k (o + lanes)) [
     | yes p ↦ absurd (⊎-elim (λ b. omega arith) (λ f. f (among k l p)) m)
     | no p ↦ omega arith
   ]
 
   -- v is maybe changed from this block on
-  pub mended-next : (v′ : List ℕ) {n a q : ℕ} {z v w w′ x y u : List ℕ} → n ≤ margin → Mended low high (placeOf low next) n a q z v w
-      → ((j : ℕ) → j < margin + placeOf low next → getD v′ j 0 ≡ getD v j 0)
+  pub mended-next : (v′ : List ℕ) {n a q : ℕ} {z v w w′ x y u : List ℕ} → n ≤ margin → Mended low high (blockAt low next) n a q z v w
+      → ((j : ℕ) → j < margin + blockAt low next → getD v′ j 0 ≡ getD v j 0)
       → Lanes (λ k. getD w (o + k) 0) x → Lanes (λ k. getD v′ (margin + o - n + k) 0) y → Lanes (λ k. mix a q (getD x k 0) (getD y k 0)) u
       → Stored lanes o u w w′
-      → Mended low high (placeOf low i) n a q z v w′
+      → Mended low high (blockAt low i) n a q z v w′
   mended-next v′ {n} {a} {q} {z} {v} {w} {w′} {x} {y} {u} small h same lx ly mu st = record {
     long = st .long ∙ h .long;
     done = λ k l m. elim (decLt k (o + lanes)) [
@@ -129,9 +129,9 @@ module _ (low high i : ℕ) {o next : ℕ} (few : low ≤ 8) (inside : i < low +
           ∙ ap₂ (mix a q) (lx .entry j (omega arith) ∙ ap (λ (t : ℕ). getD w t 0) e ∙ h .left k (inl (omega (arith, rises))))
           (ly .entry j (omega arith) ∙ ap (λ (t : ℕ). getD v′ t 0) f ∙ same (margin + k - n) (omega (arith, rises)))
 
-  pub kept-next : (grows : Bool) (w : List ℕ) {z v v′ v″ x : List ℕ} → Kept grows low high (placeOf low next) z v v′
-      → ((k : ℕ) → k < placeOf low next → getD w k 0 ≡ getD z k 0) → Lanes (λ k. getD w (o + k) 0) x → Saved grows (margin + o) x v′ v″
-      → Kept grows low high (placeOf low i) z v v″
+  pub kept-next : (grows : Bool) (w : List ℕ) {z v v′ v″ x : List ℕ} → Kept grows low high (blockAt low next) z v v′
+      → ((k : ℕ) → k < blockAt low next → getD w k 0 ≡ getD z k 0) → Lanes (λ k. getD w (o + k) 0) x → Saved grows (margin + o) x v′ v″
+      → Kept grows low high (blockAt low i) z v v″
   kept-next true w {z} {v} {v′} {v″} {x} h same lx saved = record {
     long = st .long ∙ h .long;
     done = λ g k l m. elim (decLt k (o + lanes)) [

@@ -32,7 +32,7 @@ use Rattle.codeword.specs.Element.{elements, element}
 use Rattle.codeword.specs.Element.Laws.{element-sum, element-product, element-zero}
 use Rattle.codeword.specs.CodeWord.{longestWord, word}
 use Rattle.codeword.specs.Lanes.{lanes, Lanes, Stored}
-use Rattle.codeword.specs.Register.{G, ones, GeneratorIs, RegisterIs, width, Lowered, behind, Dividing, Copied}
+use Rattle.codeword.specs.Register.{G, ones, GeneratorIs, RemainderIs, width, Lowered, behind, Dividing, Copied}
 use Rattle.codeword.specs.Interpolation.{Raised}
 use Rattle.codeword.proofs.Arrays.{replicate-at, zeros, zeros-at, set-below}
 use Rattle.codeword.proofs.Word.{word-length, word-append, word-at}
@@ -244,7 +244,7 @@ copied-next {n} {k} {v} {w} {p} h l e = record {
   unused = λ j m. getD-set-other p n j v 0 (omega arith) ∙ h .unused j (omega arith);
 }
 
-pub dividing-end : {m k : ℕ} {u w p : List ℕ} → k ≡ length u → length u + m ≤ longestWord → Dividing m k u w → Copied m k w p → RegisterIs m u p
+pub dividing-end : {m k : ℕ} {u w p : List ℕ} → k ≡ length u → length u + m ≤ longestWord → Dividing m k u w → Copied m k w p → RemainderIs m u p
 dividing-end {m} {k} {u} {w} {p} e all d h = record {
   long = h .long;
   octets = λ j. elim (decLt j m) [ yes l ↦ rw (h .used j l) (d .octets (k + j) (omega arith)) | no l ↦ rw (h .unused j (omega arith)) (lit< tt) ];

@@ -101,14 +101,14 @@ module _ (e : ℕ) (w s c : List ℕ) (l : ℕ) (n-small : length w ≤ longestW
         least-weight elements distinct inverse (lo .least) (difference w v) (error-syndromes v h),
       )
 
-  pub roots-lost : (at : List ℕ) (count : ℕ) → l ≤ e → SearchIs (length w) (length w) l c at count → count ≢ l → (v : List ℕ) → Within e w v → ⊥
+  pub roots-lost : (at : List ℕ) (count : ℕ) → l ≤ e → SearchIs (length w) l c at count → count ≢ l → (v : List ℕ) → Within e w v → ⊥
   roots-lost at count short se ne v h =
       ne (scaled-complete elements distinct inverse (lo .located (omega arith) .state) (difference w v) (twice v h) (error-syndromes v h) count _
       (se .search))
 
   -- ---- as many roots as the length
 
-  module _ (at ov de : List ℕ) (se : SearchIs (length w) (length w) l c at l) (short : l ≤ e) (evaluator : EvaluatorIs (2 * e) s c ov l)
+  module _ (at ov de : List ℕ) (se : SearchIs (length w) l c at l) (short : l ≤ e) (evaluator : EvaluatorIs (2 * e) s c ov l)
       (derivative : OddsAre l c de) where
     located : Located (2 * e) s c l
     located = lo .located (omega arith)

@@ -18,7 +18,7 @@ use Rattle.algebra.specs.Field.{Field}
 use Rattle.algebra.specs.Value.{ev}
 use Rattle.algebra.proofs.Laws.{lists-none, lists-as}
 use Rattle.field.specs.Octet as Octet
-use Rattle.codeword.specs.Element.{elements, element, octet}
+use Rattle.codeword.specs.Element.{elements, octet}
 use Rattle.codeword.specs.Element.Laws.{octet-same, octet-nil, octet-pow, element-octet}
 use Rattle.codeword.specs.CodeWord.{longestWord}
 use Rattle.codeword.specs.Places.{places, inverses}
@@ -103,7 +103,7 @@ value-octet c l z = ap octet (ap₂ (λ (k : ℕ) (y : F). ev elements k (places
 
 -- the zeros among the values at the inverses of the locators are those of the polynomial
 pub gathered-searched : {n p l : ℕ} {c v at : List ℕ} {count : ℕ} → p ≡ n → ((q : ℕ) → q < n → getD v q 0 ≡ valueOf c (l + 1) (octet (inverses n q)))
-    → Gathered p v at count → SearchIs n n l c at count
+    → Gathered p v at count → SearchIs n l c at count
 gathered-searched {n} {p} {l} {c} {v} {at} {count} e values g = record {
   long = g .long;
   few = omega (arith, g .few);

@@ -29,7 +29,7 @@ use Rattle.algebra.proofs.Laws.{below-rooted, rooted-top, remainder-unique, pol
 use Rattle.codeword.specs.Element.{elements}
 use Rattle.codeword.specs.CodeWord.{longestWord, generator, word, Octets, CodeWord}
 use Rattle.codeword.specs.Encoding.{Parity, encodes, Done, Left, either, Encoded}
-use Rattle.codeword.specs.Register.{RegisterIs}
+use Rattle.codeword.specs.Register.{RemainderIs}
 use Rattle.codeword.proofs.Word.{word-length, word-append, word-same, below-word}
 
 -- ---- octets of lists put together
@@ -90,7 +90,7 @@ codeWord-only e u c d lc ld cc dc bc bd =
 
 -- ---- what the function answers
 
-pub register-parity : (e : ℕ) (u p : List ℕ) → 2 * e ≤ length p → RegisterIs (2 * e) u p → Parity e u (take (2 * e) p)
+pub register-parity : (e : ℕ) (u p : List ℕ) → 2 * e ≤ length p → RemainderIs (2 * e) u p → Parity e u (take (2 * e) p)
 unfolding generator
 register-parity e u p l r = record { long = length-take-le (2 * e) p l; octets = octets-take (2 * e) p (r .octets); remainder = r .remainder }
 

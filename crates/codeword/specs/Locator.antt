@@ -10,7 +10,7 @@
 --   MasseyStateIs m s z v r l shift q    the state of Berlekamp and Massey's algorithm after r of m syndromes s, as the code keeps it: the
 --                             recurrence c of length l, times a constant; b, the one from before l last grew, shifted since by `shift`; q, what
 --                             b failed by; d and t, the products of c and b with s
---   placeOf low i             where block i of 16 stands: the first `low` blocks are c's, the others d's
+--   blockAt low i             where block i of 16 stands: the first `low` blocks are c's, the others d's
 --   Among low high k          k is a place of the first `low` blocks of c, or of the first `high` of d
 --   Mended low high p n a q z v w    w is a z + q x^n v, v's margin aside, at those places from p on; the rest is as in z
 --   Saved grows o x v u       u is v, but where the length grows for the 16 octets from o on, which are x
@@ -78,8 +78,8 @@ pub record MasseyStateIs (m : ℕ) (s z v : List ℕ) (r l shift q : ℕ) : Type
   pub earlier : ProductTo m s (behind (ofB v)) (behind (ofT v))
   pub state : ScaledState elements (places s) (places (ofC z)) (raised elements shift (behind (ofB v))) r l (element q)
 
-unfoldable pub placeOf : ℕ → ℕ → ℕ
-placeOf low i = cond (ltb i low) (lanes * i) (second + lanes * (i - low))
+unfoldable pub blockAt : ℕ → ℕ → ℕ
+blockAt low i = cond (ltb i low) (lanes * i) (second + lanes * (i - low))
 
 abbrev pub Among : ℕ → ℕ → ℕ → Type 0
 Among low high k = (k < lanes * low) ⊎ ((second ≤ k) × (k < second + lanes * high))

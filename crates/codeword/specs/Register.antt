@@ -3,7 +3,7 @@
 --   G m                     (x - α) .. (x - αᵐ)
 --   ones, room              how many ones stand before the generator's coefficients in their array, and how many octets that has
 --   GeneratorIs m g         in such an array, where the ones end, stand its m + 1 coefficients, the highest first, and behind these 16 zeros
---   RegisterIs m u p        p₀, .., pₘ₋₁ are the remainder of x^m u, and the rest is zero
+--   RemainderIs m u p       p₀, .., pₘ₋₁ are the remainder of x^m u by G m, and the rest is zero
 --   width                   how many octets the register's array has
 --   Lowered n i g w v       the first n octets of a turn: the generator times octet i of w is taken off what stands behind it, which gives v
 --   behind m i u w          what stands in w from octet i of the message u on, to the end of the zeros, as a polynomial
@@ -40,7 +40,7 @@ pub record GeneratorIs (m : ℕ) (g : List ℕ) : Type 0 where
   pub coefficients : (i : ℕ) → i ≤ m → element (getD g (ones + i) 0) ≡ G m (m - i)
   pub zeros : (k : ℕ) → k < lanes → getD g (ones + suc (m + k)) 0 ≡ 0
 
-pub record RegisterIs (m : ℕ) (u p : List ℕ) : Type 0 where
+pub record RemainderIs (m : ℕ) (u p : List ℕ) : Type 0 where
   pub long : length p ≡ longestWord
   pub octets : Octets p
   pub unused : (j : ℕ) → m ≤ j → getD p j 0 ≡ 0

@@ -10,7 +10,7 @@ use crate::lanes;
 ghost use Prim.Native.Nat.{_+_, _*_, _≤_, _<_};
 ghost use lib.ListN.{length};
 ghost use Rattle.codeword.specs.CodeWord.{longestWord};
-ghost use Rattle.codeword.specs.Register.{GeneratorIs, RegisterIs, Lowered, Copied};
+ghost use Rattle.codeword.specs.Register.{GeneratorIs, RemainderIs, Lowered, Copied};
 
 // The octets of the register's array: those of two words and more, since a turn writes 16 at a time.
 const WIDTH: usize = 528;
@@ -50,7 +50,7 @@ fn rest(w: &[u8; WIDTH], k: usize, m: usize) -> [u8; LONGEST_WORD]
 // The remainder, highest coefficient first; zero where unused.
 fn divide(message: &[u8], g: &[u8; ROOM], m: usize) -> [u8; LONGEST_WORD]
     requires { ⌜ (length (now message) + m ≤ longestWord) × (m < longestWord) × GeneratorIs m (now g) ⌝ }
-    ensures { λ r. ⌜ RegisterIs m (now (message .entry)) r ⌝ }
+    ensures { λ r. ⌜ RemainderIs m (now (message .entry)) r ⌝ }
 {
     let mut w = [0u8; WIDTH];
     octets::write(&mut w, 0, message);
@@ -65,7 +65,7 @@ fn divide(message: &[u8], g: &[u8; ROOM], m: usize) -> [u8; LONGEST_WORD]
 // The remainder of x^2e times the message, highest coefficient first; zero where unused.
 pub(crate) fn parity(message: &[u8], e: usize) -> [u8; LONGEST_WORD]
     requires { ⌜ length (now message) + 2 * e ≤ longestWord ⌝ }
-    ensures { λ r. ⌜ RegisterIs (2 * e) (now (message .entry)) r ⌝ }
+    ensures { λ r. ⌜ RemainderIs (2 * e) (now (message .entry)) r ⌝ }
 {
     let powers = field::powers();
     let g = generator::generator(&powers, e);

@@ -3,7 +3,7 @@
 //     g_j = g_(j-1) (α^(m+1) + α^j) / (1 + α^j)    and    g_(e+d) = g_(e-d) α^((m+1) d).
 //
 // So the ratios of the upper half are made, each by a division; they are multiplied up in rounds, each over twice the distance; and the lower
-// half is what the upper one gives. All of it in one array, behind 128 ones, into which the first rounds look back.
+// half is what the upper one gives. All of it in one array, behind 128 ones, into which each round looks back from its first octets.
 use crate::lanes;
 use field::LAID;
 ghost use Prim.Native.Nat.{suc, _+_, _-_, _*_, _≤_, _<_};
@@ -66,7 +66,7 @@ fn multiply_up(p: &mut [u8; ROOM], e: usize)
 }
 
 // α to the c, to the 2c, .., to the 16c.
-fn stepped(powers: &[u8; LAID], c: usize) -> [u8; 16]
+fn multiples(powers: &[u8; LAID], c: usize) -> [u8; 16]
     requires { ⌜ (c ≤ longestWord) × Laid (now powers) ⌝ }
     ensures { λ r. ⌜ Lanes (λ k. Octet.power (Octet.power Octet.α c) (suc k)) r ⌝ }
 {
@@ -100,7 +100,7 @@ fn mirror(p: &mut [u8; ROOM], powers: &[u8; LAID], e: usize)
     requires { ⌜ (2 * e < longestWord) × Laid (now powers) × Half (2 * e) (suc ones + e) (now p) ⌝ }
     ensures { λ _. ⌜ Half (2 * e) (suc ones + 2 * e) (now (p .exit)) ⌝ }
 {
-    let mut c = stepped(powers, 2 * e + 1);
+    let mut c = multiples(powers, 2 * e + 1);
     let far = lanes::splat(powers[16 * (2 * e + 1) % field::ORDER]);
     let mut o: usize = 0;
     while o < e {

@@ -17,7 +17,7 @@ ghost use Rattle.field.specs.Octet.Table.{Laid};
 ghost use Rattle.codeword.specs.Element.{element};
 ghost use Rattle.codeword.specs.CodeWord.{longestWord};
 ghost use Rattle.codeword.specs.Lanes.{lanes};
-ghost use Rattle.codeword.specs.Register.{GeneratorIs, RegisterIs};
+ghost use Rattle.codeword.specs.Register.{GeneratorIs, RemainderIs};
 ghost use Rattle.codeword.specs.Interpolation.{ElementLanes, divisor, PartsAdded, Interpolates, Raised};
 
 // The derivative's values at x.
@@ -60,7 +60,7 @@ fn interpolate(
     powers: &[u8; LAID],
     e: usize,
 )
-    requires { ⌜ (2 * e < longestWord) × (o ≤ 32) × GeneratorIs (2 * e) (now g) × Laid (now powers) × Interpolates e o (now s) (now p) ⌝ }
+    requires { ⌜ (2 * e < longestWord) × (o + lanes ≤ longestWord) × GeneratorIs (2 * e) (now g) × Laid (now powers) × Interpolates e o (now s) (now p) ⌝ }
     ensures { λ _. ⌜ Interpolates e (o + lanes) (now (s .entry)) (now (p .exit)) ⌝ }
 {
     let x = lanes::load(powers, o + 1);
@@ -87,8 +87,8 @@ pub(crate) fn remainder(
     powers: &[u8; LAID],
     e: usize,
 ) -> [u8; LONGEST_WORD]
-    requires { ⌜ (length (now message) + 2 * e ≤ longestWord) × (e ≤ 16) × GeneratorIs (2 * e) (now g) × Laid (now powers) ⌝ }
-    ensures { λ r. ⌜ RegisterIs (2 * e) (now (message .entry)) r ⌝ }
+    requires { ⌜ (length (now message) + 2 * e ≤ longestWord) × (2 * e + lanes ≤ longestWord) × GeneratorIs (2 * e) (now g) × Laid (now powers) ⌝ }
+    ensures { λ r. ⌜ RemainderIs (2 * e) (now (message .entry)) r ⌝ }
 {
     let m = 2 * e;
     let w = raised(message);

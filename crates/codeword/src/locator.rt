@@ -21,13 +21,16 @@ ghost use Rattle.field.specs.Octet;
 ghost use Rattle.field.specs.Octet.{size};
 ghost use Rattle.codeword.specs.CodeWord.{longestWord};
 ghost use Rattle.codeword.specs.Lanes.{lanes, Lanes};
-ghost use Rattle.codeword.specs.Locator.{margin, second, room, placeOf, Saved, Mended, Kept, Stepped, LocatorIs, EvaluatorIs};
+ghost use Rattle.codeword.specs.Locator.{margin, second, room, blockAt, Saved, Mended, Kept, Stepped, LocatorIs, EvaluatorIs};
 
 // How many zeros b and t stand behind.
 const MARGIN: usize = 256;
 
 // Where d begins.
 const SECOND: usize = 384;
+
+// The octets of z; v has the zeros in front besides.
+const ROOM: usize = 640;
 
 // What the loop keeps beside c, d, b and t: the length of c, how far b is to be shifted, and what b failed by.
 pub struct Progress {
@@ -36,7 +39,7 @@ pub struct Progress {
     pub failed: u8,
 }
 
-// The shortest recurrence for the syndromes times some octet, from the coefficient of 1 on, zero where unused; its product with the
+// The shortest recurrence for the syndromes times an octet that is not zero, from the coefficient of 1 on, zero where unused; its product with the
 // syndromes, of which the first coefficients are the error evaluator; and its length. Where that is above e, only that none is shorter.
 pub struct Recurrence {
     pub coefficients: [u8; LONGEST_WORD],
@@ -46,7 +49,7 @@ pub struct Recurrence {
 
 // What the recurrence fails by at r: the coefficient of its product d with the syndromes.
 fn discrepancy(z: &[u8], r: usize) -> u8
-    requires { ⌜ (r < 256) × (length (now z) ≡ room) ⌝ }
+    requires { ⌜ (second + r < room) × (length (now z) ≡ room) ⌝ }
     ensures { λ x. ⌜ (x ≡ getD (now (z .entry)) (second + r) 0) × (x < size) ⌝ }
 {
     z[SECOND + r]
@@ -76,9 +79,9 @@ fn keep(v: &mut [u8], o: usize, x: [u8; 16], grows: bool)
 }
 
 // Where block i stands: the first `low` blocks are c's, the others d's.
-fn place(low: usize, i: usize) -> usize
-    requires { ⌜ i < 64 ⌝ }
-    ensures { λ o. ⌜ o ≡ placeOf low i ⌝ }
+fn block_at(low: usize, i: usize) -> usize
+    requires { ⌜ i < room ⌝ }
+    ensures { λ o. ⌜ o ≡ blockAt low i ⌝ }
 {
     if i < low {
         return 16 * i;
@@ -105,7 +108,7 @@ fn mend(
     let mut i = low + high;
     while 0 < i {
         i -= 1;
-        let o = place(low, i);
+        let o = block_at(low, i);
         let x = lanes::load(z, o);
         let y = lanes::load(v, MARGIN + o - shift);
         keep(v, MARGIN + o, x, grows);
@@ -114,7 +117,13 @@ fn mend(
 }
 
 // One step: the recurrence is made to hold at r too. Where its length would be above e, only that length is told.
-fn step(z: &mut [u8; 640], v: &mut [u8; 896], r: usize, e: usize, g: Progress) -> Progress
+fn step(
+    z: &mut [u8; ROOM],
+    v: &mut [u8; MARGIN + ROOM],
+    r: usize,
+    e: usize,
+    g: Progress,
+) -> Progress
     requires { ⌜ (r < 2 * e) × (2 * e < longestWord) × (g .long ≤ e) × (g .long ≤ r) × (g .shift ≤ r + 1) ⌝ }
     ensures { λ o. ⌜ Stepped e r (now (z .entry)) (now (v .entry)) (g .long) (g .shift) (g .failed)
         (now (z .exit)) (now (v .exit)) (o .long) (o .shift) (o .failed) ⌝ }
@@ -155,10 +164,10 @@ pub(crate) fn locator(s: &[u8; LONGEST_WORD], e: usize) -> Recurrence
     ensures { λ r. ⌜ LocatorIs (2 * e) (now (s .entry)) (r .coefficients) (r .degree)
         × EvaluatorIs (2 * e) (now (s .entry)) (r .coefficients) (r .evaluator) (r .degree) ⌝ }
 {
-    let mut z = [0u8; 640];
+    let mut z = [0u8; ROOM];
     octets::write(&mut z, SECOND, s);
     z[0] = 1;
-    let mut v = [0u8; 896];
+    let mut v = [0u8; MARGIN + ROOM];
     octets::write(&mut v, MARGIN + SECOND, s);
     v[MARGIN] = 1;
     let mut g = Progress {
@@ -179,7 +188,7 @@ pub(crate) fn locator(s: &[u8; LONGEST_WORD], e: usize) -> Recurrence
     let mut c = [0u8; LONGEST_WORD];
     octets::write(&mut c, 0, &z[..128]);
     let mut d = [0u8; 256];
-    octets::write(&mut d, 0, &z[SECOND..640]);
+    octets::write(&mut d, 0, &z[SECOND..ROOM]);
     Recurrence {
         coefficients: c,
         evaluator: d,

@@ -40,7 +40,7 @@ fn lay(w: &[u8; 256]) -> [u8; ROWS]
 
 // Adds a to 16 octets of f from o on.
 fn add(f: &mut [u8; ROWS], o: usize, a: [u8; 16])
-    requires { ⌜ o + 16 ≤ 272 ⌝ }
+    requires { ⌜ o + lanes ≤ 272 ⌝ }
     ensures { λ _. ⌜ RowAdded lanes o a (now (f .entry)) (now (f .exit)) ⌝ }
 {
     let f = &mut f[..];
@@ -88,7 +88,7 @@ fn fold_others(rows: [u8; ROWS]) -> [u8; ROWS]
 }
 
 // The values at y of 16 columns of n rows, by Horner's rule.
-fn column(f: &[u8; ROWS], n: usize, y: u8) -> [u8; 16]
+fn columns_at(f: &[u8; ROWS], n: usize, y: u8) -> [u8; 16]
     requires { ⌜ (0 < n) × (n ≤ 17) ⌝ }
     ensures { λ r. ⌜ Evaluated n (λ _. y) (now (f .entry)) 16 0 r ⌝ }
 {
@@ -117,11 +117,11 @@ fn spread(a: [u8; 16], r: usize, v: &mut [u8; VALUES])
 
 // The columns' values at α^(15 r) are filled in, where r is up to m.
 fn fill(f: &[u8; ROWS], n: usize, r: usize, m: usize, powers: &[u8; LAID], v: &mut [u8; VALUES])
-    requires { ⌜ Laid (now powers) × (0 < n) × (n ≤ 17) × (r < 18) ⌝ }
+    requires { ⌜ Laid (now powers) × (0 < n) × (n ≤ 17) × (r < 34) ⌝ }
     ensures { λ _. ⌜ Filling n (now (f .entry)) 1 (λ _. r) m (now (v .entry)) (now (v .exit)) ⌝ }
 {
     if r <= m {
-        spread(column(f, n, powers[15 * r]), r, v);
+        spread(columns_at(f, n, powers[15 * r]), r, v);
     }
 }
 
@@ -134,7 +134,7 @@ fn fill_all(
     powers: &[u8; LAID],
     v: &mut [u8; VALUES],
 )
-    requires { ⌜ Laid (now powers) × (0 < n) × (n ≤ 17) × ((j : ℕ) → j < length (now roots) → getD (now roots) j 0 < 18) ⌝ }
+    requires { ⌜ Laid (now powers) × (0 < n) × (n ≤ 17) × ((j : ℕ) → j < length (now roots) → getD (now roots) j 0 < 34) ⌝ }
     ensures { λ _. ⌜ Filling n (now (f .entry)) (length (now (roots .entry))) (λ j. getD (now (roots .entry)) j 0) m (now (v .entry)) (now (v .exit)) ⌝ }
 {
     let mut j: usize = 0;

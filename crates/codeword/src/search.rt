@@ -12,7 +12,10 @@ ghost use Rattle.codeword.specs.CodeWord.{longestWord};
 ghost use Rattle.codeword.specs.Element.{octet};
 ghost use Rattle.codeword.specs.Places.{inverses};
 ghost use Rattle.codeword.specs.Lanes.{Lanes, lanes, along, Reached};
-ghost use Rattle.codeword.specs.Search.{valueOf, SearchIs, Least, Gathered};
+ghost use Rattle.codeword.specs.Search.{valueOf, SearchIs, LeastOf, Gathered};
+
+// The octets of the array of values: those of 255 places, and as many more as 16 at a time reach past them.
+const VALUES: usize = 272;
 
 // The places found, rising from the front, and how many these are.
 pub struct Places {
@@ -44,7 +47,7 @@ fn values(c: &[u8; LONGEST_WORD], l: usize, k: usize, powers: &[u8; LAID]) -> [u
 }
 
 // The values of the polynomial c, of degree at most l, at the inverses of the locators of the n places, into the front of v.
-fn all_values(c: &[u8; LONGEST_WORD], l: usize, n: usize, powers: &[u8; LAID], v: &mut [u8; 272])
+fn all_values(c: &[u8; LONGEST_WORD], l: usize, n: usize, powers: &[u8; LAID], v: &mut [u8; VALUES])
     requires { ⌜ (l < longestWord) × (n ≤ longestWord) × Laid (now powers) ⌝ }
     ensures { λ _. ⌜ ((p : ℕ) → p < n → getD (now (v .exit)) p 0 ≡ valueOf (now (c .entry)) (l + 1) (octet (inverses n p))) ⌝ }
 {
@@ -65,9 +68,9 @@ fn smaller(a: u8, b: u8) -> u8
 }
 
 // The least of 16 octets of v, from o on.
-fn least(v: &[u8; 272], o: usize) -> u8
+fn least(v: &[u8; VALUES], o: usize) -> u8
     requires { ⌜ o + lanes ≤ 272 ⌝ }
-    ensures { λ r. ⌜ Least lanes o (now (v .entry)) r ⌝ }
+    ensures { λ r. ⌜ LeastOf lanes o (now (v .entry)) r ⌝ }
 {
     let mut r: u8 = 255;
     let mut i: usize = 0;
@@ -79,7 +82,13 @@ fn least(v: &[u8; 272], o: usize) -> u8
 }
 
 // `at` lists the `count` places below `from` at which v is zero: lists those below `to` too, and answers how many these are together.
-fn gather(v: &[u8; 272], from: usize, to: usize, at: &mut [u8; LONGEST_WORD], count: usize) -> usize
+fn gather(
+    v: &[u8; VALUES],
+    from: usize,
+    to: usize,
+    at: &mut [u8; LONGEST_WORD],
+    count: usize,
+) -> usize
     requires { ⌜ Gathered from (now v) (now at) count × (from ≤ to) × (to ≤ longestWord) ⌝ }
     ensures { λ r. ⌜ Gathered to (now (v .entry)) (now (at .exit)) r ⌝ }
 {
@@ -97,7 +106,13 @@ fn gather(v: &[u8; 272], from: usize, to: usize, at: &mut [u8; LONGEST_WORD], co
 }
 
 // The same where `to` is at most 16 on: where the least of 16 values is not zero, none is.
-fn block(v: &[u8; 272], from: usize, to: usize, at: &mut [u8; LONGEST_WORD], count: usize) -> usize
+fn block(
+    v: &[u8; VALUES],
+    from: usize,
+    to: usize,
+    at: &mut [u8; LONGEST_WORD],
+    count: usize,
+) -> usize
     requires { ⌜ Gathered from (now v) (now at) count × (from ≤ to) × (to ≤ longestWord) × (to ≤ from + lanes) ⌝ }
     ensures { λ r. ⌜ Gathered to (now (v .entry)) (now (at .exit)) r ⌝ }
 {
@@ -110,9 +125,9 @@ fn block(v: &[u8; 272], from: usize, to: usize, at: &mut [u8; LONGEST_WORD], cou
 // All places of n at the inverse of whose locator the polynomial c, of degree at most l, is zero.
 pub(crate) fn search(c: &[u8; LONGEST_WORD], l: usize, n: usize, powers: &[u8; LAID]) -> Places
     requires { ⌜ (l < longestWord) × (n ≤ longestWord) × Laid (now powers) ⌝ }
-    ensures { λ r. ⌜ SearchIs n n l (now (c .entry)) (r .at) (r .count) ⌝ }
+    ensures { λ r. ⌜ SearchIs n l (now (c .entry)) (r .at) (r .count) ⌝ }
 {
-    let mut v = [0u8; 272];
+    let mut v = [0u8; VALUES];
     all_values(c, l, n, powers, &mut v);
     let mut at = [0u8; LONGEST_WORD];
     let mut count: usize = 0;

@@ -13,13 +13,13 @@ ghost use Prim.Native.Nat.{ℕ, _+_, _<_, _≤_};
 ghost use lib.ListN.{length, getD};
 ghost use Rattle.field.specs.Octet.Table.{Laid};
 ghost use Rattle.codeword.specs.CodeWord.{longestWord};
-ghost use Rattle.codeword.specs.Lanes.{along, Reached};
+ghost use Rattle.codeword.specs.Lanes.{lanes, along, Reached};
 ghost use Rattle.codeword.specs.Rows.{Evaluated};
 ghost use Rattle.codeword.specs.Syndromes.{SyndromesAre, allZero};
 
 // The values at α^k, α^(k + 1), .. of the polynomials whose coefficients stand in the rows of v, from entry o on.
 fn join(v: &[u8; VALUES], o: usize, k: usize, powers: &[u8; LAID]) -> [u8; 16]
-    requires { ⌜ Laid (now powers) × Reached k × (o + 16 ≤ 48) ⌝ }
+    requires { ⌜ Laid (now powers) × Reached k × (o + lanes ≤ 48) ⌝ }
     ensures { λ r. ⌜ Evaluated 15 (along k) (now (v .entry)) 48 o r ⌝ }
 {
     let mut q: usize = 14;
@@ -41,7 +41,7 @@ struct Pair {
 // The same at α^k, .. with the entries from o on, and at α^(k + 16), .. with those from u on: two chains of turns, of which neither waits for
 // the other.
 fn join_two(v: &[u8; VALUES], o: usize, u: usize, k: usize, powers: &[u8; LAID]) -> Pair
-    requires { ⌜ Laid (now powers) × Reached (k + 16) × (o + 16 ≤ 48) × (u + 16 ≤ 48) ⌝ }
+    requires { ⌜ Laid (now powers) × Reached (k + lanes) × (o + lanes ≤ 48) × (u + lanes ≤ 48) ⌝ }
     ensures { λ r. ⌜ Evaluated 15 (along k) (now (v .entry)) 48 o (r .low) × Evaluated 15 (along (k + 16)) (now (v .entry)) 48 u (r .high) ⌝ }
 {
     let mut q: usize = 14;
@@ -59,7 +59,7 @@ fn join_two(v: &[u8; VALUES], o: usize, u: usize, k: usize, powers: &[u8; LAID])
 
 // The first m octets of s; zero where unused.
 fn first(s: &[u8], m: usize) -> [u8; LONGEST_WORD]
-    requires { ⌜ (m < longestWord) × (m ≤ length (now s)) ⌝ }
+    requires { ⌜ (m ≤ longestWord) × (m ≤ length (now s)) ⌝ }
     ensures { λ r. ⌜ ((i : ℕ) → i < m → getD r i 0 ≡ getD (now (s .entry)) i 0) × ((i : ℕ) → m ≤ i → getD r i 0 ≡ 0) ⌝ }
 {
     let mut r = [0u8; LONGEST_WORD];
@@ -69,7 +69,7 @@ fn first(s: &[u8], m: usize) -> [u8; LONGEST_WORD]
 
 // The m syndromes of a word; zero where unused.
 pub(crate) fn syndromes(word: &[u8], m: usize, powers: &[u8; LAID]) -> [u8; LONGEST_WORD]
-    requires { ⌜ (m < longestWord) × (length (now word) ≤ longestWord) × Laid (now powers) ⌝ }
+    requires { ⌜ (m ≤ longestWord) × (length (now word) ≤ longestWord) × Laid (now powers) ⌝ }
     ensures { λ r. ⌜ SyndromesAre m (now (word .entry)) r ⌝ }
 {
     let v = rows::values(word, m, powers);

@@ -16,7 +16,8 @@
 use mathlib.Core.Path.{_≡_, sym, _∙_}
 pub use Rattle.codeword.proofs.Laws.{encodedUnique as codeword-encoded, repairedUnique as codeword-repaired}
 pub use Rattle.calls.proofs.Laws.{length-once, lengths-once, outcome-once}
-pub use Rattle.adaptation.proofs.Laws.{check8-once, encodedUnique as al1m-encoded, receivedUnique as al1m-received, passed-once, read-once, received-once}
+pub use Rattle.checks.proofs.Laws.{check8-once}
+pub use Rattle.adaptation.proofs.Laws.{encodedUnique as al1m-encoded, receivedUnique as al1m-received, passed-once, read-once, received-once}
 pub use Rattle.record.proofs.Laws.{writes-once, reads-once}
 pub use Rattle.kyteblossom.proofs.Laws.{encode-once, receive-once, record-write-once, record-read-once}
 pub use Rattle.table.proofs.Laws.{replacedUnique}

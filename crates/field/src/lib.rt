@@ -40,13 +40,13 @@ const POWERS: [u8; ORDER] = *b"\
     \x12\x24\x48\x90\x3d\x7a\xf4\xf5\xf7\xf3\xfb\xeb\xcb\x8b\x0b\x16\
     \x2c\x58\xb0\x7d\xfa\xe9\xcf\x83\x1b\x36\x6c\xd8\xad\x47\x8e";
 
-// The images of squaring: 1, x, .., x^7, each to the 2.
+// The images of squaring: 1, x, .., x^7, each to the 2. Entry 4, x^4 squared, is x^8, which is 1D.
 const SQUARES: [u8; 8] = [0x01, 0x04, 0x10, 0x40, 0x1D, 0x74, 0xCD, 0x13];
 
-// Each to the 4.
+// Each to the 4: entry 2, x^2 to the 4, is x^8, 1D.
 const FOURTHS: [u8; 8] = [0x01, 0x10, 0x1D, 0xCD, 0x4C, 0xB4, 0x8F, 0x18];
 
-// Each to the 16.
+// Each to the 16: entry 1, x to the 16, is entry 16 of the powers, 4C.
 const SIXTEENTHS: [u8; 8] = [0x01, 0x4C, 0x9D, 0x46, 0x5F, 0xFD, 0xD9, 0x81];
 
 // a + b, which is a - b too.

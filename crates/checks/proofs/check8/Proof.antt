@@ -1,6 +1,6 @@
 -- What the register holds, of the content or of what it is folded to. Assumes nothing.
 use borrow.Author.Needs.{needs}
-use mathlib.Core.Path.{_≡_, sym, ap, _∙_}
+use mathlib.Core.Path.{sym, ap, _∙_}
 use Rattle.checks.specs.Check.{eight}
 use Rattle.checks.specs.Steps.{left}
 use Rattle.checks.proofs.Residue.{check-is-8}

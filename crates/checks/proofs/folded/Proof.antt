@@ -1,11 +1,10 @@
 -- After i turns the octets from i on leave what the content leaves with the ones added: a turn is `turn`. Assumes nothing.
 use borrow.Author.Needs.{needs}
-use mathlib.Core.Path.{_≡_, refl, sym, ap, _∙_}
-use mathlib.Core.List.{List, [], _∷_}
-use Prim.Native.Nat.{ℕ, zero, suc, _+_, _-_, _≤_}
+use mathlib.Core.Path.{_≡_, ap, _∙_}
+use mathlib.Core.List.{[], _∷_}
+use Prim.Native.Nat.{ℕ, _+_, _-_, _≤_}
 use native.Mathlib.Omega.{arith}
 use denote.Ref.{now}
-use lib.Dec.{lit<}
 use lib.ListN.{length, getD, take, drop}
 use Rattle.codeword.specs.CodeWord.{Octets}
 use Rattle.checks.specs.Check.{Kind}
@@ -58,7 +57,7 @@ returns c =
     let l = c .before .before .before .loop in
     let n : ℕ = length (now (c .before .before .before .before .before .before .args .content)) in
     let k : l .i + 16 ≡ n = omega arith in
-    λ κ f. ap (left κ) (c .last .ensures ∙ rest n (l .i) (l .w) k) ∙ l .inv .0 κ f
+    λ κ f. ap (left κ) (c .sixteen-at .ensures ∙ rest n (l .i) (l .w) k) ∙ l .inv .0 κ f
 
 pub folded-spec : {M : Type 1} → statement M
 folded-spec =

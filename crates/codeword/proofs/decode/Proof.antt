@@ -84,8 +84,8 @@ returns-3 c =
     let l = located .locator in
     let s = all .before .search in
     let n = length (now (a .received)) in
-    let every : SearchIs n n (l .result .degree) (l .result .coefficients) (s .result .at) (l .result .degree) =
-    subst (λ (k : ℕ). SearchIs n n (l .result .degree) (l .result .coefficients) (s .result .at) k) (all .if2 .left) (s .ensures) in
+    let every : SearchIs n (l .result .degree) (l .result .coefficients) (s .result .at) (l .result .degree) =
+    subst (λ (k : ℕ). SearchIs n (l .result .degree) (l .result .coefficients) (s .result .at) k) (all .if2 .left) (s .ensures) in
     corrected-found (a .e) (now (a .received)) (now (a .s)) _ _ (pre .short)
     (λ i. located .before .before .before .shared-slice-known .given i .fits) (pre .syndromes)
     (l .ensures .0) _ _ _ every (all .before .before .before .before .if1 .left) (l .ensures .1) (derived .odds .ensures)

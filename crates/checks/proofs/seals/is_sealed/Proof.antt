@@ -3,7 +3,7 @@ use borrow.Author.Needs.{needs}
 use mathlib.Core.Path.{sym, _∙_}
 use native.Mathlib.Omega.{arith}
 use lib.Seq.{length-take-le}
-use Rattle.checks.proofs.Behind.{check-fits, agrees-compared}
+use Rattle.checks.proofs.Sealed.{check-fits, agrees-compared}
 use Rattle.checks.proofs.seals.is_sealed.Statement.{statement}
 use Rattle.checks.proofs.seals.is_sealed.Tie as tie
 

@@ -5,7 +5,7 @@ use native.Mathlib.Omega.{arith}
 use lib.Seq.{length-take-le}
 use denote.Ref.{now}
 use Rattle.octets.specs.Written.{written}
-use Rattle.checks.proofs.Behind.{check-part, check-fits}
+use Rattle.checks.proofs.Sealed.{check-part, check-fits}
 use Rattle.checks.proofs.seals.seal.Statement.{statement}
 use Rattle.checks.proofs.seals.seal.Tie as tie
 

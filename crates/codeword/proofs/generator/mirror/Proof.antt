@@ -23,7 +23,7 @@ loop-holds c =
     let start = wide .before in (
       search needs,
       half-fewer (search needs) (start .pre .2),
-      mirror-start (start .args .e) (wide .stepped .ensures),
+      mirror-start (start .args .e) (wide .multiples .ensures),
       far-lanes (now (start .args .powers)) (start .args .e) (start .pre .1) (c .splat .ensures),
     )
 

@@ -4,15 +4,15 @@ use mathlib.Core.Path.{_≡_}
 use mathlib.Core.Logic.{inl}
 use Prim.Native.Nat.{_+_, _-_, _≤_}
 use native.Mathlib.Omega.{arith}
-use Rattle.codeword.proofs.Mending.{place-low, place-fits, mended-start, mended-next, kept-start, kept-next}
+use Rattle.codeword.proofs.Mending.{block-low, block-fits, mended-start, mended-next, kept-start, kept-next}
 use Rattle.codeword.specs.Lanes.{lanes}
-use Rattle.codeword.specs.Locator.{room, placeOf, Mended, Kept}
+use Rattle.codeword.specs.Locator.{room, blockAt, Mended, Kept}
 use Rattle.codeword.proofs.locator.mend.Statement.{statement}
 use Rattle.codeword.proofs.locator.mend.Tie as tie
 
 abbrev Inv-loop : tie.InvT-loop
 Inv-loop z₀ v₀ shift low high a q grows i₀ z v i =
-    (i ≤ low + high) × Mended low high (placeOf low i) shift a q z₀ v₀ z × Kept grows low high (placeOf low i) z₀ v₀ v
+    (i ≤ low + high) × Mended low high (blockAt low i) shift a q z₀ v₀ z × Kept grows low high (blockAt low i) z₀ v₀ v
 
 abbrev μ-loop : tie.MeasureT-loop
 μ-loop z₀ v₀ shift low high a q grows i₀ z v i = i
@@ -21,19 +21,19 @@ loop-holds : tie.Need-loop-holds Inv-loop μ-loop
 loop-holds c = (search needs, mended-start (search needs), kept-start (search needs))
 
 -- the block lies in both arrays
-module _ (c : tie.After-place Inv-loop μ-loop) where
+module _ (c : tie.After-block-at Inv-loop μ-loop) where
   abbrev looped : tie.At-loop Inv-loop μ-loop
   looped = c .before .before
 
   abbrev start : tie.Start Inv-loop μ-loop
   start = looped .before .before .before
 
-  fits : c .place .result + lanes ≤ room
+  fits : c .block-at .result + lanes ≤ room
   fits =
       omega (
         arith,
-        c .place .ensures,
-        place-fits (start .args .low) (start .args .high) (looped .loop .i - 1) (start .pre .3) (start .pre .4)
+        c .block-at .ensures,
+        block-fits (start .args .low) (start .args .high) (looped .loop .i - 1) (start .pre .3) (start .pre .4)
             (omega (arith, c .before .loop-test .taken, looped .loop .inv .0)),
       )
 
@@ -76,9 +76,9 @@ loop-again c =
     let s = start placed in
     let e : l .i ≡ l .i - 1 + 1 = omega arith in (
       search needs,
-      mended-next (s .args .low) (s .args .high) (l .i - 1) (s .pre .3) (omega (arith, l .inv .0)) (placed .place .ensures) e (l .v) (s .pre .5)
+      mended-next (s .args .low) (s .args .high) (l .i - 1) (s .pre .3) (omega (arith, l .inv .0)) (placed .block-at .ensures) e (l .v) (s .pre .5)
           (l .inv .1) (λ j h. l .inv .2 .left j (inl h)) (first-load .load .ensures) (second-load .load2 .ensures) (mixed .mix .ensures) (stored .store .ensures),
-      kept-next (s .args .low) (s .args .high) (l .i - 1) (s .pre .3) (omega (arith, l .inv .0)) (placed .place .ensures) e (s .args .grows) (l .z)
+      kept-next (s .args .low) (s .args .high) (l .i - 1) (s .pre .3) (omega (arith, l .inv .0)) (placed .block-at .ensures) e (s .args .grows) (l .z)
           (l .inv .2) (λ k h. l .inv .1 .left k (inl h)) (first-load .load .ensures) (kept .keep .ensures),
     )
 
@@ -86,7 +86,7 @@ returns : tie.Need-returns Inv-loop μ-loop
 returns c =
     let l = c .before .loop in
     let s = c .before .before .before .before in
-    let e : placeOf (s .args .low) (l .i) ≡ 0 = omega (arith, place-low (s .args .low) (l .i) (omega (arith, s .pre .2))) in
+    let e : blockAt (s .args .low) (l .i) ≡ 0 = omega (arith, block-low (s .args .low) (l .i) (omega (arith, s .pre .2))) in
     (rw e at (l .inv .1), rw e at (l .inv .2))
 
 pub mend-spec : {M : Type 1} → statement M

@@ -5,7 +5,7 @@ use Rattle.codeword.proofs.rows.fill.Statement.{statement}
 use Rattle.codeword.proofs.rows.fill.Tie as tie
 
 returns : tie.Need-returns
-returns c = filling-spread (search needs) (c .before .before .before .before .before .pre .0 _ (search needs)) (c .before .before .column .ensures) (c .spread .ensures)
+returns c = filling-spread (search needs) (c .before .before .before .before .before .pre .0 _ (search needs)) (c .before .before .columns-at .ensures) (c .spread .ensures)
 
 returns-2 : tie.Need-returns-2
 returns-2 c = filling-past (search needs)

@@ -1,19 +1,23 @@
 -- The columns are filled in at the roots of the one polynomial, of the other, and at 1; then all are repeated. Assumes nothing.
 use borrow.Author.Needs.{needs}
 use mathlib.Core.Logic.{⊎-elim}
-use Rattle.codeword.proofs.Folds.{residue-roots-small, other-roots-small, last-root-small, residues-gained, others-gained, last-gained, others-past}
+use mathlib.Core.List.{[], _∷_}
+use Rattle.codeword.proofs.Folds.{isSmall, areSmall, residue-roots, other-roots, roots-small, residues-gained, others-gained, last-gained, others-past}
 use Rattle.codeword.proofs.Folds.{values-are, few-values-are}
 use Rattle.codeword.proofs.rows.values.Statement.{statement}
 use Rattle.codeword.proofs.rows.values.Tie as tie
 
 fill-all-requires : tie.Need-fill-all-requires
-fill-all-requires c κs = (search needs, search needs, search needs, residue-roots-small)
+unfolding isSmall areSmall
+fill-all-requires c κs = (search needs, search needs, search needs, roots-small residue-roots tt)
 
 fill-all-requires-2 : tie.Need-fill-all-requires-2
-fill-all-requires-2 c κs = (search needs, search needs, search needs, other-roots-small)
+unfolding isSmall areSmall
+fill-all-requires-2 c κs = (search needs, search needs, search needs, roots-small other-roots tt)
 
 fill-all-requires-3 : tie.Need-fill-all-requires-3
-fill-all-requires-3 c κs = (search needs, search needs, search needs, last-root-small)
+unfolding isSmall areSmall
+fill-all-requires-3 c κs = (search needs, search needs, search needs, roots-small (17 ∷ []) tt)
 
 returns : tie.Need-returns
 returns c =

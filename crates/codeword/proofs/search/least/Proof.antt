@@ -3,22 +3,23 @@ use borrow.Author.Needs.{needs}
 use mathlib.Core.Path.{_≡_}
 use Prim.Native.Nat.{_+_, _-_, _≤_}
 use native.Mathlib.Omega.{arith}
+use lib.Dec.{lit<}
 use borrow.Author.Count.{below-more}
 use lib.ListN.{getD}
 use denote.Ref.{now}
 use Rattle.codeword.specs.Lanes.{lanes}
-use Rattle.codeword.specs.Search.{Least}
+use Rattle.codeword.specs.Search.{LeastOf}
 use Rattle.codeword.proofs.search.least.Statement.{statement}
 use Rattle.codeword.proofs.search.least.Tie as tie
 
 abbrev Inv-loop : tie.InvT-loop
-Inv-loop v o r₀ i₀ r i = (i ≤ lanes) × Least i o v r
+Inv-loop v o r₀ i₀ r i = (i ≤ lanes) × LeastOf i o v r
 
 abbrev μ-loop : tie.MeasureT-loop
 μ-loop v o r₀ i₀ r i = lanes - i
 
 loop-holds : tie.Need-loop-holds Inv-loop μ-loop
-loop-holds c = (search needs, record { least = λ j l. absurd (omega arith); greatest = λ b l h. omega arith })
+loop-holds c = (search needs, record { octet = lit< tt; least = λ j l. absurd (omega arith); greatest = λ b l h. omega arith })
 
 loop-again : tie.Need-loop-again Inv-loop μ-loop
 loop-again c =
@@ -26,6 +27,7 @@ loop-again c =
     let a = c .before .before .before .before .args in (
       search needs,
       record {
+        octet = search needs;
         least =
             below-more (λ j. c .smaller .result ≤ getD (now (a .v)) (a .o + j) 0) (l .i) (λ j k. omega (arith, c .smaller .ensures .0, l .inv .1 .least j k))
             (c .smaller .ensures .1);

@@ -1,5 +1,6 @@
 -- A check as it stands behind its content.
 --
+--   check8-once       there is one of 8 bits
 --   check-length      it has the octets of its kind
 --   check-octets      .. and they are octets
 --   check-part        of a list that begins with the check, the part of that length is the check
@@ -12,7 +13,7 @@
 -- Assumes nothing.
 use mathlib.Core.Path.{_≡_, refl, sym, ap, ap₂, _∙_}
 use mathlib.Core.Bool.{true}
-use mathlib.Core.List.{List, _++_}
+use mathlib.Core.List.{List, [], _∷_, _++_, head-eq-of-cons-eq}
 use Prim.Native.Nat.{ℕ, _+_, _-_, _≤_, _<_}
 use native.Mathlib.Nat.{sub-zero}
 use native.Mathlib.Omega.{arith}
@@ -21,8 +22,11 @@ use lib.Seq.{drop-length, take-all, take-at, drop-at}
 use Rattle.octets.specs.Same.{same, same-self}
 use Rattle.octets.specs.Written.{written, written-front, written-next}
 use Rattle.checks.specs.Bits.{octetsOf}
-use Rattle.checks.specs.Check.{Kind, checkOf, agrees}
+use Rattle.checks.specs.Check.{Kind, eight, checkOf, agrees}
 use Rattle.checks.proofs.Octets.{octetsOf-length, octetsOf-lt}
+
+pub check8-once : (u : List ℕ) (a b : ℕ) → a ∷ [] ≡ checkOf eight u → b ∷ [] ≡ checkOf eight u → a ≡ b
+check8-once u a b p q = head-eq-of-cons-eq (p ∙ sym q)
 
 module _ (κ : Kind) (u : List ℕ) where
   pub check-length : length (checkOf κ u) ≡ κ .octets

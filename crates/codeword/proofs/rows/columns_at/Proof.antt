@@ -8,8 +8,8 @@ use denote.Ref.{now}
 use Rattle.codeword.specs.Rows.{spaced}
 use Rattle.codeword.proofs.Horner.{HornerLanes, horner-first, horner-turn}
 use Rattle.codeword.proofs.Columns.{loaded, evaluated}
-use Rattle.codeword.proofs.rows.column.Statement.{statement}
-use Rattle.codeword.proofs.rows.column.Tie as tie
+use Rattle.codeword.proofs.rows.columns_at.Statement.{statement}
+use Rattle.codeword.proofs.rows.columns_at.Tie as tie
 
 abbrev Inv-loop : tie.InvT-loop
 Inv-loop f n y d₀ a₀ d a = (d < n) × HornerLanes n d (λ i. y) (λ i. spaced f 16 (0 + i)) a
@@ -34,8 +34,8 @@ returns c =
     let e : c .before .loop .d ≡ 0 = omega arith in
     evaluated (now (c .before .before .before .before .args .f)) 16 0 (rw e at (c .before .loop .inv .1))
 
-pub column-spec : {M : Type 1} → statement M
-column-spec =
+pub columns-at-spec : {M : Type 1} → statement M
+columns-at-spec =
     tie.close
     (tie.spec Inv-loop μ-loop (λ c. search needs) (λ c. search needs) (λ c κs. search needs) loop-holds
     (λ c. search needs) (λ c. search needs) (λ c κs. search needs) (λ c κs. search needs) (λ c. search needs) loop-again returns)

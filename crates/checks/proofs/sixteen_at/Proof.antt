@@ -8,8 +8,8 @@ use denote.Ref.{now}
 use lib.ListN.{length, take, drop, replicate, length-drop}
 use lib.Seq.{length-take-le}
 use Rattle.octets.specs.Written.{written-all}
-use Rattle.checks.proofs.last.Statement.{statement}
-use Rattle.checks.proofs.last.Tie as tie
+use Rattle.checks.proofs.sixteen_at.Statement.{statement}
+use Rattle.checks.proofs.sixteen_at.Tie as tie
 
 returns : tie.Need-returns
 returns c =
@@ -21,7 +21,7 @@ returns c =
     let l : length (take (at + 16 - at) (drop at w)) ≡ at + 16 - at = length-take-le (at + 16 - at) (drop at w) (omega (arith, length-drop at w, n, s .pre)) in
     c .before .write .ensures ∙ written-all (replicate 16 0) (take (at + 16 - at) (drop at w)) (sym (l ∙ k)) ∙ ap (λ (j : ℕ). take j (drop at w)) k
 
-pub last-spec : {M : Type 1} → statement M
-last-spec =
+pub sixteen-at-spec : {M : Type 1} → statement M
+sixteen-at-spec =
     tie.close
     (tie.spec (λ c. search needs) (λ c. search needs) (λ c. search needs) (λ c. search needs) (λ c. search needs) (λ c κs. search needs) returns)
