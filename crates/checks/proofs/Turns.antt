@@ -141,28 +141,23 @@ folds-at : (κ : Kind) → T (folds κ) → (a : ℕ) → a < 256
     → left κ (a ∷ replicate (length (generator κ)) 0) ≡ left κ (added a (generator κ) (replicate (length (generator κ)) 0))
 folds-at κ t a h = sym (worked-is κ _) ∙ same-equal _ _ (every-at (folds-octet κ) 256 t a h) ∙ worked-is κ _
 
+folds-by : (κ : Kind) (i j k some : ℕ) → generator κ ≡ set (set (set (none k) (i - 1) true) (j - 1) true) (k - 1) true → 0 < i → i < j → j < k
+    → T (folds κ) → left κ (0 ∷ []) ≡ left κ [] → κ .octets ≡ suc some → Folds κ i j k
+folds-by κ i j k some is a b c t z o = record {
+  terms = is;
+  first = a;
+  second = b;
+  third = c;
+  at = folds-at κ t;
+  nothing = z;
+  some = some;
+  octets = o;
+}
+
 pub folds8 : Folds eight 6 7 8
 unfolding isOdd bitsOf bits number octetsOf sum lowered divided remainder generator plain left eight sixteen worked
-folds8 = record {
-  terms = refl;
-  first = lit< tt;
-  second = lit< tt;
-  third = lit< tt;
-  at = folds-at eight tt;
-  nothing = refl;
-  some = 0;
-  octets = refl;
-}
+folds8 = folds-by eight 6 7 8 0 refl (lit< tt) (lit< tt) (lit< tt) tt refl refl
 
 pub folds16 : Folds sixteen 4 11 16
 unfolding isOdd bitsOf bits number octetsOf sum lowered divided remainder generator plain left eight sixteen worked
-folds16 = record {
-  terms = refl;
-  first = lit< tt;
-  second = lit< tt;
-  third = lit< tt;
-  at = folds-at sixteen tt;
-  nothing = refl;
-  some = 1;
-  octets = refl;
-}
+folds16 = folds-by sixteen 4 11 16 1 refl (lit< tt) (lit< tt) (lit< tt) tt refl refl
