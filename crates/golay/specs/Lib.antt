@@ -1,0 +1,4 @@
+pub mod Matrix
+pub mod Code
+pub mod Search
+pub mod Claims
