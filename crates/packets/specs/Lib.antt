@@ -1,0 +1,4 @@
+pub mod Flag
+pub mod Header
+pub mod Packet
+pub mod Claims
