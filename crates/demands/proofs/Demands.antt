@@ -5,7 +5,9 @@
 -- Assumes nothing.
 use Rattle.multiplex.proofs.Laws.{calls-refuse, always-sound}
 use Rattle.record.proofs.Laws.{recording}
-use Rattle.runs.proofs.Laws.{demand-met, unit-to-unit}
+use Rattle.golay.proofs.Laws.{golay}
+use Rattle.packets.proofs.Laws.{packets}
+use Rattle.runs.proofs.Laws.{demand-met, unit-to-unit, over-packets}
 use Rattle.demands.specs.Demands.{Demands}
 use Rattle.demands.proofs.First.{demand1}
 use Rattle.demands.proofs.Ordered.{orders}
@@ -25,6 +27,9 @@ demands = record {
   second = demand-met;
   units = unit-to-unit;
   third = demand3;
+  overPackets = over-packets;
+  packets = packets;
+  headers = golay;
   host = host;
   records = recording;
 }

@@ -5,6 +5,7 @@
 -- Assumes nothing.
 use Rattle.adaptation.proofs.Laws.{adaptation-exactly}
 use Rattle.table.proofs.Laws.{definedExactly, tree-exactly, of-table}
+use Rattle.packets.proofs.Laws.{packets}
 use Rattle.channels.proofs.Laws.{openExactly, allOpenExactly, of-channels, of-layers, fullExactly}
 use Rattle.multiplex.proofs.Laws.{six-exactly, fitsExactly, threeExactly, ofDemultiplexer, ofMultiplexer, lastOctet}
 use Rattle.demands.specs.Exactly.{Exactly}
@@ -16,6 +17,8 @@ exactly = record {
   table = of-table;
   defined = definedExactly;
   trees = tree-exactly;
+  unpacking = packets .of-reading;
+  packing = packets .of-writing;
   channels = of-channels;
   full = fullExactly;
   opened = openExactly;

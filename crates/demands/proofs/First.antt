@@ -17,6 +17,7 @@ use Rattle.adaptation.specs.AL1.{passed}
 use Rattle.adaptation.specs.declared.al1m.Received.{Received}
 use Rattle.adaptation.specs.declared.al1m.Received.the-variants as al1m
 use Rattle.table.specs.Table.{replaced}
+use Rattle.packets.specs.Packet.{wrote, read}
 use Rattle.channels.specs.Channels.{opened, closed, reset, posted}
 use Rattle.channels.specs.Layers.{sending, taking}
 use Rattle.multiplex.specs.Demultiplexer.{demultiplexed}
@@ -38,7 +39,7 @@ receiving b e w before after (al1m.Refused k) p = refused-refuses before _ k aft
 -- ---- each operation
 
 pub demand1 : Demand1
-unfolding sentLength passed sending taking opened closed reset posted replaced demultiplexed multiplexed
+unfolding sentLength passed sending taking opened closed reset posted replaced wrote read demultiplexed multiplexed
 demand1 = record {
   lengths = λ t b e. told-refuses _ _;
   encoding = encoding;
@@ -51,6 +52,8 @@ demand1 = record {
   resetting = λ s n. checked-refuses s _ _ _;
   posting = λ s w n u. checked-refuses (record { channels = s; octets = w }) _ _ _;
   replacing = λ t c s. checked-refuses t _ _ _;
+  packing = λ o c mark xs before. checked-refuses before _ _ _;
+  unpacking = λ u. told-refuses _ _;
   demultiplexing = λ x t c mark xs. checked-refuses x _ _ _;
   multiplexing = λ x w t c room. checked-refuses x _ _ _;
 }

@@ -1,4 +1,4 @@
--- Document 01's refusal numbers in their order, by computation.
+-- The refusal numbers in their order, by computation.
 --
 --   orders     those of each operation
 --
@@ -15,6 +15,8 @@ orders = record {
   sending = λ x n numbered u. refl;
   taking = λ s n numbered w. refl;
   replacing = λ c s. refl;
+  packing = λ c xs room. refl;
+  unpacking = λ u. refl;
   opening = λ s n. refl;
   closing = λ s n. refl;
   resetting = λ s n. refl;

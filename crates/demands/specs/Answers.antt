@@ -21,6 +21,7 @@ use Rattle.adaptation.specs.declared.al1m.Judgement.{Judgement}
 use Rattle.adaptation.specs.declared.al1m.Received.{Received}
 use Rattle.adaptation.specs.declared.al1m.Received.the-variants as al1m
 use Rattle.table.specs.Table.{replaceTests, replaced}
+use Rattle.packets.specs.Packet.{writeTests, wrote, readTests, read}
 use Rattle.channels.specs.declared.Channels.{Channels}
 use Rattle.channels.specs.Channels.{openTests, closeTests, resetTests, postTests, opened, closed, reset, posted}
 use Rattle.channels.specs.Layers as layers
@@ -46,6 +47,8 @@ pub record Demand1 : Type 0 where
   pub resetting : (s : Channels) (n : ℕ) → Refuses (reset s n) (resetTests s n) s
   pub posting : (s : Channels) (w : List ℕ) (n : ℕ) (u : List ℕ) → Refuses (posted s w n u) (postTests s n u) (record { channels = s; octets = w })
   pub replacing : (t : List ℕ) (c : ℕ) (s : List ℕ) → Refuses (replaced t c s) (replaceTests c s) t
+  pub packing : (o : Bool) (c : ℕ) (mark : Bool) (xs before : List ℕ) → Refuses (wrote o c mark xs before) (writeTests c xs (length before)) before
+  pub unpacking : (u : List ℕ) → Refuses {X = Unit {0}} (ended (read u) tt) (readTests u) tt
   pub demultiplexing : (x : DemuxLent) (t : List ℕ) (c : ℕ) (mark : Bool) (xs : List ℕ)
       → Refuses (demultiplexed x t c mark xs) (demultiplexTests x t c mark xs) x
   pub multiplexing : (x : MuxLent) (w t : List ℕ) (c room : ℕ) → Refuses (multiplexed x w t c room) (multiplexTests x t c room) x

@@ -11,6 +11,7 @@ use Prim.Native.Nat.{ℕ}
 use Rattle.adaptation.specs.Exactly.{AdaptationExactly}
 use Rattle.table.specs.Exactly.{TreeExactly, OfTable}
 use Rattle.table.specs.Claims.{DefinedExactly}
+use Rattle.packets.specs.Claims.{OfReading, OfWriting}
 use Rattle.channels.specs.declared.Channels.{Channels}
 use Rattle.channels.specs.Layers.{SendLent}
 use Rattle.channels.specs.Exactly.{OpenExactly, AllOpenExactly, OfChannels, OfLayers}
@@ -30,6 +31,9 @@ pub record Exactly : Type 0 where
   pub table : (c : ℕ) (s : List ℕ) → OfTable c s
   pub defined : DefinedExactly
   pub trees : TreeExactly
+  -- 15, 17, 2 of reading a packet, 4, 2, 3 of writing one (document 02, ticket 4)
+  pub unpacking : (u : List ℕ) → OfReading u
+  pub packing : (o : Bool) (c : ℕ) (mark : Bool) (xs before : List ℕ) → OfWriting o c mark xs before
   -- 13 and 12 of opening, 5 and 14 of closing, 5 of a reset, 2, 5, 11 of posting; and what 5 is not given for
   pub channels : (s : Channels) (n : ℕ) (u : List ℕ) → OfChannels s n u
   pub full : FullExactly

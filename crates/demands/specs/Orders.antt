@@ -1,4 +1,4 @@
--- Document 01's refusal numbers, operation by operation, in document 01's order: the numbers of each operation's tests, which stand
+-- The refusal numbers of document 01, and of document 02's packets, operation by operation, in the documents' order: the numbers of each operation's tests, which stand
 -- beside its definition. Of the tests themselves this says nothing; exactly when each number is given is said in specs/Exactly.antt.
 --
 --   numbers l    the numbers of the tests l, in their order
@@ -15,6 +15,7 @@ use Rattle.adaptation.specs.Receiving.{RepairLent, receiveTests}
 use Rattle.adaptation.specs.AL1M.{lengthTests}
 use Rattle.adaptation.specs.AL1.{passTests}
 use Rattle.table.specs.Table.{replaceTests}
+use Rattle.packets.specs.Packet.{writeTests, readTests}
 use Rattle.channels.specs.declared.Channels.{Channels}
 use Rattle.channels.specs.Channels.{openTests, closeTests, resetTests, postTests}
 use Rattle.channels.specs.Layers.{SendLent, sendingTests, takingTests}
@@ -36,6 +37,9 @@ pub record Orders : Type 0 where
   pub taking : (s : Channels) (n : ℕ) (numbered : Bool) (w : List ℕ) → numbers (takingTests s n numbered w) ≡ 5 ∷ 2 ∷ []
   -- "Multiplex table"
   pub replacing : (c : ℕ) (s : List ℕ) → numbers (replaceTests c s) ≡ 4 ∷ 14 ∷ 10 ∷ []
+  -- document 02, ticket 4: flag, the header's octets, header, length, closing flag
+  pub packing : (c : ℕ) (xs : List ℕ) (room : ℕ) → numbers (writeTests c xs room) ≡ 4 ∷ 2 ∷ 3 ∷ []
+  pub unpacking : (u : List ℕ) → numbers (readTests u) ≡ 15 ∷ 15 ∷ 17 ∷ 2 ∷ 15 ∷ []
   -- "Demultiplexer"
   pub opening : (s : Channels) (n : ℕ) → numbers (openTests s n) ≡ 13 ∷ 12 ∷ []
   pub closing : (s : Channels) (n : ℕ) → numbers (closeTests s n) ≡ 5 ∷ 14 ∷ []
