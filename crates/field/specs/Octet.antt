@@ -18,7 +18,6 @@
 -- Assumes nothing.
 use Prim.Native.Nat.{ℕ, zero, suc, _-_, _*_, _/_, _%_}
 use lib.Bits.{bitXor}
-mod Xor
 mod Sum
 mod Product
 mod Basis

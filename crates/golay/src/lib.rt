@@ -1,7 +1,6 @@
 // The extended Golay code of 12 bits in 24 (000, B.3.2.1.3), by itself: a word's bits 1 to 12 are the data, its bits 13 to 24 the parity
 // P1 to P12. Nothing here knows what the data are.
 ghost use mathlib.Core.Path.{_≡_};
-ghost use Prim.Native.Nat.{_^_, _<_, _≤_};
 ghost use Rattle.golay.specs.Code as code;
 ghost use Rattle.golay.specs.Search.{Searched};
 
@@ -14,7 +13,18 @@ pub const MOST_WRONG: u32 = 3;
 // The rows of the matrix, each as a number: the bit printed first is its lowest. Row 1, 1 0 1 0 1 1 1 0 0 0 1 1, is
 // 1 + 4 + 16 + 32 + 64 + 1024 + 2048 = 3189.
 const ROWS: [u32; 12] = [
-    3189, 1183, 3403, 1763, 2483, 2918, 3788, 493, 986, 1972, 2845, 3642,
+    3189,
+    1183,
+    3403,
+    1763,
+    2483,
+    2918,
+    3788,
+    493,
+    986,
+    1972,
+    2845,
+    3642,
 ];
 
 // The data of the word that was sent, or that no word of the code lies within three bits.
@@ -24,16 +34,15 @@ pub enum Found {
 }
 
 // The parity of 12 bits of data: the sum of the rows at its ones.
-pub fn parity(data: u32) -> u32
-    requires { ⌜ data < 2 ^ 12 ⌝ }
-    ensures { λ r. ⌜ r ≡ code.parity data ⌝ }
+pub fn parity(message: u32) -> u32
+    ensures { λ r. ⌜ r ≡ code.parity message ⌝ }
 {
     let mut sum = 0;
+    let mut bits = message;
     let mut i = 0;
     while i < ROWS.len() {
-        if data >> i & 1 == 1 {
-            sum ^= ROWS[i];
-        }
+        sum ^= (bits & 1) * ROWS[i];
+        bits >>= 1;
         i += 1;
     }
     sum
@@ -42,7 +51,6 @@ pub fn parity(data: u32) -> u32
 // Which bits of data to change, from bit `from` on (0 is the first) and at most `left` of them, so that with the ones of the syndrome that are then
 // left no more than `left` bits are wrong.
 fn search(syndrome: u32, from: usize, left: u32) -> Found
-    requires { ⌜ (syndrome < 2 ^ 12) × (left ≤ 3) ⌝ }
     ensures { λ r. ⌜ Searched syndrome from left r ⌝ }
 {
     if u32::count_ones(syndrome) <= left {
@@ -66,7 +74,6 @@ fn search(syndrome: u32, from: usize, left: u32) -> Found
 
 // The data whose code word lies within three bits of a word of 24.
 pub fn find(word: u32) -> Found
-    requires { ⌜ word < 2 ^ 24 ⌝ }
     ensures { λ r. ⌜ r ≡ code.nearest word ⌝ }
 {
     let data = word & 4095;

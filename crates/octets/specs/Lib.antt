@@ -6,3 +6,4 @@ pub mod Parts
 pub mod Tests
 pub mod Exact
 pub mod High
+pub mod Xor

@@ -16,7 +16,7 @@ use native.Mathlib.Omega.{arith}
 use lib.Dec.{lit<}
 use lib.Pow as pow
 use Rattle.field.specs.Octet.{sum, double, times, product, size}
-use Rattle.field.specs.Octet.Xor.{bit-lt}
+use Rattle.octets.specs.Xor.{bit-lt}
 use Rattle.field.specs.Octet.Sum.{sum-zero, sum-octet, sum-low, sum-half, sum-swap, bit-sum, sum-bit, double-octet, double-sum}
 
 pub bit-octet : (x a : ℕ) → x < 2 → a < size → x * a < size

@@ -35,7 +35,7 @@ use native.Mathlib.Decide.{decLt}
 use Rattle.octets.specs.Written.{written, written-length, written-inside, written-outside}
 use Rattle.octets.specs.Every.{every, every-at}
 use Rattle.field.specs.Octet.{sum, modulus, double, times, product, power, inverse, size, α, order}
-use Rattle.field.specs.Octet.Xor.{bit-lt}
+use Rattle.octets.specs.Xor.{bit-lt}
 use Rattle.field.specs.Octet.Sum.{sum-xor, sum-assoc, sum-zero, sum-comm}
 use Rattle.field.specs.Octet.Product.{bit-octet}
 use Rattle.field.specs.Octet.Ring.{alpha-product}

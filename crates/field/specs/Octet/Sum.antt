@@ -24,8 +24,8 @@ use native.Mathlib.Omega.{arith}
 use lib.Dec.{T, ltb, ltb→lt, lit<}
 use lib.Bits.{bitXor, xor-comm, xor-self, xor-zero-r, xor-lt, xor-mod, xor-shr}
 use Rattle.octets.specs.Every.{every, every-at}
+use Rattle.octets.specs.Xor.{bit-lt, xor-assoc, xor-left-comm, xor-swap, xor-half, xor-bit, xor-twice, differ-scale, xor-bits}
 use Rattle.field.specs.Octet.{sum, modulus, double, size}
-use Rattle.field.specs.Octet.Xor.{bit-lt, xor-assoc, xor-half, xor-odd, xor-twice, differ-scale, xor-bits}
 
 pub sum-xor : (a b : ℕ) → sum a b ≡ bitXor a b
 unfolding sum
@@ -40,10 +40,12 @@ unfolding sum
 sum-comm = xor-comm
 
 pub sum-left-comm : (a b c : ℕ) → sum a (sum b c) ≡ sum b (sum a c)
-sum-left-comm a b c = sym (sum-assoc a b c) ∙ ap (λ (x : ℕ). sum x c) (sum-comm a b) ∙ sum-assoc b a c
+unfolding sum
+sum-left-comm = xor-left-comm
 
 pub sum-swap : (a b c d : ℕ) → sum (sum a b) (sum c d) ≡ sum (sum a c) (sum b d)
-sum-swap a b c d = sum-assoc a b (sum c d) ∙ ap (sum a) (sum-left-comm b c d) ∙ sym (sum-assoc a c (sum b d))
+unfolding sum
+sum-swap = xor-swap
 
 pub sum-zero : (a : ℕ) → sum a 0 ≡ a
 unfolding sum
@@ -75,7 +77,7 @@ bit-sum (suc (suc x)) a b h = absurd (omega arith)
 -- a sum's lowest bit times a number
 pub sum-bit : (a b c : ℕ) → sum a b % 2 * c ≡ sum (a % 2 * c) (b % 2 * c)
 unfolding sum
-sum-bit a b c = ap (λ (x : ℕ). x * c) (xor-odd a b) ∙ differ-scale (a % 2) (b % 2) c (bit-lt a) (bit-lt b)
+sum-bit = xor-bit
 
 -- ---- doubling
 

@@ -1,9 +1,14 @@
 -- What the library lacks of exclusive or.
 --
 --   bit-lt         a number's lowest bit is a bit
---   xor-assoc      associative
+--   xor-assoc      associative, and as two rules for three and four terms
+--   xor-left-comm
+--   xor-swap
+--   xor-again      twice the same changes nothing
+--   xor-none       it is 0 of a number and itself alone
 --   xor-half       half of it, and its lowest bit, come from the halves and the lowest bits
 --   xor-odd
+--   xor-bit        .. so does its lowest bit, times a number
 --   xor-twice      twice it
 --   differ-scale   a difference of bits, times a number
 --   xor-bits       of two bits it is the difference
@@ -15,7 +20,7 @@ use native.Mathlib.Nat.{mod-lt, add-zero, mul-comm, zero-mul}
 use native.Mathlib.Omega.{arith}
 use lib.Arith.{digits-mod, bin-ind}
 use lib.Pow.{pow-pos}
-use lib.Bits.{bitXor, differ, xor-step, xor-shr, xor-block, xor-zero-r, xor-self}
+use lib.Bits.{bitXor, differ, xor-step, xor-shr, xor-block, xor-comm, xor-zero-r, xor-self}
 use lib.Dec.{lit<}
 
 pub bit-lt : (a : ℕ) → a % 2 < 2
@@ -63,6 +68,18 @@ xor-assoc a =
     ∙ ap₂ (λ (x y : ℕ). bitXor (n / 2) x * 2 + differ (n % 2) y) (sym (xor-half b c)) (sym (xor-odd b c))
     ∙ sym (xor-step n (bitXor b c))) a
 
+pub xor-left-comm : (a b c : ℕ) → bitXor a (bitXor b c) ≡ bitXor b (bitXor a c)
+xor-left-comm a b c = sym (xor-assoc a b c) ∙ ap (λ (x : ℕ). bitXor x c) (xor-comm a b) ∙ xor-assoc b a c
+
+pub xor-swap : (a b c d : ℕ) → bitXor (bitXor a b) (bitXor c d) ≡ bitXor (bitXor a c) (bitXor b d)
+xor-swap a b c d = xor-assoc a b (bitXor c d) ∙ ap (bitXor a) (xor-left-comm b c d) ∙ sym (xor-assoc a c (bitXor b d))
+
+pub xor-again : (a b : ℕ) → bitXor a (bitXor a b) ≡ b
+xor-again a b = sym (xor-assoc a a b) ∙ ap (λ (x : ℕ). bitXor x b) (xor-self a)
+
+pub xor-none : (a b : ℕ) → bitXor a b ≡ 0 → a ≡ b
+xor-none a b e = sym (xor-zero-r a) ∙ ap (bitXor a) (sym e) ∙ xor-again a b
+
 pub xor-twice : (a b : ℕ) → 2 * bitXor a b ≡ bitXor (2 * a) (2 * b)
 xor-twice a b =
     mul-comm 2 (bitXor a b) ∙ sym (add-zero (bitXor a b * 2)) ∙ sym (xor-block 1 a b 0 0 (pow-pos 1) (pow-pos 1))
@@ -74,3 +91,6 @@ differ-scale (suc zero) zero c hx hy = sym (ap (bitXor (1 * c)) (zero-mul c) ∙
 differ-scale (suc zero) (suc zero) c hx hy = zero-mul c ∙ sym (xor-self (1 * c))
 differ-scale (suc zero) (suc (suc y)) c hx hy = absurd (omega arith)
 differ-scale (suc (suc x)) y c hx hy = absurd (omega arith)
+
+pub xor-bit : (a b c : ℕ) → bitXor a b % 2 * c ≡ bitXor (a % 2 * c) (b % 2 * c)
+xor-bit a b c = ap (λ (x : ℕ). x * c) (xor-odd a b) ∙ differ-scale (a % 2) (b % 2) c (bit-lt a) (bit-lt b)

@@ -1,0 +1,9 @@
+pub mod Ones
+pub mod Linear
+pub mod Weights
+pub mod Near
+pub mod Bits
+pub mod Mending
+pub mod Finding
+pub mod Theorems
+pub mod Laws

@@ -1,0 +1,41 @@
+-- The claims of specs/Claims.antt, proved.
+--
+--   golay    all of them
+--
+-- Assumes nothing.
+use mathlib.Core.Path.{refl}
+use Prim.Native.Nat.{ℕ}
+use lib.Pow.{high, low}
+use Rattle.golay.specs.Matrix.{matrix}
+use Rattle.golay.specs.Code.{parity}
+use Rattle.golay.specs.Claims.{Golay, ParityIs, RowsAre, Systematic}
+use Rattle.golay.proofs.Bits.{product-bit, distance-places}
+use Rattle.golay.proofs.Linear.{parity-row}
+use Rattle.golay.proofs.Near.{word-far, within-one, nearest-found, nearest-none}
+use Rattle.golay.proofs.Weights.{parity-lt, word-least, word-even, word-times}
+
+parity-bits : ParityIs
+unfolding parity matrix
+parity-bits d j h = product-bit matrix d j
+
+rows : RowsAre
+unfolding matrix
+rows = (refl, parity-row)
+
+word-parts : Systematic
+word-parts d h = (low (parity d) 12 h, high (parity d) 12 h, parity-lt d h)
+
+pub golay : Golay
+golay = record {
+  parity-is = parity-bits;
+  rows-are = rows;
+  systematic = word-parts;
+  generated = word-times;
+  even-ones = word-even;
+  least-ones = word-least;
+  far-apart = word-far;
+  distance-counts = distance-places;
+  found-exactly = nearest-found;
+  nothing-exactly = nearest-none;
+  only-one = within-one;
+}
