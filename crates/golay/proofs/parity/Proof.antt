@@ -14,8 +14,7 @@ use lib.Seq.{drop-cons}
 use Rattle.octets.specs.Xor.{xor-assoc}
 use Rattle.golay.specs.Matrix.{matrix}
 use Rattle.golay.specs.Code.{product, parity}
-use Rattle.golay.proofs.Linear.{parity-row}
-use Rattle.golay.proofs.Weights.{parity-lt}
+use Rattle.golay.proofs.Linear.{parity-row, parity-lt}
 use Rattle.golay.proofs.parity.Statement.{statement}
 use Rattle.golay.proofs.parity.Tie as tie
 
@@ -29,7 +28,7 @@ product-next m i d sum h =
 part-fits : (b i : ℕ) → b < 2 → i < 12 → b * getD matrix i 0 < 2 ^ 32
 part-fits zero i h l = rw (zero-mul (getD matrix i 0)) (pow-pos 32)
 part-fits (suc zero) i h l =
-    rw (one-mul (getD matrix i 0), ← (parity-row i l)) (lt-of-lt-of-le (parity-lt (2 ^ i) (pow-lt l)) (lit≤ tt))
+    rw (one-mul (getD matrix i 0), ← (parity-row i l)) (lt-of-lt-of-le (parity-lt (2 ^ i)) (lit≤ tt))
 part-fits (suc (suc b)) i h l = absurd (omega arith)
 
 abbrev Inv-loop : tie.InvT-loop
