@@ -1,6 +1,7 @@
 -- The parity, and the word, of a sum of data are the sums of theirs.
 --
 --   product-xor    for any matrix
+--   bit-fits       a bit times a number of k bits has k bits
 --   product-lt     a sum of rows that fit in k bits does too
 --   parity-xor
 --   parity-zero    .. so that 0 has the parity 0
@@ -43,7 +44,7 @@ abbrev pub fit : ℕ → List ℕ → Bool
 fit k [] = true
 fit k (r ∷ m) = ltb r (2 ^ k) && fit k m
 
-bit-fits : (b r k : ℕ) → b < 2 → r < 2 ^ k → b * r < 2 ^ k
+pub bit-fits : (b r k : ℕ) → b < 2 → r < 2 ^ k → b * r < 2 ^ k
 bit-fits zero r k h l = rw (zero-mul r) (pow-pos k)
 bit-fits (suc zero) r k h l = rw (one-mul r) l
 bit-fits (suc (suc b)) r k h l = absurd (omega arith)

@@ -4,7 +4,6 @@
 --
 -- Assumes nothing.
 use mathlib.Core.Path.{refl}
-use Prim.Native.Nat.{ℕ}
 use lib.Pow.{high, low}
 use Rattle.golay.specs.Matrix.{matrix}
 use Rattle.golay.specs.Code.{parity}
