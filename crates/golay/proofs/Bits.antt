@@ -46,7 +46,8 @@ product-bit [] d j = ap (λ (n : ℕ). n % 2) (zero-div (2 ^ j))
 product-bit (r ∷ m) d j =
     bit-xor (d % 2 * r) (product m (d / 2)) j
     ∙ ap (λ (x : ℕ). differ x (bitAt (product m (d / 2)) j)) first
-    ∙ differ-sum (terms (r ∷ m) d j 0) (bitAt (product m (d / 2)) j) (total (length m) (terms m (d / 2) j)) (rw (← first) (bit-lt _)) (product-bit m (d / 2) j)
+    ∙ differ-sum (terms (r ∷ m) d j 0) (bitAt (product m (d / 2)) j) (total (length m) (terms m (d / 2) j)) (rw (← first) (bit-lt _))
+    (product-bit m (d / 2) j)
     ∙ ap (λ (x : ℕ). (terms (r ∷ m) d j 0 + x) % 2)
     (total-same (length m) (terms m (d / 2) j) (λ i. terms (r ∷ m) d j (suc i)) (λ i. ap (λ (x : ℕ). bitAt (getD m i 0) j * x) (sym (bit-next d i))))
     ∙ ap (λ (x : ℕ). x % 2) (sym (total-front (length m) (terms (r ∷ m) d j)))

@@ -6,7 +6,7 @@
 --
 -- Assumes nothing.
 use mathlib.Core.Path.{_≡_, sym, ap, ap₂, _∙_}
-use Prim.Native.Nat.{ℕ, _+_, _*_, _/_, _%_, _^_, _≤_, _<_}
+use Prim.Native.Nat.{ℕ, _+_, _*_, _/_, _%_, _^_, _<_}
 use native.Mathlib.Nat.{mod-lt, mod-one, add-comm}
 use lib.Bits.{bitXor, xor-lt, xor-comm, xor-block}
 use lib.Count.{ones, ones-cat}

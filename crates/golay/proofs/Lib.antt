@@ -1,6 +1,7 @@
 pub mod Ones
 pub mod Linear
 pub mod Weights
+pub mod Generating
 pub mod Near
 pub mod Bits
 pub mod Mending

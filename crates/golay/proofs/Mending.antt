@@ -13,8 +13,7 @@
 -- Assumes nothing.
 use mathlib.Core.Path.{_≡_, refl, sym, ap, ap₂, _∙_}
 use Prim.Native.Nat.{ℕ, zero, suc, _+_, _-_, _*_, _/_, _%_, _^_, _≤_, _<_}
-use native.Mathlib.Nat.{add-zero, zero-add, one-mul, zero-mul, mod-lt, mod-self, zero-mod, mul-mod-left, mod-eq-of-lt, lt-of-lt-of-le, le-add-right}
-use native.Mathlib.Numerals.{one-add}
+use native.Mathlib.Nat.{add-zero, zero-add, one-mul, zero-mul, mod-lt, mod-self, zero-mod, mul-mod-left, mod-eq-of-lt, lt-of-lt-of-le}
 use native.Mathlib.Omega.{arith}
 use lib.Bits.{bitXor, xor-lt, xor-mod, xor-comm, xor-shifted, xor-zero-r}
 use lib.Count.{ones, ones-cat}
@@ -26,7 +25,7 @@ use Rattle.golay.specs.Matrix.{matrix}
 use Rattle.golay.specs.Code.{parity}
 use Rattle.golay.specs.Claims.{bitAt}
 use Rattle.golay.specs.Search.{Mends, Searched}
-use Rattle.golay.specs.declared.Found.the-variants.{Data, Nothing}
+use Rattle.golay.specs.declared.Found.the-variants.{Nothing}
 use Rattle.golay.proofs.Ones.{ones-zero, ones-none, ones-power}
 use Rattle.golay.proofs.Linear.{parity-xor, parity-zero, parity-row}
 
@@ -78,7 +77,8 @@ module _ (i v : ℕ) (e : v % 2 ^ (i + 1) ≡ 0) where
       ∙ sym (xor-assoc s (row i) (parity v)) in
       ap₂ (λ (x y : ℕ). x + ones y) added-ones p ∙ omega arith
 
-pub mends-added : (s from left i v : ℕ) → from ≤ i → i < 12 → 0 < left → Mends (bitXor s (row i)) (i + 1) (left - 1) v → Mends s from left (v + 2 ^ i)
+pub mends-added : (s from left i v : ℕ) → from ≤ i → i < 12 → 0 < left
+    → Mends (bitXor s (row i)) (i + 1) (left - 1) v → Mends s from left (v + 2 ^ i)
 mends-added s from left i v f h p m = record {
   small = rw (added-xor i v (m .behind)) (xor-lt 12 v (2 ^ i) (m .small) (pow-lt h));
   behind = rw (added-xor i v (m .behind)) (

@@ -6,16 +6,15 @@
 --   nearest-none    .. and it gives none exactly if there are none
 --
 -- Assumes nothing.
-use mathlib.Core.Path.{_≡_, refl, sym, ap, _∙_}
-use mathlib.Core.Logic.{_↔_, _≢_, _⊎_, inl, inr, ⊎-elim}
+use mathlib.Core.Path.{_≡_, refl, ap, _∙_}
+use mathlib.Core.Logic.{⊎-elim}
 use mathlib.Core.Bool.{Bool, true, false, cond}
-use Prim.Native.Nat.{ℕ, zero, suc, _+_, _^_, _≤_, _<_}
+use Prim.Native.Nat.{ℕ, zero, suc, _+_, _≤_, _<_}
 use native.Mathlib.Nat.{not-suc-le-zero, le-of-suc-le-suc, eq-or-lt-of-le, pos-of-ne-zero}
 use native.Mathlib.Decide.{ℕ-discrete}
 use native.Mathlib.Omega.{arith}
 use borrow.Author.Tests.{leb-true, leb-false}
 use lib.Bits.{bitXor, xor-lt, xor-self}
-use lib.Count.{ones}
 use Rattle.octets.specs.Tests.{never}
 use Rattle.octets.specs.Xor.{xor-none, xor-swap}
 use Rattle.golay.specs.Code.{codeWord, distance, mostWrong, Within, isNear, firstNear, nearest}

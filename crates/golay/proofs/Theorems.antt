@@ -4,15 +4,15 @@
 --
 -- Assumes nothing.
 use mathlib.Core.Path.{refl}
-use Prim.Native.Nat.{ℕ}
 use lib.Pow.{high, low}
 use Rattle.golay.specs.Matrix.{matrix}
 use Rattle.golay.specs.Code.{parity}
 use Rattle.golay.specs.Claims.{Golay, ParityIs, RowsAre, Systematic}
 use Rattle.golay.proofs.Bits.{product-bit, distance-places}
-use Rattle.golay.proofs.Linear.{parity-row}
+use Rattle.golay.proofs.Generating.{word-times}
+use Rattle.golay.proofs.Linear.{parity-row, parity-lt}
 use Rattle.golay.proofs.Near.{word-far, within-one, nearest-found, nearest-none}
-use Rattle.golay.proofs.Weights.{parity-lt, word-least, word-even, word-times}
+use Rattle.golay.proofs.Weights.{word-least, word-even}
 
 parity-bits : ParityIs
 unfolding parity matrix
@@ -23,7 +23,7 @@ unfolding matrix
 rows = (refl, parity-row)
 
 word-parts : Systematic
-word-parts d h = (low (parity d) 12 h, high (parity d) 12 h, parity-lt d h)
+word-parts d h = (low (parity d) 12 h, high (parity d) 12 h, parity-lt d)
 
 pub golay : Golay
 golay = record {

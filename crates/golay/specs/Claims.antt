@@ -3,6 +3,7 @@
 --   times k q g         the product of the polynomials q, of k coefficients, and g, modulo 2
 --   count k f           how many of f 0, .., f (k - 1) hold
 --   total k f           f 0 + .. + f (k - 1)
+--   bitAt n j           bit j + 1 of n
 --   ParityIs            the equation of B.3.2.1.3: P(j) is the sum of M(i, j) times the data's bit i, modulo 2, the matrix being transposed
 --   RowsAre             the data's bit i alone has row i for its parity
 --   Systematic          the data and the parity stand in the word, each in its 12 bits
@@ -20,7 +21,6 @@
 use mathlib.Core.Path.{_≡_}
 use mathlib.Core.Logic.{_↔_, _≢_}
 use mathlib.Core.Bool.{Bool, cond, not}
-use mathlib.Core.List.{List}
 use Prim.Native.Nat.{ℕ, zero, suc, _+_, _*_, _/_, _%_, _^_, _≤_, _<_}
 use lib.Bits.{bitXor}
 use lib.Count.{ones}
@@ -42,7 +42,6 @@ abbrev pub total : ℕ → (ℕ → ℕ) → ℕ
 total zero f = 0
 total (suc k) f = f k + total k f
 
--- bit j + 1 of a number
 abbrev pub bitAt : ℕ → ℕ → ℕ
 bitAt n j = n / 2 ^ j % 2
 

@@ -33,7 +33,7 @@ pub enum Found {
     Nothing,
 }
 
-// The parity of 12 bits of data: the sum of the rows at its ones.
+// The parity of 12 bits of data: the sum of the rows at its ones. Higher bits do not count.
 pub fn parity(message: u32) -> u32
     ensures { λ r. ⌜ r ≡ code.parity message ⌝ }
 {
@@ -59,9 +59,10 @@ fn search(syndrome: u32, from: usize, left: u32) -> Found
     if left == 0 {
         return Found::Nothing;
     }
+    let rows = ROWS;
     let mut i = from;
-    while i < ROWS.len() {
-        match search(syndrome ^ ROWS[i], i + 1, left - 1) {
+    while i < rows.len() {
+        match search(syndrome ^ rows[i], i + 1, left - 1) {
             Found::Data(u) => {
                 return Found::Data(u + (1 << i));
             }
@@ -72,12 +73,12 @@ fn search(syndrome: u32, from: usize, left: u32) -> Found
     Found::Nothing
 }
 
-// The data whose code word lies within three bits of a word of 24.
+// The data whose code word lies within three bits of a word of 24. Of a larger number, each further one is a wrong bit.
 pub fn find(word: u32) -> Found
     ensures { λ r. ⌜ r ≡ code.nearest word ⌝ }
 {
     let data = word & 4095;
-    let syndrome = parity(data) ^ (word >> 12);
+    let syndrome = parity(data) ^ (word >> DATA_BITS);
     match search(syndrome, 0, MOST_WRONG) {
         Found::Data(u) => Found::Data(data ^ u),
         Found::Nothing => Found::Nothing,

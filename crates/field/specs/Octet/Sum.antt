@@ -24,7 +24,7 @@ use native.Mathlib.Omega.{arith}
 use lib.Dec.{T, ltb, ltb→lt, lit<}
 use lib.Bits.{bitXor, xor-comm, xor-self, xor-zero-r, xor-lt, xor-mod, xor-shr}
 use Rattle.octets.specs.Every.{every, every-at}
-use Rattle.octets.specs.Xor.{bit-lt, xor-assoc, xor-left-comm, xor-swap, xor-half, xor-bit, xor-twice, differ-scale, xor-bits}
+use Rattle.octets.specs.Xor.{xor-assoc, xor-left-comm, xor-swap, xor-half, xor-bit, xor-twice, differ-scale, xor-bits}
 use Rattle.field.specs.Octet.{sum, modulus, double, size}
 
 pub sum-xor : (a b : ℕ) → sum a b ≡ bitXor a b

@@ -26,10 +26,10 @@ abbrev claims : ℕ → search-lts.Claims
 claims t = (and 0 search-kinds.ps (falls 0 search-kinds.ps _<_ μ-search t) search′.Pre, search′.Post)
 
 abbrev Inv-loop : search-lts.InvT-loop
-Inv-loop syndrome from left i₀ i = (from ≤ i) × ((u : ℕ) → Mends syndrome from left u → u % 2 ^ i ≡ 0)
+Inv-loop syndrome from left rows i₀ i = (from ≤ i) × ((u : ℕ) → Mends syndrome from left u → u % 2 ^ i ≡ 0)
 
 abbrev μ-loop : search-lts.MeasureT-loop
-μ-loop syndrome from left i₀ i = 12 - i
+μ-loop syndrome from left rows i₀ i = 12 - i
 
 returns : (t : ℕ) → search-lts.Need-returns (claims t) (at t) search′.Post Inv-loop μ-loop
 returns t c = let a = c .before .args in mends-nothing (a .syndrome) (a .from) (a .left) (c .if1 .taken)
@@ -40,31 +40,16 @@ returns-2 t c = let a = c .before .before .args in mends-none-left (a .syndrome)
 loop-holds : (t : ℕ) → search-lts.Need-loop-holds (claims t) (at t) search′.Post Inv-loop μ-loop
 loop-holds t c = (search needs, λ u m. m .behind)
 
-mul-search : (t : ℕ) → search-lts.Need-mul-search (claims t) (at t) search′.Post Inv-loop μ-loop
-mul-search t c = search needs
-
-array-read : (t : ℕ) → search-lts.Need-array-read-search (claims t) (at t) search′.Post Inv-loop μ-loop
-array-read t c = search needs
-
-add-search : (t : ℕ) → search-lts.Need-add-search (claims t) (at t) search′.Post Inv-loop μ-loop
-add-search t c = search needs
-
 sub-search : (t : ℕ) → search-lts.Need-sub-search (claims t) (at t) search′.Post Inv-loop μ-loop
 sub-search t c = pos-of-ne-zero (c .before .before .if2 .left)
 
 search-requires : (t : ℕ) → search-lts.Need-search-requires (claims t) (at t) search′.Post Inv-loop μ-loop
 search-requires t c κs = (omega (arith, c .before .before .before .before .pre .0, pos-of-ne-zero (c .before .before .if2 .left)), tt)
 
-enum-known : (t : ℕ) → search-lts.Need-enum-known-u (claims t) (at t) search′.Post Inv-loop μ-loop
-enum-known t c = search needs
-
-cast : (t : ℕ) → search-lts.Need-cast-t18 (claims t) (at t) search′.Post Inv-loop μ-loop
-cast t c = search needs
-
-shl : (t : ℕ) → search-lts.Need-shl-t19 (claims t) (at t) search′.Post Inv-loop μ-loop
+shl : (t : ℕ) → search-lts.Need-shl-t20 (claims t) (at t) search′.Post Inv-loop μ-loop
 shl t c = omega (arith, c .before .before .before .before .loop-test .taken)
 
-add-unit : (t : ℕ) → search-lts.Need-add-t20 (claims t) (at t) search′.Post Inv-loop μ-loop
+add-unit : (t : ℕ) → search-lts.Need-add-t21 (claims t) (at t) search′.Post Inv-loop μ-loop
 unfolding matrix
 add-unit t c =
     let r = c .before .before .before in
@@ -85,15 +70,6 @@ returns-3 t c =
     (mends-added (a .syndrome) (a .from) (a .left) (l .i) v (l .inv .0) h (pos-of-ne-zero (s .if2 .left))
     (rw (c .before .u .given .1) at (r .search .ensures)))
 
-enum-told : (t : ℕ) → search-lts.Need-enum-told (claims t) (at t) search′.Post Inv-loop μ-loop
-enum-told t c = search needs
-
-add-i : (t : ℕ) → search-lts.Need-add-i (claims t) (at t) search′.Post Inv-loop μ-loop
-add-i t c = search needs
-
-loop-less : (t : ℕ) → search-lts.Need-loop-less (claims t) (at t) search′.Post Inv-loop μ-loop
-loop-less t c = search needs
-
 loop-again : (t : ℕ) → search-lts.Need-loop-again (claims t) (at t) search′.Post Inv-loop μ-loop
 unfolding matrix
 loop-again t c =
@@ -102,8 +78,8 @@ loop-again t c =
     let a = s .before .before .args in
     let l = r .before .before .loop in (
       search needs,
-      λ u m. mends-behind (a .syndrome) (a .from) (a .left) (l .i) (r .before .loop-test .taken) (rw (c .enum-told .given .1) at (r .search .ensures)) u m
-          (l .inv .1 u m),
+      λ u m. mends-behind (a .syndrome) (a .from) (a .left) (l .i) (r .before .loop-test .taken)
+          (rw (c .enum-told .given .1) at (r .search .ensures)) u m (l .inv .1 u m),
     )
 
 returns-4 : (t : ℕ) → search-lts.Need-returns-4 (claims t) (at t) search′.Post Inv-loop μ-loop
@@ -116,6 +92,6 @@ returns-4 t c =
 pub +search-spec : {M : Type 1} → statement M
 +search-spec =
     close μ-search
-    (λ t. search-lts.spec (claims t) (at t) search′.Post Inv-loop μ-loop (returns t) (returns-2 t) (loop-holds t) (mul-search t) (array-read t)
-    (add-search t) (sub-search t) (search-requires t) (enum-known t) (cast t) (shl t) (add-unit t) (returns-3 t) (enum-told t) (add-i t)
-    (loop-less t) (loop-again t) (returns-4 t))
+    (λ t. search-lts.spec (claims t) (at t) search′.Post Inv-loop μ-loop (returns t) (returns-2 t) (loop-holds t) (λ c. search needs)
+    (λ c. search needs) (λ c. search needs) (sub-search t) (search-requires t) (λ c. search needs) (λ c. search needs) (shl t) (add-unit t)
+    (returns-3 t) (λ c. search needs) (λ c. search needs) (λ c. search needs) (loop-again t) (returns-4 t))

@@ -10,8 +10,8 @@ returns : tie.Need-returns
 returns c =
     let r = c .before .before .before in
     let w = r .before .before .args .word in
-    rw (and-mask w 12)
-    (sym (found-nearest w (c .before .u .given .0 .0) (rw (r .before .parity .ensures, and-mask w 12, c .before .u .given .1) at (r .search .ensures))))
+    let u = c .before .u .given in
+    rw (and-mask w 12) (sym (found-nearest w (u .0 .0) (rw (r .before .parity .ensures, and-mask w 12, u .1) at (r .search .ensures))))
 
 returns-2 : tie.Need-returns-2
 returns-2 c =

@@ -1,21 +1,19 @@
 -- The sum so far, and what the bits left still have to give, are the parity. Assumes nothing.
 use borrow.Author.Needs.{needs}
-use mathlib.Core.Path.{_≡_, refl, sym, ap, _∙_}
-use mathlib.Core.List.{List, []}
-use Prim.Native.Nat.{ℕ, zero, suc, _+_, _*_, _-_, _/_, _%_, _^_, _≤_, _<_}
-use native.Mathlib.Nat.{zero-mul, one-mul, lt-of-lt-of-le}
+use mathlib.Core.Path.{_≡_, refl, sym, _∙_}
+use mathlib.Core.List.{List}
+use Prim.Native.Nat.{ℕ, _+_, _*_, _-_, _/_, _%_, _^_, _≤_, _<_}
+use native.Mathlib.Nat.{lt-of-lt-of-le}
 use native.Mathlib.Numerals.{add-one}
 use native.Mathlib.Omega.{arith}
 use lib.Bits.{bitAnd, bitXor, and-mask, mask-lt, xor-zero-r}
 use lib.Dec.{lit≤}
-use lib.Pow.{pow-pos, pow-lt}
 use lib.ListN.{length, getD, drop}
 use lib.Seq.{drop-cons}
 use Rattle.octets.specs.Xor.{xor-assoc}
 use Rattle.golay.specs.Matrix.{matrix}
 use Rattle.golay.specs.Code.{product, parity}
-use Rattle.golay.proofs.Linear.{parity-row}
-use Rattle.golay.proofs.Weights.{parity-lt}
+use Rattle.golay.proofs.Linear.{bit-fits, parity-row, parity-lt}
 use Rattle.golay.proofs.parity.Statement.{statement}
 use Rattle.golay.proofs.parity.Tie as tie
 
@@ -25,12 +23,8 @@ unfolding product
 product-next m i d sum h =
     xor-assoc sum (d % 2 * getD m i 0) (product (drop (i + 1) m) (d / 2)) ∙ rw (add-one i, drop-cons m i 0 h) refl
 
--- a row, or nothing, fits
-part-fits : (b i : ℕ) → b < 2 → i < 12 → b * getD matrix i 0 < 2 ^ 32
-part-fits zero i h l = rw (zero-mul (getD matrix i 0)) (pow-pos 32)
-part-fits (suc zero) i h l =
-    rw (one-mul (getD matrix i 0), ← (parity-row i l)) (lt-of-lt-of-le (parity-lt (2 ^ i) (pow-lt l)) (lit≤ tt))
-part-fits (suc (suc b)) i h l = absurd (omega arith)
+row-fits : (b i : ℕ) → b < 2 → i < 12 → b * getD matrix i 0 < 2 ^ 32
+row-fits b i h l = lt-of-lt-of-le (bit-fits b (getD matrix i 0) 12 h (rw (← (parity-row i l)) (parity-lt (2 ^ i)))) (lit≤ tt)
 
 abbrev Inv-loop : tie.InvT-loop
 Inv-loop message sum₀ bits₀ i₀ sum bits i = (i ≤ 12) × (bitXor sum (product (drop i matrix) bits) ≡ parity message)
@@ -46,7 +40,7 @@ mul-sum-2 : tie.Need-mul-sum-2 Inv-loop μ-loop
 unfolding matrix
 mul-sum-2 c =
     let l = c .before .loop in
-    record { fits = part-fits (bitAnd (l .bits) 1) (l .i) (mask-lt (l .bits) 1) (omega arith) }
+    record { fits = row-fits (bitAnd (l .bits) 1) (l .i) (mask-lt (l .bits) 1) (omega arith) }
 
 loop-again : tie.Need-loop-again Inv-loop μ-loop
 unfolding matrix
