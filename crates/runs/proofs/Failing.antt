@@ -1,5 +1,7 @@
 -- Four libraries that do not meet demand 2. Units of one octet are posted and sent on channel 0, each in a payload of its own.
 --
+--   blank, blank-length, enough, world   octets of 0, and both ends with them
+--   output, units    room that is enough
 --   idle-fails       the idle one delivers the first unit and not the second: the first, because ours does
 --   refuser-fails    the one that refuses everything refuses the first payload
 --   mute-fails       the one whose multiplexer refuses everything makes no payload of the first unit
@@ -32,17 +34,17 @@ use Rattle.runs.specs.Demand.{PermittedAll, withoutLast, whollySent, Del
 use Rattle.runs.specs.Claims.{idle, refuser, mute, silent}
 use Rattle.runs.proofs.Delivering.{demand-met}
 
-blank : ℕ → List ℕ
+pub blank : ℕ → List ℕ
 blank n = replicate n 0
 
-blank-length : (n : ℕ) → length (blank n) ≡ n
+pub blank-length : (n : ℕ) → length (blank n) ≡ n
 unfolding blank
 blank-length n = length-replicate n 0
 
-enough : (n : ℕ) → n ≤ length (blank n)
+pub enough : (n : ℕ) → n ≤ length (blank n)
 enough n = omega (arith, blank-length n)
 
-abbrev world : World
+abbrev pub world : World
 world = begin (blank allOctets) (blank allOctets) (blank allOctets) (blank allOctets)
 
 tried : (L : Libraries) → Demand2 L → (es : List Event) → PermittedAll _≡_ L world es → Delivers _≡_ L (run L world es)
@@ -79,10 +81,10 @@ silent-fails d = unserved silent d (λ e p left f h. let z : 0 ≡ p .octets = i
 abbrev sent : List Event
 sent = posts near 0 (1 ∷ []) ∷ pays near 0 1 (0 ∷ []) ∷ []
 
-abbrev output : List ℕ
+abbrev pub output : List ℕ
 output = blank enoughOutput
 
-abbrev units : List ℕ
+abbrev pub units : List ℕ
 units = blank enoughUnits
 
 -- it does not refuse the payload that comes next

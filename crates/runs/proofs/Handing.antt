@@ -30,7 +30,7 @@ use Rattle.multiplex.specs.Calls.{Link, Call, Answer, telling, sent, taken, our
 use Rattle.runs.specs.Runs.{Side, near, far, other, World, endAt, added}
 use Rattle.runs.specs.Demand.{isByLayer, withoutLast, isWaiting, whollySent}
 use Rattle.runs.specs.Carried as carried
-use Rattle.runs.specs.Carried.{Run, beginning, ending, Coding, Reception, codedBy, takenBy, overRun, unitsCoded, wholesCoded, wholesTaken, receiptsTold, wholly}
+use Rattle.runs.specs.Carried.{Run, beginning, ending, Coding, Reception, codedBy, takenBy, overRun, codings, receptions, unitsCoded, wholesTaken, receiptsTold}
 use Rattle.runs.proofs.Permitting.{by-layer}
 use Rattle.runs.proofs.Opening.{start-zero}
 use Rattle.runs.proofs.Numbering.{onChannel}
@@ -127,7 +127,7 @@ module _ {R : ℕ → ℕ → Type 0} (r : Run R) (i : Side) (n : ℕ) where
   coded : Coded 0 (overRun (codedBy n) (beginning r) i (r .events))
   coded = many-coded (rw (at-first sentOf refl refl) at (run-follows (codes n) (r .events) (beginning r) i kept (r .permitted)))
 
-  told-receipts : receiptsTold r i n ≡ receipts (wholesTaken r i n) 0
+  told-receipts : receiptsTold (receptions r i n) ≡ receipts (wholesTaken (receptions r i n)) 0
   told-receipts = many-taken (rw (at-first expectedOf refl refl) at (run-follows (takes n) (r .events) (beginning r) i kept (r .permitted)))
 
 pub numbers-follow : carried.NumbersFollow
@@ -167,8 +167,8 @@ as-sent r i n q =
 pub carried-by-AL2 : carried.CarriedByAL2
 carried-by-AL2 r i n q posted took =
     let c = coded r i n in
-    let us = unitsCoded r i n in
+    let us = unitsCoded (codings r i n) in
     let b = isWaiting (endAt (ending r) i .link .channels) n in
-    let sent : wholesTaken r (other i) n ≡ cond b (withoutLast (wholesFrom 0 us)) (wholesFrom 0 us) =
+    let sent : wholesTaken (receptions r (other i) n) ≡ cond b (withoutLast (wholesFrom 0 us)) (wholesFrom 0 us) =
     took ∙ as-sent r i n q ∙ ap (λ (l : List (List ℕ)). cond b (withoutLast l) l) (posted ∙ c .wholes) in
     told-receipts r (other i) n ∙ ap (λ (l : List (List ℕ)). receipts l 0) sent ∙ in-order-by b us (c .may)

@@ -18,5 +18,11 @@ pub mod Following
 pub mod Unbroken
 pub mod Handing
 pub mod Passed
+pub mod Packing
+pub mod Bringing
+pub mod Streaming
+pub mod Hearing
+pub mod Crossing
+pub mod Mishearing
 pub mod Theorems
 pub mod Laws

@@ -3,22 +3,25 @@
 --
 --   Run R              a run of our library: both ends fresh, and events that are permitted; octets change on the way at most as R allows
 --   ending             both ends at its end, and `beginning` at first
---   AsSent             where no octet changes on the way, each end delivers on each channel the units wholly sent at the other, in order
+--   UnitsAsSent x      each end of x has delivered on each channel the units wholly sent at the other, in order
+--   AsSent             so it is at the end of a run in which no octet changes on the way
 --   isAt i j           the end j is i
 --   Coding             a unit that AL2 sent with a number, and the octets that it wrote
 --   Reception          a whole that AL2 took with a number, and what became of it
 --   codedBy, takenBy   those of a call on channel n that is answered
 --   calledAt, overRun  what a call adds to a list, of an event at the end i, and of a run
 --   codings, receptions   those of a run, in order
---   unitsCoded, wholesCoded, wholesTaken, receiptsTold   what they have, of a run
+--   unitsCoded, wholesCoded, wholesTaken, receiptsTold   what codings and receptions have
 --   wholly e n us      of the units us, posted on channel n at the end e in some coding, those wholly sent
---   NumbersFollow      over a run AL2's numbers follow one another, at each end and on each channel: those sent, and those expected
---   CarriedByAL2       every unit coded is posted, every unit delivered is taken, and no octet changes: each unit wholly sent is handed up as
---                      it was handed in, with badge 0 and none missing
---   CarriedByPlainAL2  a unit that AL2 sent without a number is handed up so too
---   CarriedByAL1       a unit that is delivered is passed as it is, unchecked
---   CarriedByAL1M      the unit j that is delivered, whatever changed on the way, has as many octets as the one wholly sent; and where at most e
---                      of them differ, AL1M hands up the unit that was coded, with the true count, the places of those that differ and its badge
+--   FollowIn, NumbersFollow   AL2's numbers follow one another, those sent and those expected: of codings and receptions, and so over a run, at
+--                      each end and on each channel
+--   ByAL2, CarriedByAL2   every unit coded is posted, every unit delivered is taken, and no octet changes: each unit wholly sent is handed up
+--                      as it was handed in, with badge 0 and none missing; of both ends, and so at the end of a run
+--   ByPlainAL2, CarriedByPlainAL2   a unit that AL2 sent without a number is handed up so too
+--   ByAL1, CarriedByAL1   a unit that is delivered is passed as it is, unchecked
+--   ByAL1M, CarriedByAL1M   the unit j that is delivered, whatever changed on the way, has as many octets as the one wholly sent; and where at
+--                      most e of them differ, AL1M hands up the unit that was coded, with the true count, the places of those that
+--                      differ and its badge
 --   UnitToUnit         all of these, and that the unit which a layer reads where it lies in the output is the one delivered (the multiplexer's
 --                      `LiesThere`)
 --
@@ -75,10 +78,12 @@ module _ {R : ℕ → ℕ → Type 0} (r : Run R) where
   abbrev pub ending : World
   ending = run (λ before. ours) beginning (r .events)
 
+abbrev pub UnitsAsSent : World → Type 0
+UnitsAsSent x =
+    (i : Side) (n : ℕ) → endAt x (other i) .coming ≡ [] → unitsOn n (endAt x (other i) .delivered) ≡ whollySent (endAt x i) n
+
 abbrev pub AsSent : Type 0
-AsSent =
-    (r : Run _≡_) (i : Side) (n : ℕ) → endAt (ending r) (other i) .coming ≡ []
-    → unitsOn n (endAt (ending r) (other i) .delivered) ≡ whollySent (endAt (ending r) i) n
+AsSent = (r : Run _≡_) → UnitsAsSent (ending r)
 
 -- ---- AL2 over a run
 
@@ -146,56 +151,68 @@ module _ {R : ℕ → ℕ → Type 0} (r : Run R) (i : Side) (n : ℕ) where
   abbrev pub receptions : List Reception
   receptions = overRun (takenBy n) (beginning r) i (r .events)
 
-  abbrev pub unitsCoded : List (List ℕ)
-  unitsCoded = map (λ (c : Coding). c .unit) codings
+abbrev pub unitsCoded : List Coding → List (List ℕ)
+unitsCoded l = map (λ (c : Coding). c .unit) l
 
-  abbrev pub wholesCoded : List (List ℕ)
-  wholesCoded = map (λ (c : Coding). c .octets) codings
+abbrev pub wholesCoded : List Coding → List (List ℕ)
+wholesCoded l = map (λ (c : Coding). c .octets) l
 
-  abbrev pub wholesTaken : List (List ℕ)
-  wholesTaken = map (λ (c : Reception). c .octets) receptions
+abbrev pub wholesTaken : List Reception → List (List ℕ)
+wholesTaken l = map (λ (c : Reception). c .octets) l
 
-  abbrev pub receiptsTold : List (Told Receipt)
-  receiptsTold = map (λ (c : Reception). told (c .receipt)) receptions
+abbrev pub receiptsTold : List Reception → List (Told Receipt)
+receiptsTold l = map (λ (c : Reception). told (c .receipt)) l
 
 abbrev pub wholly : End → ℕ → List (List ℕ) → List (List ℕ)
 wholly e n us = cond (isWaiting (e .link .channels) n) (withoutLast us) us
 
+abbrev pub FollowIn : List Coding → List Reception → Type 0
+FollowIn coded got = (wholesCoded coded ≡ wholesFrom 0 (unitsCoded coded)) × (receiptsTold got ≡ receipts (wholesTaken got) 0)
+
 abbrev pub NumbersFollow : Type 1
-NumbersFollow =
-    (R : ℕ → ℕ → Type 0) (r : Run R) (i : Side) (n : ℕ)
-    → (wholesCoded r i n ≡ wholesFrom 0 (unitsCoded r i n)) × (receiptsTold r i n ≡ receipts (wholesTaken r i n) 0)
+NumbersFollow = (R : ℕ → ℕ → Type 0) (r : Run R) (i : Side) (n : ℕ) → FollowIn (codings r i n) (receptions r i n)
+
+-- what was coded at the end i for channel n, and what was taken at the other
+abbrev pub ByAL2 : World → (i : Side) (n : ℕ) → List Coding → List Reception → Type 0
+ByAL2 x i n coded got =
+    endAt x (other i) .coming ≡ [] → unitsOn n (endAt x i .posted) ≡ wholesCoded coded → wholesTaken got ≡ unitsOn n (endAt x (other i) .delivered)
+    → receiptsTold got ≡ inOrder 0 (wholly (endAt x i) n (unitsCoded coded))
 
 abbrev pub CarriedByAL2 : Type 0
-CarriedByAL2 =
-    (r : Run _≡_) (i : Side) (n : ℕ) → endAt (ending r) (other i) .coming ≡ []
-    → unitsOn n (endAt (ending r) i .posted) ≡ wholesCoded r i n
-    → wholesTaken r (other i) n ≡ unitsOn n (endAt (ending r) (other i) .delivered)
-    → receiptsTold r (other i) n ≡ inOrder 0 (wholly (endAt (ending r) i) n (unitsCoded r i n))
+CarriedByAL2 = (r : Run _≡_) (i : Side) (n : ℕ) → ByAL2 (ending r) i n (codings r i n) (receptions r (other i) n)
 
 -- ---- AL1 and AL1M, unit by unit
 
+abbrev pub ByAL1 : World → Type 0
+ByAL1 x =
+    (i : Side) (n : ℕ) → endAt x (other i) .coming ≡ []
+    → map passed (unitsOn n (endAt x (other i) .delivered)) ≡ map (λ (u : List ℕ). told (handed Unchecked u)) (whollySent (endAt x i) n)
+
 abbrev pub CarriedByAL1 : Type 0
-CarriedByAL1 =
-    (r : Run _≡_) (i : Side) (n : ℕ) → endAt (ending r) (other i) .coming ≡ []
-    → map passed (unitsOn n (endAt (ending r) (other i) .delivered)) ≡ map (λ (u : List ℕ). told (handed Unchecked u)) (whollySent (endAt (ending r) i) n)
+CarriedByAL1 = (r : Run _≡_) → ByAL1 (ending r)
+
+abbrev pub ByPlainAL2 : World → Type 0
+ByPlainAL2 x =
+    (i : Side) (n j e : ℕ) → endAt x (other i) .coming ≡ [] → j < length (whollySent (endAt x i) n) → (u : List ℕ) → isSendable Plain u ≡ true
+    → getD (whollySent (endAt x i) n) j [] ≡ whole Plain u
+    → received false (getD (unitsOn n (endAt x (other i) .delivered)) j []) e ≡ told (handedUp (asSent u) 0 e)
 
 abbrev pub CarriedByPlainAL2 : Type 0
-CarriedByPlainAL2 =
-    (r : Run _≡_) (i : Side) (n j e : ℕ) → endAt (ending r) (other i) .coming ≡ [] → j < length (whollySent (endAt (ending r) i) n)
-    → (u : List ℕ) → isSendable Plain u ≡ true → getD (whollySent (endAt (ending r) i) n) j [] ≡ whole Plain u
-    → received false (getD (unitsOn n (endAt (ending r) (other i) .delivered)) j []) e ≡ told (handedUp (asSent u) 0 e)
+CarriedByPlainAL2 = (r : Run _≡_) → ByPlainAL2 (ending r)
 
-abbrev pub CarriedByAL1M : Type 1
-CarriedByAL1M =
-    (R : ℕ → ℕ → Type 0) (r : Run R) (i : Side) (n j : ℕ) → endAt (ending r) (other i) .coming ≡ [] → j < length (whollySent (endAt (ending r) i) n)
+abbrev pub ByAL1M : World → Type 0
+ByAL1M x =
+    (i : Side) (n j : ℕ) → endAt x (other i) .coming ≡ [] → j < length (whollySent (endAt x i) n)
     → (b e m : ℕ) (u room out w : List ℕ) (before after : RepairLent) (a : Received) → Sends b e u room (sends.Octets m) out
-    → getD (whollySent (endAt (ending r) i) n) j [] ≡ take m out → getD (unitsOn n (endAt (ending r) (other i) .delivered)) j [] ≡ w
+    → getD (whollySent (endAt x i) n) j [] ≡ take m out → getD (unitsOn n (endAt x (other i) .delivered)) j [] ≡ w
     → (length w ≡ m)
     × (distance w (take m out) ≤ e → m ≤ length (before .repair) → e ≤ length (before .places) → Receives b e w before a after
     → (a ≡ al1m.Unit (record { badge = badgeOfSent (kindAt b) e (distance w (take m out)); changed = distance w (take m out); length = length u }))
     × (handedUnit (badgeOfSent (kindAt b) e (distance w (take m out))) w (after .repair) (length u) ≡ u)
     × (take (distance w (take m out)) (after .places) ≡ changedPlaces w (take m out)))
+
+abbrev pub CarriedByAL1M : Type 1
+CarriedByAL1M = (R : ℕ → ℕ → Type 0) (r : Run R) → ByAL1M (ending r)
 
 pub record UnitToUnit : Type 1 where
   pub asSent : AsSent

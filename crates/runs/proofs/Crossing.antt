@@ -1,0 +1,83 @@
+-- From packets to units: what is claimed of runs, of runs over packets.
+--
+--   parcel-run         a run over packets as a run
+--   on-way-packable    what is on its way can be written
+--   packets-as-sent, packet-numbers, packets-by-AL1, packets-by-AL2, packets-by-plain-AL2, packets-by-AL1M   the claims
+--
+-- Assumes nothing.
+use mathlib.Core.Path.{_≡_, refl, subst}
+use mathlib.Core.List.{List, map}
+use Prim.Native.Nat.{ℕ}
+use Rattle.multiplex.specs.Calls.{Call, Answer, ours}
+use Rattle.runs.specs.Runs.{Side, other, World, run}
+use Rattle.runs.specs.Demand.{PermittedAll}
+use Rattle.runs.specs.Carried.{Run, ending, Coding, Reception, codedBy, takenBy, overRun, codings}
+use Rattle.runs.specs.Carried.{UnitsAsSent, FollowIn, ByAL1, ByAL2, ByPlainAL2, ByAL1M}
+use Rattle.runs.specs.OverPackets.{PacketRun, packetBeginning, packetEnding, parcelEvent, Simulated, OnWayPackable, overPackets}
+use Rattle.runs.specs.OverPackets.{packetCodings, packetReceptions, PacketsAsSent, PacketNumbers}
+use Rattle.runs.specs.OverPackets.{PacketsByAL1, PacketsByAL2, PacketsByPlainAL2, PacketsByAL1M}
+use Rattle.runs.proofs.Handing.{as-sent, numbers-follow, carried-by-AL2}
+use Rattle.runs.proofs.Passed.{carried-by-AL1, carried-by-plain-AL2, carried-by-AL1M}
+use Rattle.runs.proofs.Packing.{WorldPackable}
+use Rattle.runs.proofs.Hearing.{run-same, calls-same, first-packable}
+
+module _ {R : ℕ → ℕ → Type 0} (r : PacketRun R) where
+  at-first : WorldPackable (packetBeginning r)
+  at-first = first-packable (r .held) (r .waiting) (r .held′) (r .waiting′)
+
+  all : PermittedAll R (λ j. ours) (packetBeginning r) (map parcelEvent (r .events))
+      × (run (λ j. ours) (packetBeginning r) (map parcelEvent (r .events)) ≡ packetEnding r)
+      × WorldPackable (packetEnding r)
+  all = run-same R (r .events) (packetBeginning r) at-first (r .permitted)
+
+  abbrev whole : Run R
+  whole = record {
+    held = r .held;
+    waiting = r .waiting;
+    held′ = r .held′;
+    waiting′ = r .waiting′;
+    heldRoom = r .heldRoom;
+    waitingRoom = r .waitingRoom;
+    heldRoom′ = r .heldRoom′;
+    waitingRoom′ = r .waitingRoom′;
+    events = map parcelEvent (r .events);
+    permitted = all .0;
+  }
+
+  ended : (P : World → Type 0) → P (ending whole) → P (packetEnding r)
+  ended P = subst P (all .1)
+
+  -- what AL2 sent and took is the same
+  listed : {A : Type 0} (f : Call → Answer → List A) (i : Side)
+      → overRun f (packetBeginning r) i (map parcelEvent (r .events)) ≡ overPackets f (packetBeginning r) i (r .events)
+  listed f i = calls-same f i R (r .events) (packetBeginning r) at-first (r .permitted)
+
+pub parcel-run : Simulated
+parcel-run R r = record { run = whole r; events = refl; begins = refl; ends = all r .1 }
+
+pub on-way-packable : OnWayPackable
+on-way-packable R r = all r .2
+
+pub packets-as-sent : PacketsAsSent
+packets-as-sent r = ended r UnitsAsSent (as-sent (whole r))
+
+pub packet-numbers : PacketNumbers
+packet-numbers R r i n =
+    subst (λ (l : List Coding). FollowIn l (packetReceptions r i n)) (listed r (codedBy n) i)
+    (subst (λ (l : List Reception). FollowIn (codings (whole r) i n) l) (listed r (takenBy n) i) (numbers-follow R (whole r) i n))
+
+pub packets-by-AL1 : PacketsByAL1
+packets-by-AL1 r = ended r ByAL1 (carried-by-AL1 (whole r))
+
+pub packets-by-AL2 : PacketsByAL2
+packets-by-AL2 r i n =
+    let x = ending (whole r) in
+    ended r (λ (y : World). ByAL2 y i n (packetCodings r i n) (packetReceptions r (other i) n))
+    (subst (λ (l : List Coding). ByAL2 x i n l (packetReceptions r (other i) n)) (listed r (codedBy n) i)
+    (subst (λ (l : List Reception). ByAL2 x i n (codings (whole r) i n) l) (listed r (takenBy n) (other i)) (carried-by-AL2 (whole r) i n)))
+
+pub packets-by-plain-AL2 : PacketsByPlainAL2
+packets-by-plain-AL2 r = ended r ByPlainAL2 (carried-by-plain-AL2 (whole r))
+
+pub packets-by-AL1M : PacketsByAL1M
+packets-by-AL1M R r = ended r ByAL1M (carried-by-AL1M R (whole r))

@@ -1,0 +1,59 @@
+-- Packets one behind another, the closing flag of each being the next one's first.
+--
+--   stream-brings      a stream brings its first payload, and the others from where the next packet's flag lies
+--   stream-written     packets that were written one behind another are a stream
+--   stream-read        reading in turn reads each payload,
+--   stream-read-back   and of packets as they were written exactly these
+--
+-- Assumes nothing.
+use mathlib.Core.Path.{_≡_, refl, sym, ap, subst, _∙_}
+use mathlib.Core.Bool.{Bool}
+use mathlib.Core.List.{List, [], _∷_, _++_, append-assoc}
+use Prim.Native.Nat.{ℕ}
+use lib.ListN.{length, drop}
+use Rattle.octets.specs.Each.{Each, each-none, each-more, each-map, each-same}
+use Rattle.calls.specs.Refusal.{Told}
+use Rattle.packets.specs.Flag.{flagOf}
+use Rattle.packets.specs.Header.{headerOf}
+use Rattle.packets.specs.Packet.{Heading, read}
+use Rattle.runs.specs.Runs.{Parcel, added}
+use Rattle.runs.specs.Packets.{Body, Brings, stream-none, stream-more, bodiesOf, parcelAt, readAll, ParcelAlike}
+use Rattle.runs.specs.OverPackets.{StreamBrings, StreamWritten, StreamRead, StreamReadBack}
+use Rattle.runs.proofs.Bringing.{brought-next, brought-read, brought-alike, body-written}
+
+abbrev opened : {R : ℕ → ℕ → Type 0} {q : Parcel} {v w : List ℕ} → (o : Bool) → Body R q v w → Brings R q (flagOf o ++ v)
+opened {v = v} {w = w} o b = record { opens = o; behind = v; rest = w; is = refl; body = b }
+
+pub stream-brings : StreamBrings
+stream-brings R o q qs v (stream-more b s) = (opened o b, (_, brought-next (opened o b), s))
+
+pub stream-written : StreamWritten
+unfolding bodiesOf
+stream-written R r [] rest = stream-none
+stream-written R r (q ∷ qs) rest =
+    stream-more
+    (subst (λ (v : List ℕ). Body R q v (bodiesOf qs ++ rest))
+    (sym (append-assoc (headerOf (q .code) (length (q .octets)) ++ q .octets ++ flagOf (q .mark)) (bodiesOf qs) rest))
+    (body-written R r q (bodiesOf qs ++ rest))) (stream-written R r qs rest)
+
+pub stream-read : StreamRead
+unfolding readAll
+stream-read R o [] v a stream-none = each-none
+stream-read R o (q ∷ qs) v a (stream-more {w = w} b s) =
+    let u = flagOf o ++ v in
+    let k = opened o b in
+    subst (λ (t : Told Heading). Each (ParcelAlike R) (q ∷ qs) (added t (λ p. parcelAt p u ∷ readAll read (length qs) (drop (p .next) u))))
+    (sym (brought-read k (a .0)))
+    (each-more (brought-alike k)
+    (subst (λ (l : List ℕ). Each (ParcelAlike R) qs (readAll read (length qs) l)) (sym (brought-next k)) (stream-read R (q .mark) qs w (a .1) s)))
+
+alike-same : (q p : Parcel) → ParcelAlike _≡_ q p → q ≡ p
+alike-same q p a =
+    ap (λ (c : ℕ). record { code = c; mark = q .mark; octets = q .octets }) (a .code)
+    ∙ ap (λ (m : Bool). record { code = p .code; mark = m; octets = q .octets }) (a .mark)
+    ∙ ap (λ (l : List ℕ). record { code = p .code; mark = p .mark; octets = l }) (each-same (a .octets))
+
+pub stream-read-back : StreamReadBack
+stream-read-back o qs rest a =
+    ap (readAll read (length qs)) (append-assoc (flagOf o) (bodiesOf qs) rest)
+    ∙ sym (each-same (each-map alike-same (stream-read _≡_ o qs (bodiesOf qs ++ rest) a (stream-written _≡_ (λ x. refl) qs rest))))

@@ -1,0 +1,188 @@
+-- What is claimed of runs over packets (document 02, ticket 4): demands 2 and 3 from packets to units, where flags are intact and at most three bits
+-- of each header are wrong. proofs/Theorems.antt proves each claim.
+--
+--   PacketRun R        a run of our library and our reader: both ends fresh, and packet events that are permitted
+--   packetBeginning, packetEnding   both ends at first, and at its end
+--   payloadIn t u      the payload that was read in u
+--   parcelEvent        a packet event as an event: the payload that was read arrives
+--   ParcelRun r        the run r event by event, with the payloads that were read, is a run of specs/Demand.antt with the same ends
+--   Simulated          every run over packets is one, so that everything said of runs is said of it
+--   OnWayPackable      what is on its way at the end of a run can be written as a packet
+--   packetCalled, overPackets   what a call adds to a list, of an event at the end i, and of a run over packets
+--   packetCodings, packetReceptions   what AL2 sent and took with a number in it, in order
+--   PacketsAsSent      where no octet of a payload changes, each end delivers on each channel the units wholly sent at the other, in order
+--   PacketNumbers, PacketsByAL2, PacketsByPlainAL2, PacketsByAL1, PacketsByAL1M   what specs/Carried.antt claims of runs, of runs over packets.
+--                      The last is demand 3: unit j delivered, at most e octets of it changed, is handed up as it was sent
+--   WrittenBrings      what `write` writes, with anything behind it, brings the payload that was handed in
+--   StreamBrings       a stream brings its first payload; and from where the next packet's flag lies, which is its closing flag, the others
+--   StreamWritten      packets that were written one behind another are a stream, with anything behind them
+--   StreamRead         reading a stream in turn reads each payload, in order, with its code and mark
+--   StreamReadBack     .. and of one as it was written exactly these
+--   deaf k             a reader that refuses everything, with number k
+--   marked m t         what was read, with m for its mark
+--   byOpening          a reader that takes the mark from the flag that opens the packet
+--   spotless h t       what was read of the header h, or refusal 17 where a bit of it is wrong
+--   exacting           a reader that reads no header of which a bit is wrong
+--   WrongReadersFail   none of these meets the demand
+--   OverPackets        all of these
+--
+-- Assumes nothing.
+use mathlib.Core.Path.{_≡_}
+use mathlib.Core.Bool.{Bool, true, cond}
+use mathlib.Core.List.{List, [], _∷_, _++_, map}
+use Prim.Native.Nat.{ℕ}
+use lib.ListN.{length, take, drop}
+use Rattle.octets.specs.Same.{same}
+use Rattle.octets.specs.Each.{Each}
+use Rattle.calls.specs.Refusal.{Told, refused, told, leaving}
+use Rattle.channels.specs.Channels.{allOctets}
+use Rattle.packets.specs.Flag.{flagOf, isFlag}
+use Rattle.packets.specs.Header.{headerOf}
+use Rattle.packets.specs.Packet.{Heading, heading, wrote, read}
+use Rattle.multiplex.specs.Calls.{Call, Answer}
+use Rattle.runs.specs.Runs.{Side, other, Parcel, World, endAt, begin, Event, arrives}
+use Rattle.runs.specs.Carried.{Run, beginning, ending, Coding, Reception, codedBy, takenBy, calledAt}
+use Rattle.runs.specs.Carried.{FollowIn, UnitsAsSent, ByAL1, ByAL2, ByPlainAL2, ByAL1M}
+use Rattle.runs.specs.Packets.{Brings, AllPackable, Stream, bodiesOf, streamOf, Reader, parcelAt, readAll, ParcelAlike}
+use Rattle.runs.specs.Hearing.{PacketEvent, does, hears, packetStep, packetRun, PacketsPermitted, PacketDemand}
+
+-- ---- a run over packets
+
+pub record PacketRun (R : ℕ → ℕ → Type 0) : Type 0 where
+  pub held : List ℕ
+  pub waiting : List ℕ
+  pub held′ : List ℕ
+  pub waiting′ : List ℕ
+  pub heldRoom : length held ≡ allOctets
+  pub waitingRoom : length waiting ≡ allOctets
+  pub heldRoom′ : length held′ ≡ allOctets
+  pub waitingRoom′ : length waiting′ ≡ allOctets
+  pub events : List PacketEvent
+  pub permitted : PacketsPermitted R read (begin held waiting held′ waiting′) events
+
+module _ {R : ℕ → ℕ → Type 0} (r : PacketRun R) where
+  abbrev pub packetBeginning : World
+  packetBeginning = begin (r .held) (r .waiting) (r .held′) (r .waiting′)
+
+  abbrev pub packetEnding : World
+  packetEnding = packetRun read packetBeginning (r .events)
+
+abbrev pub payloadIn : Told Heading → List ℕ → List ℕ
+payloadIn (refused k) u = []
+payloadIn (told p) u = parcelAt p u .octets
+
+abbrev pub parcelEvent : PacketEvent → Event
+parcelEvent (does e) = e
+parcelEvent (hears i u output units) = arrives i (payloadIn (read u) u) output units
+
+pub record ParcelRun {R : ℕ → ℕ → Type 0} (r : PacketRun R) : Type 0 where
+  pub run : Run R
+  pub events : run .events ≡ map parcelEvent (r .events)
+  pub begins : beginning run ≡ packetBeginning r
+  pub ends : ending run ≡ packetEnding r
+
+abbrev pub Simulated : Type 1
+Simulated = (R : ℕ → ℕ → Type 0) (r : PacketRun R) → ParcelRun r
+
+abbrev pub OnWayPackable : Type 1
+OnWayPackable = (R : ℕ → ℕ → Type 0) (r : PacketRun R) (i : Side) → AllPackable (endAt (packetEnding r) i .coming)
+
+-- ---- from packets to units
+
+abbrev pub packetCalled : {A : Type 0} → (Call → Answer → List A) → World → Side → PacketEvent → List A
+packetCalled f x i (does e) = calledAt f x i e
+packetCalled f x i (hears j u output units) = []
+
+unfoldable pub overPackets : {A : Type 0} → (Call → Answer → List A) → World → Side → List PacketEvent → List A
+overPackets f x i [] = []
+overPackets f x i (e ∷ es) = packetCalled f x i e ++ overPackets f (packetStep read x e) i es
+
+module _ {R : ℕ → ℕ → Type 0} (r : PacketRun R) (i : Side) (n : ℕ) where
+  abbrev pub packetCodings : List Coding
+  packetCodings = overPackets (codedBy n) (packetBeginning r) i (r .events)
+
+  abbrev pub packetReceptions : List Reception
+  packetReceptions = overPackets (takenBy n) (packetBeginning r) i (r .events)
+
+abbrev pub PacketsAsSent : Type 0
+PacketsAsSent = (r : PacketRun _≡_) → UnitsAsSent (packetEnding r)
+
+abbrev pub PacketNumbers : Type 1
+PacketNumbers = (R : ℕ → ℕ → Type 0) (r : PacketRun R) (i : Side) (n : ℕ) → FollowIn (packetCodings r i n) (packetReceptions r i n)
+
+abbrev pub PacketsByAL2 : Type 0
+PacketsByAL2 = (r : PacketRun _≡_) (i : Side) (n : ℕ) → ByAL2 (packetEnding r) i n (packetCodings r i n) (packetReceptions r (other i) n)
+
+abbrev pub PacketsByPlainAL2 : Type 0
+PacketsByPlainAL2 = (r : PacketRun _≡_) → ByPlainAL2 (packetEnding r)
+
+abbrev pub PacketsByAL1 : Type 0
+PacketsByAL1 = (r : PacketRun _≡_) → ByAL1 (packetEnding r)
+
+abbrev pub PacketsByAL1M : Type 1
+PacketsByAL1M = (R : ℕ → ℕ → Type 0) (r : PacketRun R) → ByAL1M (packetEnding r)
+
+-- ---- packets as they are written, and one behind another
+
+abbrev pub WrittenBrings : Type 1
+WrittenBrings =
+    (R : ℕ → ℕ → Type 0) → ((a : ℕ) → R a a) → (o : Bool) (c : ℕ) (m : Bool) (xs before after rest : List ℕ) (n : ℕ)
+    → wrote o c m xs before ≡ leaving n after → Brings R (record { code = c; mark = m; octets = xs }) (take n after ++ rest)
+
+abbrev pub StreamBrings : Type 1
+StreamBrings =
+    (R : ℕ → ℕ → Type 0) (o : Bool) (q : Parcel) (qs : List Parcel) (v : List ℕ) → Stream R (q ∷ qs) v
+    → Brings R q (flagOf o ++ v)
+    × ((w : List ℕ) × (drop (heading (q .code) (q .mark) (length (q .octets)) .next) (flagOf o ++ v) ≡ flagOf (q .mark) ++ w) × Stream R qs w)
+
+abbrev pub StreamWritten : Type 1
+StreamWritten = (R : ℕ → ℕ → Type 0) → ((a : ℕ) → R a a) → (qs : List Parcel) (rest : List ℕ) → Stream R qs (bodiesOf qs ++ rest)
+
+abbrev pub StreamRead : Type 1
+StreamRead =
+    (R : ℕ → ℕ → Type 0) (o : Bool) (qs : List Parcel) (v : List ℕ) → AllPackable qs → Stream R qs v
+    → Each (ParcelAlike R) qs (readAll read (length qs) (flagOf o ++ v))
+
+abbrev pub StreamReadBack : Type 0
+StreamReadBack = (o : Bool) (qs : List Parcel) (rest : List ℕ) → AllPackable qs → readAll read (length qs) (streamOf o qs ++ rest) ≡ qs
+
+-- ---- wrong readers
+
+abbrev pub deaf : ℕ → Reader
+deaf k u = refused k
+
+abbrev pub marked : Bool → Told Heading → Told Heading
+marked m (refused k) = refused k
+marked m (told p) = told (heading (p .code) m (p .length))
+
+abbrev pub byOpening : Reader
+byOpening u = marked (isFlag true u) (read u)
+
+abbrev pub spotless : (header : List ℕ) → Told Heading → Told Heading
+spotless h (refused k) = refused k
+spotless h (told p) = cond (same h (headerOf (p .code) (p .length))) (told p) (refused 17)
+
+abbrev pub exacting : Reader
+exacting u = spotless (take 3 (drop 2 u)) (read u)
+
+pub record WrongReadersFail : Type 1 where
+  pub deafFails : (k : ℕ) → PacketDemand (deaf k) → ⊥
+  pub byOpeningFails : PacketDemand byOpening → ⊥
+  pub exactingFails : PacketDemand exacting → ⊥
+
+pub record OverPackets : Type 1 where
+  pub simulated : Simulated
+  pub packable : OnWayPackable
+  pub demand : PacketDemand read
+  pub asSent : PacketsAsSent
+  pub numbers : PacketNumbers
+  pub byAL1 : PacketsByAL1
+  pub byAL2 : PacketsByAL2
+  pub byPlainAL2 : PacketsByPlainAL2
+  pub byAL1M : PacketsByAL1M
+  pub written : WrittenBrings
+  pub streamBrings : StreamBrings
+  pub streamWritten : StreamWritten
+  pub streamRead : StreamRead
+  pub streamReadBack : StreamReadBack
+  pub wrongReaders : WrongReadersFail
