@@ -1,12 +1,17 @@
 #!/usr/bin/env python3
 """The demonstration's call by the model of gateway.py: what crates/demo should print."""
 import gateway as model
+import packets
 
 ROUNDS, ROOM = 100, 90
 UNITS = {0: 12, 1: 20, 2: 30, 3: 100, 4: 10}
 AL1M = {1: (8, 2), 3: (16, 8), 4: (8, 1)}
 LAYERS = ['AL1', 'AL1M check 8, e 2', 'AL2 numbered', 'AL1M check 16, e 8', 'AL1M check 8, e 1']
 ENTRIES = ['{LCN1,RC25},{{LCN2,RC1},{LCN3,RC3},RC UCF}', '{LCN4,RC13},{{LCN2,RC2},{LCN3,RC6},{LCN0,RC1},RC UCF}', '{LCN3,RC UCF}', '{LCN2,RC UCF}']
+
+BECAME = {'undamaged': 'came with an undamaged header', 'wrong bits': 'were read through wrong bits of the header, at most three',
+          'another': 'were read as another packet', 17: 'were refused 17: no header within three bits of what came',
+          15: 'were refused 15: no closing flag where the header says', 2: 'were refused 2: a length of 255'}
 
 
 def end():
@@ -29,19 +34,53 @@ def noises():
         yield x
 
 
+def damage(packet, length, noise):
+    """Turns bits of a packet's header, hits octets of its payload and leaves its flags: how many bits, and how many octets."""
+    wrong = damaged = 0
+    for k, x in zip(range(24), noise):
+        if x % 20 == 0:
+            packet[2 + k // 8] ^= 1 << k % 8
+            wrong += 1
+    for k, x in zip(range(length), noise):
+        if x % 24 == 0:
+            packet[5 + k] ^= x // 24 % 255 + 1
+            damaged += 1
+    return wrong, damaged
+
+
 def call():
     near, far, noise = end(), end(), noises()
-    payloads = octets = damaged = differs = 0
+    octets = damaged = differs = 0
+    became = dict.fromkeys(BECAME, 0)
+    opens = False
     table = {n: [0] * 7 for n in UNITS}  # units, the five badges, octets repaired
     example = []
 
     def take(channel, whole):
-        if channel in AL1M:
-            return model.receive(whole, *AL1M[channel], 255, 127)
-        if channel == 0:
-            return 4, whole, []
-        badge, _, content = far.take(channel, True, whole)
-        return badge, content, []
+        """Badge, unit and changed places, or None where the layer hands nothing up."""
+        try:
+            if channel in AL1M:
+                return model.receive(whole, *AL1M[channel], 255, 127)
+            if channel == 0:
+                return 4, whole, []
+            taken = far.take(channel, True, whole)
+        except model.Refused:
+            return None
+        return taken and (taken[0], taken[2], [])
+
+    def read(sent, wrong, packet):
+        """What the far end demultiplexes of a packet."""
+        try:
+            got = packets.read(packet)[:3]
+        except packets.Refused as refusal:
+            became[refusal.args[0]] += 1
+            return []
+        as_sent = (got[0], got[1], len(got[2])) == sent
+        became['another' if not as_sent else 'wrong bits' if wrong else 'undamaged'] += 1
+        try:
+            return far.demux(*got, 1280, 255)
+        except model.Refused:
+            return []
 
     for round_ in range(ROUNDS):
         for n in UNITS:
@@ -57,22 +96,24 @@ def call():
                     mark, payload = near.mux(code, ROOM, 255)
                 except model.Refused:
                     break
-                payloads += 1
+                packet = packets.write(opens, code, mark, payload, 261)
+                opens = mark
+                wrong, hits = damage(packet, len(payload), noise)
                 octets += len(payload)
-                for k, x in zip(range(len(payload)), noise):
-                    if x % 24 == 0:
-                        payload[k] ^= x // 24 % 255 + 1
-                        damaged += 1
-                for n, whole in far.demux(code, mark, payload, 1280, 255):
-                    badge, content, places = take(n, whole)
+                damaged += hits
+                for n, whole in read((code, mark, len(payload)), wrong, packet):
                     row = table[n]
                     row[0] += 1
+                    taken = take(n, whole)
+                    if taken is None:
+                        continue
+                    badge, content, places = taken
                     row[1 + badge] += 1
                     row[6] += len(places) if badge == 1 else 0
                     differs += badge in (0, 1) and content != unit(n, round_)
                     if not example and (n, badge, len(places)) == (1, 1, 2):
                         example = shown(whole, model.encode(unit(n, round_), *AL1M[n], 255), places)
-    return payloads, octets, damaged, table, differs, example
+    return became, octets, damaged, table, differs, example
 
 
 def shown(received, sent, places):
@@ -85,10 +126,15 @@ def shown(received, sent, places):
 
 
 def text():
-    payloads, octets, damaged, table, differs, example = call()
-    lines = example + ['A call: %d payloads, %d octets on the way, %d of them damaged.' % (payloads, octets, damaged), '',
-             'channel  layer               units  clean  corrected  out of reach  check failed  unchecked  octets repaired']
+    became, octets, damaged, table, differs, example = call()
+    lines = example + ['A call: %d units on each channel, in %d packets; %d octets of payload on the way, %d of them damaged.'
+                       % (ROUNDS, sum(became.values()), octets, damaged), 'Flags came intact, headers with some bits wrong.', '', 'packets']
+    lines += ['%7d  %s' % (n, BECAME[what]) for what, n in became.items()]
+    lines += ['', 'channel  layer               units  clean  corrected  out of reach  check failed  unchecked  octets repaired']
     lines += ['%7d  %-19s%6d%7d%11d%14d%14d%11d%17d' % (n, LAYERS[n], *table[n]) for n in table]
+    refused = sum(became[k] for k in (17, 15, 2))
+    lines += ['', 'The %d refused packets were lost with what they carried. Where one carried the end of a unit, the channel has' % refused,
+              'a unit fewer, and what had come of that unit was held for the next.']
     lines += ['', 'Units with a green badge (clean or corrected) that differ from what was sent: %s.' % (differs or 'none')]
     return ''.join(line + '\n' for line in lines)
 

@@ -12,7 +12,7 @@
 --   3  specs/Repairs.antt, `Demand3`: a repaired word is found exactly when a code word lies within e octets, never a second one, and the places of
 --      what was repaired are told (document 02, ticket 2)
 --   1 and 3 of what the C host calls: specs/Host.antt, `Host`
---   2 and 3 from packets to units (document 02, ticket 4): `OverPackets` in the specs/Packets.antt of `runs`; of packets by themselves `Packets` in the
+--   2 and 3 from packets to units (document 02, ticket 4): `OverPackets` in the specs/OverPackets.antt of `runs`; of packets by themselves `Packets` in the
 --   specs/Claims.antt of `packets`, and of the code of their headers `Golay` in that of `golay`
 -- and of the call record (document 02, ticket 1): `Recording` in the specs/Claims.antt of `record`, with its form in specs/Form.antt there.
 --
@@ -20,7 +20,7 @@
 use Rattle.record.specs.Claims.{Recording}
 use Rattle.golay.specs.Claims.{Golay}
 use Rattle.packets.specs.Claims.{Packets}
-use Rattle.runs.specs.Packets.{OverPackets}
+use Rattle.runs.specs.OverPackets.{OverPackets}
 use Rattle.runs.specs.Claims.{DemandMet}
 use Rattle.runs.specs.Carried.{UnitToUnit}
 use Rattle.multiplex.specs.Calls.{AlwaysSound}

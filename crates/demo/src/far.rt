@@ -120,7 +120,8 @@ fn by_al1m(
     }
 }
 
-// Judges a channel's unit of a round, which lies at `start` in the output.
+// Judges a channel's unit of a round, which lies at `start` in the output. All that waits is sent in its round, so a unit that comes to an end is
+// compared with the one sent in that round: it differs also where a part of it was lost, or where it was joined to one whose end was lost.
 pub fn judge(
     s: Channels,
     number: ChannelNumber,

@@ -5,6 +5,9 @@ use table::Code;
 // How many channels there are; they are numbered from 0.
 pub const CHANNELS: u16 = 5;
 
+// How many units each channel sends: one a round.
+pub const ROUNDS: usize = 100;
+
 pub const CONTROL: u16 = 0;
 
 pub const DATA: u16 = 2;

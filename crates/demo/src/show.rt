@@ -1,4 +1,6 @@
-// The table.
+// What became of the call: of its packets, and a table of its units.
+use crate::link::Link;
+use crate::packet::Counts;
 use crate::plan;
 use crate::tally;
 use crate::tally::Tally;
@@ -67,21 +69,57 @@ fn rows(t: Tally) {
     }
 }
 
-// What became of the call.
-pub fn summary(call: Call) {
-    let t = call.tally;
-    text(b"A call: ");
-    number(call.payloads);
-    text(b" payloads, ");
-    number(call.octets);
-    text(b" octets on the way, ");
-    number(call.damaged);
-    text(b" of them damaged.\n\n");
-    text(
-        b"channel  layer               units  clean  corrected  out of reach  check failed  unchecked  octets repaired\n",
+// A line of what became of the packets.
+fn packets_row(n: u32, what: &[u8]) {
+    cell(n, 7);
+    text(what);
+}
+
+// What became of the packets.
+fn packets_rows(p: Counts) {
+    text(b"packets\n");
+    packets_row(p.undamaged, b"  came with an undamaged header\n");
+    packets_row(
+        p.through_wrong_bits,
+        b"  were read through wrong bits of the header, at most three\n",
     );
-    rows(t);
-    let n = wrongly_green(t);
+    packets_row(p.as_another, b"  were read as another packet\n");
+    packets_row(
+        p.refused_17,
+        b"  were refused 17: no header within three bits of what came\n",
+    );
+    packets_row(
+        p.refused_15,
+        b"  were refused 15: no closing flag where the header says\n",
+    );
+    packets_row(p.refused_2, b"  were refused 2: a length of 255\n\n");
+}
+
+// What was sent, and what the link did to it.
+fn head(p: Counts, link: Link) {
+    text(b"A call: ");
+    number(plan::ROUNDS as u32);
+    text(b" units on each channel, in ");
+    number(p.sent);
+    text(b" packets; ");
+    number(link.octets);
+    text(b" octets of payload on the way, ");
+    number(link.damaged);
+    text(b" of them damaged.\nFlags came intact, headers with some bits wrong.\n\n");
+}
+
+// What the refused packets did to the units.
+fn lost(p: Counts) {
+    text(b"\nThe ");
+    number(tally::plus(tally::plus(p.refused_17, p.refused_15), p.refused_2));
+    text(
+        b" refused packets were lost with what they carried. Where one carried the end of a unit, the channel has\n",
+    );
+    text(b"a unit fewer, and what had come of that unit was held for the next.\n");
+}
+
+// How many units with a green badge differ.
+fn foot(n: u32) {
     text(b"\nUnits with a green badge (clean or corrected) that differ from what was sent: ");
     if n == 0 {
         text(b"none.\n");
@@ -89,4 +127,19 @@ pub fn summary(call: Call) {
     }
     number(n);
     text(b".\n");
+}
+
+// What became of the call.
+pub fn summary(call: Call) {
+    let p = call.packets;
+    let link = call.link;
+    let t = call.tally;
+    head(p, link);
+    packets_rows(p);
+    text(
+        b"channel  layer               units  clean  corrected  out of reach  check failed  unchecked  octets repaired\n",
+    );
+    rows(t);
+    lost(p);
+    foot(wrongly_green(t));
 }

@@ -1,7 +1,12 @@
-// The way from the near end to the far end: payloads, and the damage to them.
+// The way from the near end to the far end: payloads, each in a packet.
 use crate::example;
 use crate::far;
 use crate::far::Verdict;
+use crate::link;
+use crate::link::LONGEST_PACKET;
+use crate::link::Link;
+use crate::packet;
+use crate::packet::Counts;
 use crate::plan;
 use crate::tally;
 use crate::tally::Tally;
@@ -17,22 +22,21 @@ use multiplex::units;
 use multiplex::units::ENOUGH_OUTPUT;
 use multiplex::units::ENOUGH_UNITS;
 use multiplex::units::Listed;
+use packets::Reading;
 use table::Code;
 use table::LONGEST_PAYLOAD;
 use table::TABLE_NUMBERS;
 
-// The octets of a payload, at most.
+// The octets of a payload, at most; a packet has room for 254.
 const ROOM: usize = 90;
 
-// A call: the channels at both ends; the noise that the next octet meets; how many payloads and octets were carried, and how many
-// octets damaged; what became of the units; and whether one of them has been shown.
+// A call: the channels at both ends; the link between them; how many packets went over it; what became of the units; and whether one of
+// them has been shown.
 pub struct Call {
     pub near: Channels,
     pub far: Channels,
-    pub noise: u32,
-    pub payloads: u32,
-    pub octets: u32,
-    pub damaged: u32,
+    pub link: Link,
+    pub packets: Counts,
     pub tally: Tally,
     pub shown: bool,
 }
@@ -53,10 +57,8 @@ pub fn start() -> Call {
     Call {
         near: open_all(),
         far: open_all(),
-        noise: 1,
-        payloads: 0,
-        octets: 0,
-        damaged: 0,
+        link: link::new(),
+        packets: packet::none(),
         tally: tally::new(),
         shown: false,
     }
@@ -65,48 +67,6 @@ pub fn start() -> Call {
 pub fn with_near(call: Call, near: Channels) -> Call {
     let mut next = call;
     next.near = near;
-    next
-}
-
-// The noise that follows: the multiplier and the modulus of Park and Miller.
-fn follow(noise: u32) -> u32 {
-    ((noise as u64) * 16807 % 2147483647) as u32
-}
-
-// What the noise does to an octet: one in 24 is hit.
-fn hit(noise: u32, octet: u8) -> u8 {
-    if noise % 24 == 0 {
-        return octet ^ ((noise / 24 % 255) as u8 + 1);
-    }
-    octet
-}
-
-// Damages one octet.
-fn damage_one(call: Call, payload: &mut [u8; LONGEST_PAYLOAD], i: usize) -> Call {
-    let mut next = call;
-    if LONGEST_PAYLOAD <= i {
-        return next;
-    }
-    let old = payload[i];
-    let noise = follow(call.noise);
-    let new = hit(noise, old);
-    payload[i] = new;
-    next.noise = noise;
-    next.octets = tally::plus(call.octets, 1);
-    if new != old {
-        next.damaged = tally::plus(call.damaged, 1);
-    }
-    next
-}
-
-// Damages the n octets of a payload.
-fn damage(call: Call, payload: &mut [u8; LONGEST_PAYLOAD], n: usize) -> Call {
-    let mut next = call;
-    let mut i = 0;
-    while i < n {
-        next = damage_one(next, payload, i);
-        i += 1;
-    }
     next
 }
 
@@ -163,7 +123,7 @@ fn judge_all(
 fn deliver(
     call: Call,
     round: usize,
-    code: u32,
+    code: Code,
     mark: bool,
     payload: &[u8],
     held: &mut [u8; ALL_OCTETS],
@@ -177,7 +137,7 @@ fn deliver(
         before,
         held,
         table,
-        Code(code),
+        code,
         mark,
         payload,
         &mut output,
@@ -189,6 +149,41 @@ fn deliver(
     match finished {
         Finished::Units(n) => judge_all(next, round, n, &output, &units),
         Finished::Refused(_) => next,
+    }
+}
+
+// Sends a payload in a packet, and demultiplexes what the far end reads; a packet that is refused is lost.
+fn pass(
+    call: Call,
+    round: usize,
+    code: Code,
+    mark: bool,
+    payload: &[u8],
+    held: &mut [u8; ALL_OCTETS],
+    table: &[u16; TABLE_NUMBERS],
+) -> Call {
+    let mut packet = [0u8; LONGEST_PACKET];
+    let mut next = call;
+    let before = call.link;
+    let came = packet::send(before, code, mark, payload, &mut packet);
+    let after = came.link;
+    next.link = after;
+    let received = packet::received(&packet, came.octets);
+    let reading = packets::read(received);
+    let counts = call.packets;
+    let counted = packet::count(counts, code, mark, payload.len(), after.wrong, reading);
+    next.packets = counted;
+    match reading {
+        Reading::Packet(p) => deliver(
+            next,
+            round,
+            p.code,
+            p.mark,
+            packets::payload(received, p.length),
+            held,
+            table,
+        ),
+        Reading::Refused(_) => next,
     }
 }
 
@@ -225,12 +220,10 @@ fn carry(
             call: next,
         };
     };
-    next.payloads = tally::plus(next.payloads, 1);
-    next = damage(next, &mut payload, octets);
-    next = deliver(
+    next = pass(
         next,
         round,
-        code,
+        Code(code),
         mark,
         first(&payload, octets),
         held,
