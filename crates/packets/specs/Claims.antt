@@ -2,12 +2,14 @@
 -- the specs/Claims.antt of `golay`.
 --
 --   FlagsAre         the flag is E1 4D; the complement adds up with it to ones
---   FieldsStand      figure B.2, field by field: MC, MPL and P in the three octets
+--   FieldsStand c n  figure B.2, field by field: MC, MPL and P in the three octets
 --   HeaderIsWord     the 24 bits of a header are the code's word of its data, so that what is claimed of the code is claimed of it
 --   FillPacket       code 0 and length 0: three octets of 0 between the flags (B.3.2.3)
 --   Carries u p      u begins with a packet that says p: intact flags, and a header of which at most three bits are wrong
 --   ReadExactly      reading tells of a packet exactly if there is one
 --   CarriesOne       .. and never of two
+--   BeginsWithFlag u   one of the two flags stands in front
+--   Says u d         behind a flag the data d stand, to within three bits
 --   OfReading u      when each refusal is given
 --   CutShort         a packet of which the end is missing, wherever it is cut, is refused with 15
 --   LengthUnused     a header that says 255, to within three bits, behind a flag, is refused with 2
@@ -24,11 +26,11 @@ use mathlib.Core.Bool.{Bool, true, false}
 use mathlib.Core.List.{List, [], _∷_, _++_}
 use Prim.Native.Nat.{ℕ, _+_, _*_, _/_, _%_, _≤_, _<_}
 use lib.ListN.{length, getD, take, drop}
-use Rattle.calls.specs.Refusal.{refused, told, leaving, Gives}
+use Rattle.calls.specs.Refusal.{refused, told, leaving}
 use Rattle.golay.specs.Code.{parity, codeWord, Within}
 use Rattle.packets.specs.Flag.{flagOf}
 use Rattle.packets.specs.Header.{dataOf, headerOf, headerWord, wrongBits}
-use Rattle.packets.specs.Packet.{packetOf, writeTests, wrote, Heading, heading, read}
+use Rattle.packets.specs.Packet.{packetOf, wrote, Heading, heading, read}
 
 abbrev pub FlagsAre : Type 0
 FlagsAre = (flagOf false ≡ 225 ∷ 77 ∷ []) × (flagOf true ≡ 30 ∷ 178 ∷ []) × ((i : ℕ) → i < 2 → getD (flagOf false) i 0 + getD (flagOf true) i 0 ≡ 255)

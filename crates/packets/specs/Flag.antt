@@ -3,7 +3,8 @@
 --
 --   octet b8 .. b1    an octet in the figure's print, bit 8 first
 --   complement a      the ones' complement of an octet
---   flagOf m          the flag: E1 4D, and where m holds its complement, 1E B2
+--   flag              the flag: E1 4D
+--   flagOf m          the flag, and where m holds its complement, 1E B2
 --   isFlag m u        u begins with it
 --   flagIn u          which of the two u begins with, if it does with one
 --   isNeither f       it does with neither
@@ -23,9 +24,12 @@ octet b8 b7 b6 b5 b4 b3 b2 b1 = b1 + 2 * (b2 + 2 * (b3 + 2 * (b4 + 2 * (b5 + 2 *
 abbrev pub complement : ℕ → ℕ
 complement a = 255 - a
 
+abbrev pub flag : List ℕ
+flag = octet 1 1 1 0 0 0 0 1 ∷ octet 0 1 0 0 1 1 0 1 ∷ []
+
 abbrev pub flagOf : Bool → List ℕ
-flagOf false = octet 1 1 1 0 0 0 0 1 ∷ octet 0 1 0 0 1 1 0 1 ∷ []
-flagOf true = map complement (flagOf false)
+flagOf false = flag
+flagOf true = map complement flag
 
 abbrev pub isFlag : Bool → List ℕ → Bool
 isFlag m u = same (take 2 u) (flagOf m)

@@ -8,13 +8,16 @@
 --   headerIn u              what the header of the packet u begins with is read as: the data within three bits, if there are any
 --   isFound, found          there are; they
 --   codeIn, lengthIn        the code and the length that they are
---   closed c n v            what a packet of code c and length n says, where v stands behind its payload: refusal 15 for no closing flag
---   readTests u             what refuses the reading of u but for the closing flag, in this order
+--   heading c m n           what a packet of code c, mark m and n octets says
+--   isMark f                the closing flag f is the closing mark
+--   closingIn u             which flag closes the packet that u begins with
+--   readTests u             what refuses the reading of u, in this order
 --   read u                  what the packet says that u begins with, or the refusal's number
---   readSays r              what a value of `Read` says
+--   closed c n f            .. of a packet of code c and length n that the flag f closes
+--   readSays r              what a value of `Reading` says
 --
 -- Assumes nothing.
-use mathlib.Core.Bool.{Bool, true, false, not}
+use mathlib.Core.Bool.{Bool, true, false, cond, not}
 use mathlib.Core.List.{List, [], _∷_, _++_}
 use Prim.Native.Nat.{ℕ, _+_, _/_, _%_}
 use lib.Dec.{ltb}
@@ -27,8 +30,8 @@ use Rattle.golay.specs.declared.Found.{Found}
 use Rattle.golay.specs.declared.Found.the-variants as golay
 use Rattle.packets.specs.Flag.{flagOf, flagIn, isNeither}
 use Rattle.packets.specs.Header.{headerOf, headerWord}
-use Rattle.packets.specs.declared.Read.{Read}
-use Rattle.packets.specs.declared.Read.the-variants as answered
+use Rattle.packets.specs.declared.Reading.{Reading}
+use Rattle.packets.specs.declared.Reading.the-variants as answered
 use Rattle.packets.specs.declared.flags.Flag.{Flag}
 use Rattle.packets.specs.declared.flags.Flag.the-variants.{Plain, Complemented, Neither}
 
@@ -75,13 +78,14 @@ lengthIn u = found (headerIn u) / 16
 abbrev pub heading : (code : ℕ) (mark : Bool) (length : ℕ) → Heading
 heading c m n = record { code = c; mark = m; length = n; next = 5 + n }
 
-abbrev pub closedBy : (code length : ℕ) → Flag → Told Heading
-closedBy c n Plain = told (heading c false n)
-closedBy c n Complemented = told (heading c true n)
-closedBy c n Neither = refused 15
+abbrev pub isMark : Flag → Bool
+isMark Plain = false
+isMark Complemented = true
+isMark Neither = false
 
-abbrev pub closed : (code length : ℕ) → List ℕ → Told Heading
-closed c n v = closedBy c n (flagIn v)
+-- what stands behind the payload
+abbrev pub closingIn : List ℕ → Flag
+closingIn u = flagIn (drop (5 + lengthIn u) u)
 
 abbrev pub readTests : List ℕ → List Test
 readTests u =
@@ -89,11 +93,16 @@ readTests u =
     ∷ 15 when ltb (length u) 5
     ∷ 17 when not (isFound (headerIn u))
     ∷ 2 when ltb longest (lengthIn u)
+    ∷ 15 when isNeither (closingIn u)
     ∷ []
 
 unfoldable pub read : List ℕ → Told Heading
-read u = checked refused (readTests u) (closed (codeIn u) (lengthIn u) (drop (5 + lengthIn u) u))
+read u = checked refused (readTests u) (told (heading (codeIn u) (isMark (closingIn u)) (lengthIn u)))
 
-abbrev pub readSays : Read → Told Heading
+-- .. of a packet of code c and length n that the flag f closes
+abbrev pub closed : (code length : ℕ) → Flag → Told Heading
+closed c n f = cond (isNeither f) (refused 15) (told (heading c (isMark f) n))
+
+abbrev pub readSays : Reading → Told Heading
 readSays (answered.Packet p) = told (record { code = p .code .0; mark = p .mark; length = p .length; next = p .next })
 readSays (answered.Refused k) = refused k

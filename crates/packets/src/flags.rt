@@ -26,14 +26,13 @@ pub fn of(complemented: bool) -> [u8; 2]
 pub fn at(octets: &[u8], place: usize) -> Flag
     ensures { λ r. ⌜ r ≡ flagIn (drop place (now (octets .entry))) ⌝ }
 {
-    if octets.len() < 2 || octets.len() - 2 < place {
+    if octets.len() < place {
         return Flag::Neither;
     }
-    let first = octets[place];
-    let second = octets[place + 1];
-    if first == 0xE1 && second == 0x4D {
+    let here = octets::front(&octets[place..], 2);
+    if octets::same(here, &of(false)) {
         Flag::Plain
-    } else if first == 0x1E && second == 0xB2 {
+    } else if octets::same(here, &of(true)) {
         Flag::Complemented
     } else {
         Flag::Neither
@@ -45,7 +44,8 @@ pub fn is_neither(flag: Flag) -> bool
     ensures { λ r. ⌜ r ≡ isNeither flag ⌝ }
 {
     match flag {
+        Flag::Plain => false,
+        Flag::Complemented => false,
         Flag::Neither => true,
-        _ => false,
     }
 }

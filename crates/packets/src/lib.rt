@@ -1,7 +1,7 @@
 // Packets of level 2 (000, B.3.1 to B.3.3): flag, header, payload, closing flag. The closing flag is also the next packet's first, and its
 // complement is the closing mark.
-pub mod flags; // flags.rt: the flag and its complement
-pub mod header; // header.rt: multiplex code and length, with their parity
+mod flags; // flags.rt: the flag and its complement
+mod header; // header.rt: multiplex code and length, with their parity
 
 use crate::flags::Flag;
 use calls::Length;
@@ -9,8 +9,10 @@ use golay::Found;
 use table::Code;
 use table::HIGHEST_CODE;
 ghost use mathlib.Core.Path.{_≡_};
+ghost use Prim.Native.Nat.{_+_, _≤_};
 ghost use lib.ListN.{take, drop};
 ghost use Rattle.calls.specs.Refusal.{ended, lengthSays};
+ghost use Rattle.packets.specs.Flag.{flagIn};
 ghost use Rattle.packets.specs.Packet as packet;
 ghost use Rattle.packets.specs.Packet.{readSays, wrote};
 
@@ -32,51 +34,51 @@ pub struct Packet {
 }
 
 // What was read, or the refusal's number.
-pub enum Read {
+pub enum Reading {
     Packet(Packet),
     Refused(u8),
 }
 
 // Reads the packet at the front of the octets: refusals 15 (the flag, or cut short), 17 (the header), 2 (a length of 255), 15 (the closing flag, or cut short).
-pub fn read(octets: &[u8]) -> Read
+pub fn read(octets: &[u8]) -> Reading
     ensures { λ r. ⌜ readSays r ≡ packet.read (now (octets .entry)) ⌝ }
 {
     if flags::is_neither(flags::at(octets, 0)) {
-        return Read::Refused(15);
+        return Reading::Refused(15);
     }
     if octets.len() < BEFORE {
-        return Read::Refused(15);
+        return Reading::Refused(15);
     }
-    let Found::Data(data) = golay::find(header::word(octets)) else {
-        return Read::Refused(17);
+    let Found::Data(said) = golay::find(header::word(octets)) else {
+        return Reading::Refused(17);
     };
-    let length = data as usize / 16;
+    let length = said as usize / 16;
     if LONGEST < length {
-        return Read::Refused(2);
+        return Reading::Refused(2);
     }
-    close(octets, Code(data % 16), length)
+    close(octets, Code(said % 16), length)
 }
 
 // The packet whose payload has so many octets, by its closing flag.
-fn close(octets: &[u8], code: Code, length: usize) -> Read
+fn close(octets: &[u8], code: Code, length: usize) -> Reading
     requires { ⌜ length ≤ 254 ⌝ }
-    ensures { λ r. ⌜ readSays r ≡ packet.closed (code .0) length (drop (5 + length) (now (octets .entry))) ⌝ }
+    ensures { λ r. ⌜ readSays r ≡ packet.closed (code .0) length (flagIn (drop (5 + length) (now (octets .entry)))) ⌝ }
 {
     let next = BEFORE + length;
     match flags::at(octets, next) {
-        Flag::Plain => Read::Packet(Packet {
+        Flag::Plain => Reading::Packet(Packet {
             code,
             mark: false,
             length,
             next,
         }),
-        Flag::Complemented => Read::Packet(Packet {
+        Flag::Complemented => Reading::Packet(Packet {
             code,
             mark: true,
             length,
             next,
         }),
-        Flag::Neither => Read::Refused(15),
+        Flag::Neither => Reading::Refused(15),
     }
 }
 

@@ -1,0 +1,4 @@
+pub mod Standing
+pub mod Parity
+pub mod Cases
+pub mod Laying
