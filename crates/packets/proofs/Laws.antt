@@ -1,9 +1,11 @@
 -- What the crates above take from the proofs of packets, and nothing else.
 --
+--   packets                         the claims (Theorems)
 --   read-refuses, wrote-refuses     what refuses (Refusals)
 --   read-told-small, write-small    how large what is told is (Refusals)
 --   reading-once                    one answer to reading (Unique)
 --
 -- Assumes nothing.
+pub use Rattle.packets.proofs.Theorems.{packets}
 pub use Rattle.packets.proofs.Refusals.{read-refuses, wrote-refuses, read-told-small, write-small}
 pub use Rattle.packets.proofs.Unique.{reading-once}

@@ -1,7 +1,15 @@
 pub mod Standing
 pub mod Parity
+pub mod Fields
 pub mod Cases
 pub mod Laying
+pub mod Opening
+pub mod Ends
+pub mod Parts
+pub mod Telling
+pub mod Carrying
 pub mod Refusals
+pub mod Writing
 pub mod Unique
+pub mod Theorems
 pub mod Laws

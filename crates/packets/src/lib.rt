@@ -39,7 +39,8 @@ pub enum Reading {
     Refused(u8),
 }
 
-// Reads the packet at the front of the octets: refusals 15 (the flag, or cut short), 17 (the header), 2 (a length of 255), 15 (the closing flag, or cut short).
+// Reads the packet at the front of the octets: refusals 15 (the flag, or cut short), 17 (the header), 2 (a length of 255), 15 (the
+// closing flag, or cut short).
 pub fn read(octets: &[u8]) -> Reading
     ensures { λ r. ⌜ readSays r ≡ packet.read (now (octets .entry)) ⌝ }
 {

@@ -1,0 +1,52 @@
+-- The claims of specs/Claims.antt.
+--
+--   packets   all of them
+--
+-- Assumes nothing.
+use mathlib.Core.Path.{_≡_, refl}
+use mathlib.Core.Bool.{true, false}
+use Prim.Native.Nat.{ℕ, zero, suc, _+_, _<_}
+use native.Mathlib.Omega.{arith}
+use lib.ListN.{getD}
+use Rattle.golay.specs.Matrix.{matrix}
+use Rattle.golay.specs.Code.{product, parity}
+use Rattle.golay.specs.Claims.{Golay}
+use Rattle.packets.specs.Flag.{flagOf}
+use Rattle.packets.specs.Claims.{FlagsAre, FillPacket, Packets}
+use Rattle.packets.proofs.Fields.{fields-stand, header-is-word}
+use Rattle.packets.proofs.Telling.{of-reading, next-flag}
+use Rattle.packets.proofs.Carrying.{read-exactly, carries-one, cut-short, length-unused}
+use Rattle.packets.proofs.Writing.{of-writing, write-answered, read-back}
+
+flags-are : FlagsAre
+flags-are = (refl, refl, ones)
+  where
+    ones : (i : ℕ) → i < 2 → getD (flagOf false) i 0 + getD (flagOf true) i 0 ≡ 255
+    ones zero l = refl
+    ones (suc zero) l = refl
+    ones (suc (suc i)) l = absurd (omega arith)
+
+fill-packet : FillPacket
+unfolding parity product matrix
+fill-packet false false = refl
+fill-packet false true = refl
+fill-packet true false = refl
+fill-packet true true = refl
+
+module _ (g : Golay) where
+  pub packets : Packets
+  packets = record {
+    flags-are = flags-are;
+    fields-stand = fields-stand;
+    header-is-word = header-is-word;
+    fill-packet = fill-packet;
+    read-exactly = read-exactly g;
+    carries-one = carries-one g;
+    of-reading = of-reading g;
+    cut-short = cut-short g;
+    length-unused = length-unused g;
+    of-writing = of-writing;
+    write-answered = write-answered;
+    read-back = read-back g;
+    next-flag = next-flag g;
+  }
