@@ -6,7 +6,7 @@
 --   outcome-once, length-once, lengths-once   of answers that say 'done' or 'so many octets', alone and with what is left
 --   check8-once, al1m-encoded, al1m-received, passed-once, read-once, received-once   the adaptation layers'
 --   writes-once, reads-once                the record's
---   heading-once                           the packets'
+--   reading-once                           the packets'
 --   encode-once, receive-once, record-write-once, record-read-once, packet-write-once, packet-read-once   the C entries'
 --   replacedUnique                         the table's
 --   afterUnique, postUnique, sendUnique, takeUnique   the channels'
@@ -20,7 +20,7 @@ pub use Rattle.calls.proofs.Laws.{length-once, lengths-once, outcome-once}
 pub use Rattle.checks.proofs.Laws.{check8-once}
 pub use Rattle.adaptation.proofs.Laws.{encodedUnique as al1m-encoded, receivedUnique as al1m-received, passed-once, read-once, received-once}
 pub use Rattle.record.proofs.Laws.{writes-once, reads-once}
-pub use Rattle.packets.proofs.Laws.{heading-once}
+pub use Rattle.packets.proofs.Laws.{reading-once}
 pub use Rattle.kyteblossom.proofs.Laws.{encode-once, receive-once, record-write-once, record-read-once, packet-write-once, packet-read-once}
 pub use Rattle.table.proofs.Laws.{replacedUnique}
 pub use Rattle.channels.proofs.Laws.{afterUnique, postUnique, sendUnique, takeUnique}

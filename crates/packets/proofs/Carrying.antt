@@ -21,7 +21,6 @@ use lib.ListN.{length, take, drop, length-take, length-drop, length-append}
 use lib.Seq.{length-take-le, getD-take}
 use Rattle.calls.specs.Refusal.{refused, told}
 use Rattle.calls.proofs.Laws.{told-refused, told-same}
-use Rattle.golay.specs.Claims.{Golay}
 use Rattle.packets.specs.Flag.{flagOf}
 use Rattle.packets.specs.Header.{dataOf, headerOf, headerWord, wrongBits}
 use Rattle.packets.specs.Packet.{packetOf, Heading, heading, read}
@@ -71,53 +70,52 @@ front-says o h r c n three hc hn near =
 pub own-near : (h : List ℕ) → wrongBits h h ≤ 3
 own-near h = rw (xor-self (headerWord h)) (omega (arith, ones-le 0 0 (lit< tt)))
 
-module _ (g : Golay) where
-  pub packet-read : (o : Bool) (h xs : List ℕ) (m : Bool) (rest : List ℕ) (c : ℕ) → length h ≡ 3 → c ≤ 15 → length xs ≤ 254
-      → wrongBits h (headerOf c (length xs)) ≤ 3 → read (flagOf o ++ h ++ xs ++ flagOf m ++ rest) ≡ told (heading c m (length xs))
-  packet-read o h xs m rest c three hc hn near =
-      let u = flagOf o ++ h ++ xs ++ flagOf m ++ rest in
-      let code = code-of c (length xs) (omega arith) in
-      let long = length-of c (length xs) (omega arith) in
-      let front = front-says o h (xs ++ (flagOf m ++ rest)) c (length xs) three hc (omega arith) near in
-      let says : Says u (dataOf c (length xs)) = rw (front-and-rest o h three m xs rest) front in
-      let closing = closing-at o h three m xs rest in
-      rw (code, long) at (told-ends g u (dataOf c (length xs)) says m (omega arith) (rw long closing))
+pub packet-read : (o : Bool) (h xs : List ℕ) (m : Bool) (rest : List ℕ) (c : ℕ) → length h ≡ 3 → c ≤ 15 → length xs ≤ 254
+    → wrongBits h (headerOf c (length xs)) ≤ 3 → read (flagOf o ++ h ++ xs ++ flagOf m ++ rest) ≡ told (heading c m (length xs))
+packet-read o h xs m rest c three hc hn near =
+    let u = flagOf o ++ h ++ xs ++ flagOf m ++ rest in
+    let code = code-of c (length xs) (omega arith) in
+    let long = length-of c (length xs) (omega arith) in
+    let front = front-says o h (xs ++ (flagOf m ++ rest)) c (length xs) three hc (omega arith) near in
+    let says : Says u (dataOf c (length xs)) = rw (front-and-rest o h three m xs rest) front in
+    let closing = closing-at o h three m xs rest in
+    rw (code, long) at (told-ends u (dataOf c (length xs)) says m (omega arith) (rw long closing))
 
-  pub read-exactly : ReadExactly
-  read-exactly u p = (λ e. told-carried e (ends g u), λ c. carried-told c)
-    where
-      told-carried : read u ≡ told p → Ends u → Carries u p
-      told-carried e (refuses k w r) = told-refused e r
-      told-carried e (tells d m s l f r) = rw (← told-same _ p (sym r ∙ e)) (carried u d m s l f)
+pub read-exactly : ReadExactly
+read-exactly u p = (λ e. told-carried e (ends u), λ c. carried-told c)
+  where
+    told-carried : read u ≡ told p → Ends u → Carries u p
+    told-carried e (refuses k w r) = told-refused e r
+    told-carried e (tells d m s l f r) = rw (← told-same _ p (sym r ∙ e)) (carried u d m s l f)
 
-      carried-told : Carries u p → read u ≡ told p
-      carried-told c =
-          let fits : length (c .payload) ≤ 254 = omega arith in
-          rw (c .is) (packet-read (c .opens) (c .header) (c .payload) (p .mark) (c .rest) (p .code) (c .three) (c .code) fits (rw (c .long) (c .near))
-          ∙ rw (c .long) (ap told (heading-is p (c .next))))
+    carried-told : Carries u p → read u ≡ told p
+    carried-told c =
+        let fits : length (c .payload) ≤ 254 = omega arith in
+        rw (c .is) (packet-read (c .opens) (c .header) (c .payload) (p .mark) (c .rest) (p .code) (c .three) (c .code) fits (rw (c .long) (c .near))
+        ∙ rw (c .long) (ap told (heading-is p (c .next))))
 
-  pub carries-one : CarriesOne
-  carries-one u p q a b = told-same p q (sym (read-exactly u p .1 a) ∙ read-exactly u q .1 b)
+pub carries-one : CarriesOne
+carries-one u p q a b = told-same p q (sym (read-exactly u p .1 a) ∙ read-exactly u q .1 b)
 
-  pub length-unused : LengthUnused
-  length-unused o c h rest hc three near =
-      unused-ends g (flagOf o ++ h ++ rest) (dataOf c 255) (front-says o h rest c 255 three hc (omega arith) near) (length-of c 255 (omega arith))
+pub length-unused : LengthUnused
+length-unused o c h rest hc three near =
+    unused-ends (flagOf o ++ h ++ rest) (dataOf c 255) (front-says o h rest c 255 three hc (omega arith) near) (length-of c 255 (omega arith))
 
-  pub cut-short : CutShort
-  cut-short o m c n xs hc hx l = by (decLt n 5)
-    where
-      by : Dec (n < 5) → read (take n (packetOf o c m xs)) ≡ refused 15
-      by (yes s) = short-ends (take n (packetOf o c m xs)) (omega (arith, length-take n (packetOf o c m xs)))
-      by (no s) =
-          let h = headerOf c (length xs) in
-          let u = take n (packetOf o c m xs) in
-          let cut : u ≡ flagOf o ++ h ++ take (n - 5) (xs ++ flagOf m) =
-          ap (take n) (append-assoc (flagOf o ++ h) xs (flagOf m)) ∙ front-cut o h refl (xs ++ flagOf m) n (omega arith) in
-          let says : Says u (dataOf c (length xs)) =
-          rw cut (front-says o h (take (n - 5) (xs ++ flagOf m)) c (length xs) refl hc (omega arith) (own-near h)) in
-          let long = length-of c (length xs) (omega arith) in
-          let left = length-drop (5 + dataOf c (length xs) / 16) u in
-          let all = packet-length o c m xs in
-          let taken = length-take n (packetOf o c m xs) in
-          unclosed-ends g u (dataOf c (length xs)) says (omega arith)
-          (λ b. absurd (omega (arith, begins-long (drop (5 + dataOf c (length xs) / 16) u) b)))
+pub cut-short : CutShort
+cut-short o m c n xs hc hx l = by (decLt n 5)
+  where
+    by : Dec (n < 5) → read (take n (packetOf o c m xs)) ≡ refused 15
+    by (yes s) = short-ends (take n (packetOf o c m xs)) (omega (arith, length-take n (packetOf o c m xs)))
+    by (no s) =
+        let h = headerOf c (length xs) in
+        let u = take n (packetOf o c m xs) in
+        let cut : u ≡ flagOf o ++ h ++ take (n - 5) (xs ++ flagOf m) =
+        ap (take n) (append-assoc (flagOf o ++ h) xs (flagOf m)) ∙ front-cut o h refl (xs ++ flagOf m) n (omega arith) in
+        let says : Says u (dataOf c (length xs)) =
+        rw cut (front-says o h (take (n - 5) (xs ++ flagOf m)) c (length xs) refl hc (omega arith) (own-near h)) in
+        let long = length-of c (length xs) (omega arith) in
+        let left = length-drop (5 + dataOf c (length xs) / 16) u in
+        let all = packet-length o c m xs in
+        let taken = length-take n (packetOf o c m xs) in
+        unclosed-ends u (dataOf c (length xs)) says (omega arith)
+        (λ b. absurd (omega (arith, begins-long (drop (5 + dataOf c (length xs) / 16) u) b)))

@@ -17,7 +17,7 @@ use native.Mathlib.Omega.{arith}
 use lib.ListN.{length, take, drop}
 use Rattle.calls.specs.Refusal.{refused, told}
 use Rattle.golay.specs.Code.{nearest, Within}
-use Rattle.golay.specs.Claims.{Golay}
+use Rattle.golay.proofs.Laws.{golay}
 use Rattle.golay.specs.declared.Found.{Found}
 use Rattle.golay.specs.declared.Found.the-variants as golay
 use Rattle.packets.specs.Flag.{flagOf, flagIn, isNeither}
@@ -56,13 +56,13 @@ short-ends u l = by (flag-cases u)
     by (inl b) = read-short u (begins-flag u b) l
     by (inr e) = read-no-flag u (ap isNeither e)
 
-module _ (g : Golay) (u : List ℕ) where
+module _ (u : List ℕ) where
   pub wordless-ends : BeginsWithFlag u → 5 ≤ length u → ((d : ℕ) → Within (headerWord (drop 2 u)) d → ⊥) → read u ≡ refused 17
-  wordless-ends b l none = read-no-word u (begins-flag u b) l (g .nothing-exactly (headerWord (drop 2 u)) .1 none)
+  wordless-ends b l none = read-no-word u (begins-flag u b) l (golay .nothing-exactly (headerWord (drop 2 u)) .1 none)
 
   module _ (d : ℕ) (says : Says u d) where
     found : nearest (headerWord (drop 2 u)) ≡ golay.Data d
-    found = g .found-exactly (headerWord (drop 2 u)) d .1 (says .1 .1)
+    found = golay .found-exactly (headerWord (drop 2 u)) d .1 (says .1 .1)
 
     pub unused-ends : d / 16 ≡ 255 → read u ≡ refused 2
     unused-ends e = read-unused u (begins-flag u (says .0)) (says .1 .0) d found (omega arith)
@@ -94,9 +94,9 @@ module _ (g : Golay) (u : List ℕ) where
 
       finds : BeginsWithFlag u → 5 ≤ length u → (f : Found) → nearest (headerWord (drop 2 u)) ≡ f → Ends u
       finds b l (golay.Data d) e =
-          measures d (b, (l, g .found-exactly (headerWord (drop 2 u)) d .0 e)) (decLe (d / 16) 254)
+          measures d (b, (l, golay .found-exactly (headerWord (drop 2 u)) d .0 e)) (decLe (d / 16) 254)
       finds b l golay.Nothing e =
-          let none = g .nothing-exactly (headerWord (drop 2 u)) .0 e in
+          let none = golay .nothing-exactly (headerWord (drop 2 u)) .0 e in
           refuses 17 (inr (inl (refl, (b, (l, none))))) (wordless-ends b l none)
 
       counts : BeginsWithFlag u → Dec (length u < 5) → Ends u

@@ -12,43 +12,41 @@ use native.Mathlib.Omega.{arith}
 use lib.ListN.{take, drop}
 use Rattle.calls.specs.Refusal.{refused}
 use Rattle.calls.proofs.Laws.{told-refused, told-same}
-use Rattle.golay.specs.Claims.{Golay}
 use Rattle.packets.specs.Flag.{flagOf}
 use Rattle.packets.specs.Packet.{read}
 use Rattle.packets.specs.Claims.{OfReading, NextFlag}
 use Rattle.packets.proofs.Ends.{Broken, Why, Ends, refuses, tells, ends, flagless-ends, short-ends, wordless-ends, unused-ends, unclosed-ends}
 
-module _ (g : Golay) where
-  module _ (u : List ℕ) where
-    why : (k : ℕ) → read u ≡ refused k → Why u k
-    why k e = by (ends g u)
-      where
-        by : Ends u → Why u k
-        by (refuses j w r) = let same : j ≡ k = cc in rw same at w
-        by (tells d m s l f r) = told-refused r e
-
-    breaks : Broken u → read u ≡ refused 15
-    breaks (inl f) = flagless-ends u f
-    breaks (inr (inl l)) = short-ends u l
-    breaks (inr (inr (d, (s, (l, n))))) = unclosed-ends g u d s l n
-
-    pub of-reading : OfReading u
-    of-reading = record {
-      read17 = (
-        λ e. ⊎-elim (λ h. absurd (omega arith)) (⊎-elim (λ h. h .1) (λ h. absurd (omega arith))) (why 17 e),
-        λ h. wordless-ends g u (h .0) (h .1 .0) (h .1 .1),
-      );
-      read2 = (
-        λ e. ⊎-elim (λ h. absurd (omega arith)) (⊎-elim (λ h. absurd (omega arith)) (λ h. h .1)) (why 2 e),
-        λ h. unused-ends g u (h .0) (h .1 .0) (h .1 .1),
-      );
-      read15 = (λ e. ⊎-elim (λ h. h .1) (⊎-elim (λ h. absurd (omega arith)) (λ h. absurd (omega arith))) (why 15 e), breaks);
-      others = λ k e. ⊎-elim (λ h. inl (h .0)) (⊎-elim (λ h. inr (inl (h .0))) (λ h. inr (inr (h .0)))) (why k e);
-    }
-
-  pub next-flag : NextFlag
-  next-flag u p e = by (ends g u)
+module _ (u : List ℕ) where
+  why : (k : ℕ) → read u ≡ refused k → Why u k
+  why k e = by (ends u)
     where
-      by : Ends u → take 2 (drop (p .next) u) ≡ flagOf (p .mark)
-      by (refuses k w r) = told-refused e r
-      by (tells d m s l f r) = rw (← told-same _ p (sym r ∙ e)) f
+      by : Ends u → Why u k
+      by (refuses j w r) = let same : j ≡ k = cc in rw same at w
+      by (tells d m s l f r) = told-refused r e
+
+  breaks : Broken u → read u ≡ refused 15
+  breaks (inl f) = flagless-ends u f
+  breaks (inr (inl l)) = short-ends u l
+  breaks (inr (inr (d, (s, (l, n))))) = unclosed-ends u d s l n
+
+  pub of-reading : OfReading u
+  of-reading = record {
+    read17 = (
+      λ e. ⊎-elim (λ h. absurd (omega arith)) (⊎-elim (λ h. h .1) (λ h. absurd (omega arith))) (why 17 e),
+      λ h. wordless-ends u (h .0) (h .1 .0) (h .1 .1),
+    );
+    read2 = (
+      λ e. ⊎-elim (λ h. absurd (omega arith)) (⊎-elim (λ h. absurd (omega arith)) (λ h. h .1)) (why 2 e),
+      λ h. unused-ends u (h .0) (h .1 .0) (h .1 .1),
+    );
+    read15 = (λ e. ⊎-elim (λ h. h .1) (⊎-elim (λ h. absurd (omega arith)) (λ h. absurd (omega arith))) (why 15 e), breaks);
+    others = λ k e. ⊎-elim (λ h. inl (h .0)) (⊎-elim (λ h. inr (inl (h .0))) (λ h. inr (inr (h .0)))) (why k e);
+  }
+
+pub next-flag : NextFlag
+next-flag u p e = by (ends u)
+  where
+    by : Ends u → take 2 (drop (p .next) u) ≡ flagOf (p .mark)
+    by (refuses k w r) = told-refused e r
+    by (tells d m s l f r) = rw (← told-same _ p (sym r ∙ e)) f

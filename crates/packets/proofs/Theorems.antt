@@ -10,7 +10,6 @@ use native.Mathlib.Omega.{arith}
 use lib.ListN.{getD}
 use Rattle.golay.specs.Matrix.{matrix}
 use Rattle.golay.specs.Code.{product, parity}
-use Rattle.golay.specs.Claims.{Golay}
 use Rattle.packets.specs.Flag.{flagOf}
 use Rattle.packets.specs.Claims.{FlagsAre, FillPacket, Packets}
 use Rattle.packets.proofs.Fields.{fields-stand, header-is-word}
@@ -33,20 +32,19 @@ fill-packet false true = refl
 fill-packet true false = refl
 fill-packet true true = refl
 
-module _ (g : Golay) where
-  pub packets : Packets
-  packets = record {
-    flags-are = flags-are;
-    fields-stand = fields-stand;
-    header-is-word = header-is-word;
-    fill-packet = fill-packet;
-    read-exactly = read-exactly g;
-    carries-one = carries-one g;
-    of-reading = of-reading g;
-    cut-short = cut-short g;
-    length-unused = length-unused g;
-    of-writing = of-writing;
-    write-answered = write-answered;
-    read-back = read-back g;
-    next-flag = next-flag g;
-  }
+pub packets : Packets
+packets = record {
+  flags-are = flags-are;
+  fields-stand = fields-stand;
+  header-is-word = header-is-word;
+  fill-packet = fill-packet;
+  read-exactly = read-exactly;
+  carries-one = carries-one;
+  of-reading = of-reading;
+  cut-short = cut-short;
+  length-unused = length-unused;
+  of-writing = of-writing;
+  write-answered = write-answered;
+  read-back = read-back;
+  next-flag = next-flag;
+}

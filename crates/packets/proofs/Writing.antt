@@ -19,7 +19,6 @@ use Rattle.octets.specs.Tests.{never}
 use Rattle.octets.specs.Written.{written, written-front, written-behind, written-length}
 use Rattle.calls.specs.Refusal.{refused, Ended, leaving, refusing, _when_, refusal}
 use Rattle.calls.proofs.Laws.{told-refused, leaving-same, by-tests, given-exactly}
-use Rattle.golay.specs.Claims.{Golay}
 use Rattle.packets.specs.Header.{headerOf}
 use Rattle.packets.specs.Packet.{packetOf, writeTests, wrote}
 use Rattle.packets.specs.Claims.{OfWriting, WriteAnswered, ReadBack}
@@ -85,11 +84,11 @@ write-answered o c m xs before after n e =
       rw (a .laid) (written-length before 0 p fits),
     )
 
-pub read-back : (g : Golay) → ReadBack
-read-back g o c m xs before after rest n e =
+pub read-back : ReadBack
+read-back o c m xs before after rest n e =
     let a = answered-is o c m xs before after n e in
     let w = write-answered o c m xs before after n e in
     rw (w .1) (
-      packet-read g o (headerOf c (length xs)) xs m rest c refl (a .code) (a .short) (own-near (headerOf c (length xs))),
+      packet-read o (headerOf c (length xs)) xs m rest c refl (a .code) (a .short) (own-near (headerOf c (length xs))),
       payload-at o (headerOf c (length xs)) refl m xs rest,
     )
