@@ -22,7 +22,7 @@ use Rattle.golay.specs.declared.Found.the-variants as golay
 use Rattle.packets.specs.Flag.{flagIn, isNeither}
 use Rattle.packets.specs.Header.{headerWord}
 use Rattle.packets.specs.declared.flags.Flag.{Flag}
-use Rattle.packets.specs.Packet.{headerIn, closed, read}
+use Rattle.packets.specs.Packet.{longest, headerIn, closed, read}
 
 module _ (u : List ℕ) where
   pub flag-looked : (f : Flag) (r b : Bool) → f ≡ flagIn u → r ≡ isNeither f → r ≡ b → isNeither (flagIn u) ≡ b
@@ -46,10 +46,10 @@ module _ (u : List ℕ) where
       read-no-word e = rw (flag, le-ltb (length u) 5 long, e)
 
       module _ (d : ℕ) (found : headerIn u ≡ golay.Data d) where
-        pub read-unused : 254 < d / 16 → read u ≡ refused 2
+        pub read-unused : longest < d / 16 → read u ≡ refused 2
         unfolding read
-        read-unused l = rw (flag, le-ltb (length u) 5 long, found, lt-ltb 254 (d / 16) l)
+        read-unused l = rw (flag, le-ltb (length u) 5 long, found, lt-ltb longest (d / 16) l)
 
-        pub read-closed : d / 16 ≤ 254 → read u ≡ closed (d % 16) (d / 16) (flagIn (drop (5 + d / 16) u))
+        pub read-closed : d / 16 ≤ longest → read u ≡ closed (d % 16) (d / 16) (flagIn (drop (5 + d / 16) u))
         unfolding read
-        read-closed l = rw (flag, le-ltb (length u) 5 long, found, le-ltb 254 (d / 16) l)
+        read-closed l = rw (flag, le-ltb (length u) 5 long, found, le-ltb longest (d / 16) l)

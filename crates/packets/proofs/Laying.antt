@@ -1,7 +1,7 @@
 -- How a writing ends, case by case.
 --
 --   write-over      a code over 15
---   write-long      a payload of more than 254 octets
+--   write-long      a payload that is too long
 --   write-full      too little room
 --   write-laid      the packet
 --   laid-is         .. which is its parts, laid one behind another
@@ -21,7 +21,7 @@ use Rattle.octets.specs.Written.{written, written-next}
 use Rattle.calls.specs.Refusal.{leaving, refusing}
 use Rattle.packets.specs.Flag.{flagOf}
 use Rattle.packets.specs.Header.{headerOf}
-use Rattle.packets.specs.Packet.{packetOf, wrote}
+use Rattle.packets.specs.Packet.{longest, packetOf, wrote}
 
 module _ (o : Bool) (c : ℕ) (m : Bool) (xs before : List ℕ) where
   pub write-over : 15 < c → wrote o c m xs before ≡ refusing before 4
@@ -29,19 +29,19 @@ module _ (o : Bool) (c : ℕ) (m : Bool) (xs before : List ℕ) where
   write-over h = rw (lt-ltb 15 c h)
 
   module _ (code : c ≤ 15) where
-    pub write-long : 254 < length xs → wrote o c m xs before ≡ refusing before 2
+    pub write-long : longest < length xs → wrote o c m xs before ≡ refusing before 2
     unfolding wrote
-    write-long h = rw (le-ltb 15 c code, lt-ltb 254 (length xs) h)
+    write-long h = rw (le-ltb 15 c code, lt-ltb longest (length xs) h)
 
-    module _ (short : length xs ≤ 254) where
+    module _ (short : length xs ≤ longest) where
       pub write-full : length before < length xs + 7 → wrote o c m xs before ≡ refusing before 3
       unfolding wrote
-      write-full h = rw (le-ltb 15 c code, le-ltb 254 (length xs) short, lt-ltb (length before) (length xs + 7) h)
+      write-full h = rw (le-ltb 15 c code, le-ltb longest (length xs) short, lt-ltb (length before) (length xs + 7) h)
 
       module _ (room : length xs + 7 ≤ length before) where
         pub write-laid : wrote o c m xs before ≡ leaving (length xs + 7) (written before 0 (packetOf o c m xs))
         unfolding wrote
-        write-laid = rw (le-ltb 15 c code, le-ltb 254 (length xs) short, le-ltb (length before) (length xs + 7) room)
+        write-laid = rw (le-ltb 15 c code, le-ltb longest (length xs) short, le-ltb (length before) (length xs + 7) room)
 
 -- ---- part by part
 
