@@ -17,7 +17,7 @@ use lib.ListN.{getD}
 use Rattle.golay.specs.Code.{parity, Within}
 use Rattle.packets.specs.Header.{dataOf, headerOf, headerWord, wrongBits}
 use Rattle.packets.specs.Claims.{FieldsStand, HeaderIsWord}
-use Rattle.packets.proofs.Parity.{parity-small}
+use Rattle.golay.proofs.Laws.{golay}
 
 module _ (c n : ℕ) (code : c < 16) where
   pub data-small : n < 256 → dataOf c n < 2 ^ 12
@@ -37,7 +37,7 @@ header-is-word c n hc hn = omega arith
 
 pub fields-stand : (c n : ℕ) → c < 16 → n < 256 → FieldsStand c n
 fields-stand c n hc hn =
-    let s = parity-small (dataOf c n) (data-small c n hc hn) in
+    let s = golay .systematic (dataOf c n) (data-small c n hc hn) .2 in
     record { three = refl; octets = octets s; code = omega arith; length = omega arith; parity = omega arith }
   where
     octets : parity (dataOf c n) < 4096 → (i : ℕ) → i < 3 → getD (headerOf c n) i 0 < 256

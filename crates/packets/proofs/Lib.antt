@@ -1,5 +1,4 @@
 pub mod Standing
-pub mod Parity
 pub mod Fields
 pub mod Cases
 pub mod Laying

@@ -2,14 +2,14 @@
 use borrow.Author.Needs.{needs}
 use native.Mathlib.Omega.{arith}
 use Prim.Native.Nat.{_+_, _*_}
-use Rattle.packets.proofs.Parity.{parity-small}
+use Rattle.golay.proofs.Laws.{golay}
 use Rattle.packets.proofs.header.of.Statement.{statement}
 use Rattle.packets.proofs.header.of.Tie as tie
 
 cast-t14 : tie.Need-cast-t14
 cast-t14 c =
     let a = c .before .args in
-    let s = parity-small (a .code + 16 * a .length) (omega arith) in
+    let s = golay .systematic (a .code + 16 * a .length) (omega arith) .2 in
     rw (c .parity .ensures) (search needs)
 
 returns : tie.Need-returns
