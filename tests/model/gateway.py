@@ -1,10 +1,13 @@
 #!/usr/bin/env python3
-"""A second gateway, written from document 01 and from nothing else: gateway.py FILE answers FILE's calls.
+"""A second gateway, written from document 01, ticket 4 of document 02 and B.3.1 to B.3.3 of document 000, and from nothing else:
+gateway.py FILE answers FILE's calls.
 
 It shares no code and no method with the crates. Products go by sums of exponents, the checks go bit by bit, the repair is Sugiyama's
 (Euclid's algorithm on x^2e and the syndromes) and a candidate counts only if it is a code word within e; an entry is a tree, its
-expansion a generator, and a channel's octets are lists of their own.
+expansion a generator, and a channel's octets are lists of their own. A packet's header is laid out by the names in figure B.2, its
+parity is the printed matrix, transposed, times the column of data, and a received header is compared with all 4,096.
 """
+import functools
 import re
 import sys
 
@@ -287,6 +290,97 @@ def slots(elements):
             yield inner, times
 
 
+# Packets of level 2: figures A.1 and B.2 and the matrix of B.3.2.1.3 as they are printed
+
+FLAG_FIGURE = ['1 1 1 0 0 0 0 1', '0 1 0 0 1 1 0 1']  # bit 8 first, an octet a row
+HEADER_FIGURE = ['MPL4 MPL3 MPL2 MPL1 MC4 MC3 MC2 MC1', 'P4 P3 P2 P1 MPL8 MPL7 MPL6 MPL5', 'P12 P11 P10 P9 P8 P7 P6 P5']
+MATRIX = """
+101011100011
+111110010010
+110100101011
+110001110110
+110011011001
+011001101101
+001100110111
+101101111000
+010110111100
+001011011110
+101110001101
+010111000111
+""".split()
+LONGEST_PAYLOAD = 254
+
+FLAG = [int(row.replace(' ', ''), 2) for row in FLAG_FIGURE]
+FLAGS = [FLAG, [255 - octet for octet in FLAG]]  # plain, complemented
+
+
+def header(code, length):
+    bit = {'MC%d' % (k + 1): code >> k & 1 for k in range(4)}
+    bit.update({'MPL%d' % (k + 1): length >> k & 1 for k in range(8)})
+    column = list(bit.values())  # MC1 to MC4, MPL1 to MPL8
+    for k, row in enumerate(zip(*MATRIX)):  # the rows of the transposed matrix
+        bit['P%d' % (k + 1)] = sum(int(a) * b for a, b in zip(row, column)) % 2
+    return [int(''.join(str(bit[name]) for name in row.split()), 2) for row in HEADER_FIGURE]
+
+
+def as_number(header_octets):
+    return int.from_bytes(bytes(header_octets), 'big')
+
+
+HEADERS = {(code, length): as_number(header(code, length)) for code in range(16) for length in range(256)}
+
+
+@functools.lru_cache(maxsize=None)
+def header_sent(received):
+    """The code and the length of the header within three bits of the received one, or None."""
+    near = [data for data, sent in HEADERS.items() if bin(sent ^ received).count('1') <= 3]
+    assert len(near) <= 1
+    return near[0] if near else None
+
+
+def pack(opens, code, mark, payload, room):
+    """The packet, opened by the plain flag (0) or the complemented one (1)."""
+    refuse_if(code > 15, 4)
+    refuse_if(len(payload) > LONGEST_PAYLOAD, 2)
+    packet = FLAGS[opens] + header(code, len(payload)) + payload + FLAGS[mark]
+    refuse_if(room < len(packet), 3)
+    return packet
+
+
+def unpack(octets):
+    """Code, mark, payload, and where the next packet's flag lies."""
+    refuse_if(octets[:2] not in FLAGS or len(octets) < 5, 15)
+    sent = header_sent(as_number(octets[2:5]))
+    refuse_if(sent is None, 17)
+    code, length = sent
+    refuse_if(length > LONGEST_PAYLOAD, 2)
+    closing = octets[5 + length:7 + length]
+    refuse_if(closing not in FLAGS, 15)
+    return code, FLAGS.index(closing), octets[5:5 + length], 5 + length
+
+
+def packets_in(octets):
+    """The place of every packet of a stream, with what it says; and of each gap, with the refusal."""
+    def at(k):
+        try:
+            return unpack(octets[k:])
+        except Refused as r:
+            return r
+
+    found = {k: at(k) for k in range(max(len(octets), 1))}
+    places = [k for k, what in found.items() if not isinstance(what, Refused)]
+    k = 0
+    while k is not None:
+        what = found[k]
+        yield what
+        if isinstance(what, Refused):
+            k = min((p for p in places if p > k), default=None)
+        else:
+            k += what[3]
+            if k + 2 == len(octets):
+                k = None
+
+
 # Channels
 
 class Channel:
@@ -386,6 +480,18 @@ class Gateway:
             c.held = held[n]
         return units
 
+    def link(self, octets):
+        """Of each packet of a stream the finished units, or the refusal; a refusal of each gap."""
+        for what in packets_in(octets):
+            if isinstance(what, Refused):
+                yield what
+                continue
+            code, mark, payload, _ = what
+            try:
+                yield self.demux(code, mark, payload, 10 ** 9, 10 ** 9)
+            except Refused as r:
+                yield r
+
     def mux(self, code, room, lent):
         """The mark and the payload."""
         refuse_if(room > 255, 2)
@@ -456,6 +562,14 @@ def spell(o):
     return bytes(o).hex().upper() or '-'
 
 
+def spell_units(units):
+    return ['units %d' % len(units)] + ['unit %d %s' % (n, spell(u)) for n, u in units]
+
+
+def spell_refusal(r):
+    return ['refused %d' % r.args[0]]
+
+
 def answer(g, line):
     words = [w for w in line.split(' ') if w]
     malformed_if(not words)
@@ -511,8 +625,23 @@ def answer(g, line):
         counted(3, 6)
         code, mark, o = number(args[0]), number(args[1], 1), octets(args[2])
         room = tail(args[3:], 'room', 2, [10 ** 9, 10 ** 9])
-        units = g.demux(code, mark, o, *room)
-        return ['units %d' % len(units)] + ['unit %d %s' % (n, spell(u)) for n, u in units]
+        return spell_units(g.demux(code, mark, o, *room))
+    if name == 'pack':
+        counted(3, 7)
+        code, mark, o, rest = number(args[0]), number(args[1], 1), octets(args[2]), args[3:]
+        opens = 0
+        if rest[:1] == ['after']:
+            malformed_if(len(rest) < 2)
+            opens, rest = number(rest[1], 1), rest[2:]
+        room, = tail(rest, 'room', 1, [10 ** 9])
+        return ['packet ' + spell(pack(opens, code, mark, o, room))]
+    if name == 'unpack':
+        counted(1)
+        code, mark, payload, further = unpack(octets(args[0]))
+        return ['code %d mark %d payload %s next %d' % (code, mark, spell(payload), further)]
+    if name == 'link':
+        counted(1)
+        return [a for r in g.link(octets(args[0])) for a in (spell_refusal(r) if isinstance(r, Refused) else spell_units(r))]
     if name == 'send':
         counted(3, 5)
         n, numbered, o = number(args[0], 65535), choice(args[1], 'numbered', 'plain'), octets(args[2])
@@ -534,7 +663,7 @@ def line_answers(g, line):
     try:
         return answer(g, line)
     except Refused as r:
-        return ['refused %d' % r.args[0]]
+        return spell_refusal(r)
     except Malformed:
         return ['malformed']
 

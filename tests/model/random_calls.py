@@ -50,9 +50,66 @@ def numbered(source):
     return 'take %d %s %s' % (source.choice(CHANNELS), kind, model.spell(whole + (model.check(whole, 8) if source.random() < 0.9 else [0])))
 
 
+def wrong_bits(source, octets, count):
+    """Octets of which so many bits are wrong."""
+    word = int.from_bytes(bytes(octets), 'big')
+    for k in source.sample(range(8 * len(octets)), count):
+        word ^= 1 << k
+    return list(word.to_bytes(len(octets), 'big'))
+
+
+def noise(source):
+    """Octets that nobody sent, flags among them."""
+    flags = source.choice(model.FLAGS) if source.random() < 0.3 else []
+    return list(source.randbytes(source.choice([1, 2, source.randint(0, 30)]))) + flags + list(source.randbytes(source.randint(0, 6)))
+
+
+def payload(source):
+    """A payload; one may look like a packet."""
+    kind = source.random()
+    if kind < 0.15:
+        return []
+    if kind < 0.25:
+        return model.pack(0, source.randint(0, 5), source.randint(0, 1), list(source.randbytes(source.randint(0, 9))), 999)
+    return list(source.randbytes(source.randint(1, 12) if kind < 0.9 else source.choice([254, 255, 256, source.randint(13, 253)])))
+
+
+def behind_flag(source):
+    """A packet from its header on: often whole, else with wrong bits in its header or its closing flag, or a length that is not used."""
+    octets, code = payload(source), source.choice(CODES[:-1])
+    if source.random() < 0.1:
+        octets, code = [], 0
+    said = 255 if len(octets) > 254 or source.random() < 0.04 else len(octets)
+    header = wrong_bits(source, model.header(code, said), source.choice([0, 0, 0, 1, 2, 3, 3, 4, 5, 6]))
+    closing = source.choice(model.FLAGS)
+    return header + octets + (wrong_bits(source, closing, source.randint(1, 3)) if source.random() < 0.07 else closing)
+
+
+def stream(source):
+    """Packets one after another, with noise before, between and behind, and cut short."""
+    octets = (noise(source) if source.random() < 0.15 else []) + source.choice(model.FLAGS)
+    if source.random() < 0.05:
+        octets = wrong_bits(source, octets, 1)
+    for _ in range(source.choice([0, 1, 1, 2, 3, 6])):
+        octets += behind_flag(source)
+        if source.random() < 0.07:
+            octets += noise(source) + source.choice(model.FLAGS)
+    if source.random() < 0.15:
+        octets += noise(source)
+    return octets[:source.randint(0, len(octets))] if source.random() < 0.1 else octets
+
+
+def packed(source, code):
+    octets = payload(source)
+    code = 4294967295 if source.random() < 0.02 else code
+    opens = ' after %d' % source.randint(0, 1) if source.random() < 0.5 else ''
+    room = ' room %d' % source.randint(len(octets) + 5, len(octets) + 8) if source.random() < 0.3 else ''
+    return 'pack %d %d %s%s%s' % (code, source.randint(0, 1), model.spell(octets), opens, room)
+
+
 def call(source):
     channel, code = source.choice(CHANNELS), source.choice(CODES)
-    kind = source.choices(range(10), [3, 1, 1, 4, 8, 12, 12, 2, 3, 4])[0]
+    kind = source.choices(range(13), [3, 1, 1, 4, 8, 12, 12, 2, 3, 4, 3, 5, 10])[0]
     if kind == 0:
         return 'open %d %s' % (channel, source.choice(['segmentable', 'whole']))
     if kind == 1:
@@ -73,7 +130,11 @@ def call(source):
         return 'send %d %s %s' % (channel, source.choice(['numbered', 'plain']), octets(source, 30))
     if kind == 8:
         return numbered(source)
-    return coded(source)
+    if kind == 9:
+        return coded(source)
+    if kind == 10:
+        return packed(source, code)
+    return '%s %s' % ('unpack' if kind == 11 else 'link', model.spell(stream(source)))
 
 
 def spoilt(source, line):

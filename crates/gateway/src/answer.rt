@@ -22,6 +22,9 @@ pub fn help() {
     print::text(b"  post CHANNEL OCTETS\n");
     print::text(b"  mux CODE ROOM [lent N]\n");
     print::text(b"  demux CODE MARK OCTETS [room OCTETS UNITS]\n");
+    print::text(b"  pack CODE MARK OCTETS [after MARK] [room N]\n");
+    print::text(b"  unpack OCTETS\n");
+    print::text(b"  link OCTETS\n");
     print::text(b"  send CHANNEL numbered|plain OCTETS [room N]\n");
     print::text(b"  take CHANNEL numbered|plain OCTETS\n\n");
     print::text(
@@ -42,6 +45,12 @@ fn put_octets(out: &mut [u8; BUFFER], from: usize, octets: &[u8]) -> usize {
         return print::store(out, at, b'-');
     }
     print::hex(out, at, octets)
+}
+
+// Puts a space and a closing mark, 0 or 1.
+fn put_mark(out: &mut [u8; BUFFER], from: usize, mark: bool) -> usize {
+    let n = if mark { 1 } else { 0 };
+    put_number(out, from, n)
 }
 
 // Ends the line and writes it.
@@ -79,6 +88,29 @@ pub fn number_and_octets(name: &[u8], value: usize, octets: &[u8]) {
     let mut n = print::put(&mut out, 0, name);
     n = put_number(&mut out, n, value);
     n = put_octets(&mut out, n, octets);
+    end(&mut out, n);
+}
+
+// Answers a payload, with its closing mark.
+pub fn payload(mark: bool, octets: &[u8]) {
+    let mut out = [0u8; BUFFER];
+    let mut n = print::put(&mut out, 0, b"payload");
+    n = put_mark(&mut out, n, mark);
+    n = put_octets(&mut out, n, octets);
+    end(&mut out, n);
+}
+
+// Answers a packet: its code, mark and payload, and how many octets on the next packet's flag lies.
+pub fn packet(code: u32, mark: bool, payload: &[u8], next: usize) {
+    let mut out = [0u8; BUFFER];
+    let mut n = print::put(&mut out, 0, b"code");
+    n = put_number(&mut out, n, code as usize);
+    n = print::put(&mut out, n, b" mark");
+    n = put_mark(&mut out, n, mark);
+    n = print::put(&mut out, n, b" payload");
+    n = put_octets(&mut out, n, payload);
+    n = print::put(&mut out, n, b" next");
+    n = put_number(&mut out, n, next);
     end(&mut out, n);
 }
 

@@ -2,7 +2,8 @@
 use crate::answer;
 use crate::coding;
 use crate::input::OCTETS;
-use crate::link;
+use crate::outcome;
+use crate::packet;
 use crate::payload;
 use crate::units;
 use channels::ALL_OCTETS;
@@ -34,20 +35,21 @@ pub fn carry_out(
             s
         }
         Call::Entry { code, numbers } => {
-            link::replace(table, Code(code), entry, numbers);
+            outcome::replace(table, Code(code), entry, numbers);
             s
         }
         Call::Open {
             channel,
             segmentable,
-        } => link::after(channels::open(s, ChannelNumber(channel), segmentable)),
-        Call::Close { channel } => link::after(channels::close(s, ChannelNumber(channel))),
-        Call::Reset { channel } => link::after(channels::restart(s, ChannelNumber(channel))),
+        } => outcome::after(channels::open(s, ChannelNumber(channel), segmentable)),
+        Call::Close { channel } => outcome::after(channels::close(s, ChannelNumber(channel))),
+        Call::Reset { channel } => outcome::after(channels::restart(s, ChannelNumber(channel))),
         Call::Post { channel, octets: n } => {
-            link::post(s, waiting, ChannelNumber(channel), octets::front(octets, n))
+            outcome::post(s, waiting, ChannelNumber(channel), octets::front(octets, n))
         }
         Call::Mux(c) => payload::multiplex(c, s, waiting, table),
         Call::Demux(c) => payload::demultiplex(c, octets, s, held, table),
+        Call::Packet(c) => packet::carry_out(c, octets, s, held, table),
         Call::Send { unit, room } => units::send(unit, room, octets, s),
         Call::Take(unit) => units::take(unit, octets, s),
     }

@@ -50,6 +50,18 @@ pub fn receive(
     al1m::receive(word, width, e, &mut repair[..n], &mut places[..m])
 }
 
+pub fn pack(
+    opens: bool,
+    code: Code,
+    mark: bool,
+    payload: &[u8],
+    out: &mut [u8],
+    room: u32,
+) -> Length {
+    let n = within(room, out);
+    packets::write(opens, code, mark, payload, &mut out[..n])
+}
+
 pub fn send(
     s: Channels,
     number: ChannelNumber,

@@ -6,8 +6,10 @@ mod carry; // carry.rt: a call, carried out
 mod coding; // coding.rt: the calls that have no state: length, encode, receive, al1
 mod input; // input.rt: the calls of a file of any length
 mod lent; // lent.rt: the library's calls that write to a lent buffer
-mod link; // link.rt: the calls on channels and on the table: open, close, reset, entry, post
+mod outcome; // outcome.rt: the calls on channels and on the table: open, close, reset, entry, post
+mod packet; // packet.rt: the calls on packets of level 2: pack, unpack
 mod payload; // payload.rt: the calls that make and read payloads: mux, demux
+mod stream; // stream.rt: the call that takes the raw octets of packets: link
 mod units; // units.rt: the calls on AL2's units, by channel: send, take
 
 fn main() {

@@ -20,10 +20,7 @@ use table::TABLE_NUMBERS;
 // Says what came of multiplexing.
 fn made_payload(made: Made, payload: &[u8; LONGEST_PAYLOAD]) {
     match made {
-        Made::Payload { octets, mark } => {
-            let mark = if mark { 1 } else { 0 };
-            answer::number_and_octets(b"payload", mark, octets::front(payload, octets));
-        }
+        Made::Payload { octets, mark } => answer::payload(mark, octets::front(payload, octets)),
         Made::Refused(k) => answer::refused(k),
     }
 }
@@ -71,27 +68,30 @@ fn deliver(n: usize, output: &[u8; ENOUGH_OUTPUT], units: &[u16; ENOUGH_UNITS]) 
     }
 }
 
-pub fn demultiplex(
-    c: DemuxCall,
-    octets: &[u8; OCTETS],
+// Demultiplexes a payload and says what came of it, with so many octets and units lent for it.
+pub fn demultiplex_payload(
+    code: Code,
+    mark: bool,
+    payload: &[u8],
+    octets: u32,
+    units: u32,
     s: Channels,
     held: &mut [u8; ALL_OCTETS],
     table: &[u16; TABLE_NUMBERS],
 ) -> Channels {
     let mut output = [0u8; ENOUGH_OUTPUT];
     let mut list = [0u16; ENOUGH_UNITS];
-    let payload = octets::front(octets, c.octets);
     let r = lent::demultiplex(
         s,
         held,
         table,
-        Code(c.code),
-        c.mark,
+        code,
+        mark,
         payload,
         &mut output,
-        c.room,
+        octets,
         &mut list,
-        c.units,
+        units,
     );
     let finished = r.finished;
     match finished {
@@ -99,4 +99,24 @@ pub fn demultiplex(
         Finished::Refused(k) => answer::refused(k),
     }
     r.channels
+}
+
+pub fn demultiplex(
+    c: DemuxCall,
+    octets: &[u8; OCTETS],
+    s: Channels,
+    held: &mut [u8; ALL_OCTETS],
+    table: &[u16; TABLE_NUMBERS],
+) -> Channels {
+    let payload = octets::front(octets, c.octets);
+    demultiplex_payload(
+        Code(c.code),
+        c.mark,
+        payload,
+        c.room,
+        c.units,
+        s,
+        held,
+        table,
+    )
 }

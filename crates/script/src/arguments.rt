@@ -1,4 +1,6 @@
-// What the words behind a call's name may say: a channel, one of two words, and how much is lent.
+// What the words behind a call's name may say: a channel, one of two words, a mark, octets that end the line, and how much is lent.
+use text::hex;
+use text::hex::Octets;
 use text::numbers;
 use text::numbers::Number;
 use text::words;
@@ -12,6 +14,18 @@ pub enum Channel {
 // Which of two words stood there, and the place behind it, or neither.
 pub enum Choice {
     Chosen { first: bool, at: usize },
+    Bad,
+}
+
+// A closing mark and the place behind it, or none.
+pub enum Mark {
+    Given { mark: bool, at: usize },
+    Bad,
+}
+
+// How many octets end the line, or none do.
+pub enum Last {
+    Count(usize),
     Bad,
 }
 
@@ -57,6 +71,31 @@ pub fn choice_at(line: &[u8], from: usize, first: &[u8], second: &[u8]) -> Choic
         };
     }
     Choice::Bad
+}
+
+// The closing mark that the next word is, 0 or 1.
+pub fn mark_at(line: &[u8], from: usize) -> Mark {
+    let Number::Value { value, at } = numbers::next(line, from) else {
+        return Mark::Bad;
+    };
+    if 1 < value {
+        return Mark::Bad;
+    }
+    Mark::Given {
+        mark: value == 1,
+        at,
+    }
+}
+
+// The octets that the next word is, the line's last.
+pub fn last_at(line: &[u8], from: usize, octets: &mut [u8]) -> Last {
+    let Octets::Count { count, at } = hex::next(line, from, octets) else {
+        return Last::Bad;
+    };
+    if words::ended(line, at) {
+        return Last::Count(count);
+    }
+    Last::Bad
 }
 
 // What is lent, behind `name`, as the line's last two words; enough where the line has ended.

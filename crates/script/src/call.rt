@@ -24,6 +24,15 @@ pub struct DemuxCall {
     pub units: u32,
 }
 
+// A packet: the form of flag that opens it, its code, mark and payload, and how many octets are lent for it.
+pub struct PackCall {
+    pub opens: bool,
+    pub code: u32,
+    pub mark: bool,
+    pub octets: usize,
+    pub room: u32,
+}
+
 // A unit of AL2: its channel, whether it has a number, and its octets.
 pub struct UnitCall {
     pub channel: u16,
@@ -52,6 +61,13 @@ pub enum Coding {
     },
 }
 
+// Calls on packets of level 2: one to be written, one to be read, and the raw octets of any number.
+pub enum Packet {
+    Pack(PackCall),
+    Unpack { octets: usize },
+    Link { octets: usize },
+}
+
 // A line that asks for nothing, one that cannot be read, or a call.
 pub enum Call {
     Nothing,
@@ -64,6 +80,7 @@ pub enum Call {
     Post { channel: u16, octets: usize },
     Mux(MuxCall),
     Demux(DemuxCall),
+    Packet(Packet),
     Send { unit: UnitCall, room: u32 },
     Take(UnitCall),
 }

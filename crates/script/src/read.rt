@@ -2,6 +2,8 @@
 use crate::arguments;
 use crate::arguments::Channel;
 use crate::arguments::Choice;
+use crate::arguments::Last;
+use crate::arguments::Mark;
 use crate::arguments::Room;
 use crate::arguments::Rooms;
 use crate::call::Call;
@@ -12,6 +14,7 @@ use crate::call::MuxCall;
 use crate::call::UnitCall;
 use crate::descriptor;
 use crate::descriptor::Entry;
+use crate::packets;
 use text::hex;
 use text::hex::Octets;
 use text::numbers;
@@ -93,13 +96,10 @@ fn length(line: &[u8], from: usize) -> Call {
 
 // al1 OCTETS
 fn al1(line: &[u8], from: usize, octets: &mut [u8]) -> Call {
-    let Octets::Count { count, at } = hex::next(line, from, octets) else {
+    let Last::Count(n) = arguments::last_at(line, from, octets) else {
         return Call::Malformed;
     };
-    if words::ended(line, at) {
-        return Call::Coding(Coding::Al1 { octets: count });
-    }
-    Call::Malformed
+    Call::Coding(Coding::Al1 { octets: n })
 }
 
 // open CHANNEL segmentable, open CHANNEL whole
@@ -158,16 +158,10 @@ fn post(line: &[u8], from: usize, octets: &mut [u8]) -> Call {
     let Channel::Number { channel, at } = arguments::channel_at(line, from) else {
         return Call::Malformed;
     };
-    let Octets::Count { count, at } = hex::next(line, at, octets) else {
+    let Last::Count(n) = arguments::last_at(line, at, octets) else {
         return Call::Malformed;
     };
-    if words::ended(line, at) {
-        return Call::Post {
-            channel,
-            octets: count,
-        };
-    }
-    Call::Malformed
+    Call::Post { channel, octets: n }
 }
 
 // mux CODE ROOM [lent N]
@@ -193,12 +187,9 @@ fn demux(line: &[u8], from: usize, octets: &mut [u8]) -> Call {
     let Number::Value { value: code, at } = numbers::next(line, from) else {
         return Call::Malformed;
     };
-    let Number::Value { value: mark, at } = numbers::next(line, at) else {
+    let Mark::Given { mark, at } = arguments::mark_at(line, at) else {
         return Call::Malformed;
     };
-    if 1 < mark {
-        return Call::Malformed;
-    }
     let Octets::Count { count, at } = hex::next(line, at, octets) else {
         return Call::Malformed;
     };
@@ -211,7 +202,7 @@ fn demux(line: &[u8], from: usize, octets: &mut [u8]) -> Call {
     };
     Call::Demux(DemuxCall {
         code,
-        mark: mark == 1,
+        mark,
         octets: count,
         room,
         units,
@@ -283,7 +274,22 @@ fn coding(line: &[u8], name: Word, octets: &mut [u8]) -> Call {
     Call::Malformed
 }
 
-// A call on a channel's unit or on a payload, by its name, or one that has no state.
+// A call on packets, by its name, or one that has no state.
+fn framing(line: &[u8], name: Word, octets: &mut [u8]) -> Call {
+    let at = name.to;
+    if words::is(line, name, b"pack") {
+        return packets::pack(line, at, octets);
+    }
+    if words::is(line, name, b"unpack") {
+        return packets::unpack(line, at, octets);
+    }
+    if words::is(line, name, b"link") {
+        return packets::link(line, at, octets);
+    }
+    coding(line, name, octets)
+}
+
+// A call on a channel's unit or on a payload, by its name, or one on packets, or one that has no state.
 fn carrying(line: &[u8], name: Word, octets: &mut [u8]) -> Call {
     let at = name.to;
     if words::is(line, name, b"post") {
@@ -301,7 +307,7 @@ fn carrying(line: &[u8], name: Word, octets: &mut [u8]) -> Call {
     if words::is(line, name, b"take") {
         return take(line, at, octets);
     }
-    coding(line, name, octets)
+    framing(line, name, octets)
 }
 
 // What a line asks for. An empty line and one that begins with # ask for nothing.

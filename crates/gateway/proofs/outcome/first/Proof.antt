@@ -1,9 +1,9 @@
--- `gateway::link::first` is safe: what is lent is within the numbers. Assumes nothing.
+-- `gateway::outcome::first` is safe: what is lent is within the numbers. Assumes nothing.
 use borrow.Author.Needs.{needs}
 use mathlib.Core.Path.{sym}
 use lib.Seq.{length-take-le}
-use Rattle.gateway.proofs.link.first.Statement.{statement}
-use Rattle.gateway.proofs.link.first.Tie as tie
+use Rattle.gateway.proofs.outcome.first.Statement.{statement}
+use Rattle.gateway.proofs.outcome.first.Tie as tie
 
 slice-aggregate-result : tie.Need-slice-aggregate-result
 slice-aggregate-result c = sym (length-take-le _ _ (c .before .if1 .left))
