@@ -14,6 +14,7 @@ pub mod Stepping
 pub mod Delivering
 pub mod Failing
 pub mod Numbering
+pub mod Filling
 pub mod Following
 pub mod Unbroken
 pub mod Handing

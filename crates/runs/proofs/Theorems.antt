@@ -15,6 +15,7 @@ use Rattle.runs.proofs.Handing.{as-sent, numbers-follow, carried-by-AL2
 use Rattle.runs.proofs.Passed.{carried-by-AL1, carried-by-plain-AL2, carried-by-AL1M}
 use Rattle.runs.proofs.Bringing.{written-brings}
 use Rattle.runs.proofs.Streaming.{stream-brings, stream-written, stream-read, stream-read-back}
+use Rattle.runs.proofs.Filling.{fill-leaves}
 use Rattle.runs.proofs.Hearing.{packet-demand}
 use Rattle.runs.proofs.Crossing.{parcel-run, on-way-packable, packets-as-sent, packet-numbers}
 use Rattle.runs.proofs.Crossing.{packets-by-AL1, packets-by-AL2, packets-by-plain-AL2, packets-by-AL1M}
@@ -48,6 +49,7 @@ over-packets = record {
   byAL2 = packets-by-AL2;
   byPlainAL2 = packets-by-plain-AL2;
   byAL1M = packets-by-AL1M;
+  fill = fill-leaves;
   written = written-brings;
   streamBrings = stream-brings;
   streamWritten = stream-written;

@@ -13,6 +13,7 @@
 --   PacketsAsSent      where no octet of a payload changes, each end delivers on each channel the units wholly sent at the other, in order
 --   PacketNumbers, PacketsByAL2, PacketsByPlainAL2, PacketsByAL1, PacketsByAL1M   what specs/Carried.antt claims of runs, of runs over packets.
 --                      The last is demand 3: unit j delivered, at most e octets of it changed, is handed up as it was sent
+--   FillLeaves         a fill packet, at most three bits of its header wrong, is read as one, and what it carries finishes nothing and changes nothing
 --   WrittenBrings      what `write` writes, with anything behind it, brings the payload that was handed in
 --   StreamBrings       a stream brings its first payload; and from where the next packet's flag lies, which is its closing flag, the others
 --   StreamWritten      packets that were written one behind another are a stream, with anything behind them
@@ -28,18 +29,19 @@
 --
 -- Assumes nothing.
 use mathlib.Core.Path.{_≡_}
-use mathlib.Core.Bool.{Bool, true, cond}
+use mathlib.Core.Bool.{Bool, true, false, cond}
 use mathlib.Core.List.{List, [], _∷_, _++_, map}
-use Prim.Native.Nat.{ℕ}
+use Prim.Native.Nat.{ℕ, _≤_}
 use lib.ListN.{length, take, drop}
 use Rattle.octets.specs.Same.{same}
 use Rattle.octets.specs.Each.{Each}
 use Rattle.calls.specs.Refusal.{Told, refused, told, leaving}
 use Rattle.channels.specs.Channels.{allOctets}
 use Rattle.packets.specs.Flag.{flagOf, isFlag}
-use Rattle.packets.specs.Header.{headerOf}
+use Rattle.packets.specs.Header.{headerOf, wrongBits}
 use Rattle.packets.specs.Packet.{Heading, heading, wrote, read}
-use Rattle.multiplex.specs.Calls.{Call, Answer}
+use Rattle.multiplex.specs.Calls as call
+use Rattle.multiplex.specs.Calls.{Link, Call, Answer, finished, called}
 use Rattle.runs.specs.Runs.{Side, other, Parcel, World, endAt, begin, Event, arrives}
 use Rattle.runs.specs.Carried.{Run, beginning, ending, Coding, Reception, codedBy, takenBy, calledAt}
 use Rattle.runs.specs.Carried.{FollowIn, UnitsAsSent, ByAL1, ByAL2, ByPlainAL2, ByAL1M}
@@ -124,6 +126,12 @@ PacketsByAL1M = (R : ℕ → ℕ → Type 0) (r : PacketRun R) → ByAL1M (packe
 
 -- ---- packets as they are written, and one behind another
 
+abbrev pub FillLeaves : Type 0
+FillLeaves =
+    (o : Bool) (header rest output units : List ℕ) (x : Link) → length header ≡ 3 → wrongBits header (headerOf 0 0) ≤ 3
+    → (read (flagOf o ++ header ++ flagOf false ++ rest) ≡ told (heading 0 false 0))
+    × (called x (call.demultiplexing 0 false [] output units) ≡ leaving (finished 0 output units) x)
+
 abbrev pub WrittenBrings : Type 1
 WrittenBrings =
     (R : ℕ → ℕ → Type 0) → ((a : ℕ) → R a a) → (o : Bool) (c : ℕ) (m : Bool) (xs before after rest : List ℕ) (n : ℕ)
@@ -180,6 +188,7 @@ pub record OverPackets : Type 1 where
   pub byAL2 : PacketsByAL2
   pub byPlainAL2 : PacketsByPlainAL2
   pub byAL1M : PacketsByAL1M
+  pub fill : FillLeaves
   pub written : WrittenBrings
   pub streamBrings : StreamBrings
   pub streamWritten : StreamWritten
