@@ -3,9 +3,11 @@
 --   packets                         the claims (Theorems)
 --   read-refuses, wrote-refuses     what refuses (Refusals)
 --   read-told-small, write-small    how large what is told is (Refusals)
+--   read-within                     the next packet's flag lies within the octets (Telling)
 --   reading-once                    one answer to reading (Unique)
 --
 -- Assumes nothing.
 pub use Rattle.packets.proofs.Theorems.{packets}
 pub use Rattle.packets.proofs.Refusals.{read-refuses, wrote-refuses, read-told-small, write-small}
+pub use Rattle.packets.proofs.Telling.{read-within}
 pub use Rattle.packets.proofs.Unique.{reading-once}

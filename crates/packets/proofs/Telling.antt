@@ -2,18 +2,20 @@
 --
 --   of-reading   exactly when, and that there is no other
 --   next-flag    what is told of the next packet's flag
+--   read-within  .. so that it lies within the octets
 --
 -- Assumes nothing.
-use mathlib.Core.Path.{_≡_, sym, _∙_}
+use mathlib.Core.Path.{_≡_, refl, sym, ap, _∙_}
 use mathlib.Core.Logic.{inl, inr, ⊎-elim}
+use mathlib.Core.Bool.{Bool, true, false}
 use mathlib.Core.List.{List}
-use Prim.Native.Nat.{ℕ}
+use Prim.Native.Nat.{ℕ, _+_, _≤_}
 use native.Mathlib.Omega.{arith}
-use lib.ListN.{take, drop}
-use Rattle.calls.specs.Refusal.{refused}
+use lib.ListN.{length, take, drop, length-take, length-drop}
+use Rattle.calls.specs.Refusal.{refused, told}
 use Rattle.calls.proofs.Laws.{told-refused, told-same}
 use Rattle.packets.specs.Flag.{flagOf}
-use Rattle.packets.specs.Packet.{read}
+use Rattle.packets.specs.Packet.{Heading, read}
 use Rattle.packets.specs.Claims.{OfReading, NextFlag}
 use Rattle.packets.proofs.Ends.{Broken, Why, Ends, refuses, tells, ends, flagless-ends, short-ends, wordless-ends, unused-ends, unclosed-ends}
 
@@ -50,3 +52,10 @@ next-flag u p e = by (ends u)
     by : Ends u → take 2 (drop (p .next) u) ≡ flagOf (p .mark)
     by (refuses k w r) = told-refused e r
     by (tells d m s l f r) = rw (← told-same _ p (sym r ∙ e)) f
+
+pub read-within : (u : List ℕ) (p : Heading) → read u ≡ told p → p .next + 2 ≤ length u
+read-within u p e = let two = rw (length-take, length-drop) at (ap length (next-flag u p e)) in omega (arith, two, flag-long (p .mark))
+  where
+    flag-long : (m : Bool) → length (flagOf m) ≡ 2
+    flag-long false = refl
+    flag-long true = refl
