@@ -1,7 +1,6 @@
 #!/usr/bin/env python3
 """The demonstration's call by the model of gateway.py: what crates/demo should print."""
 import gateway as model
-import packets
 
 ROUNDS, ROOM = 100, 90
 UNITS = {0: 12, 1: 20, 2: 30, 3: 100, 4: 10}
@@ -71,8 +70,8 @@ def call():
     def read(sent, wrong, packet):
         """What the far end demultiplexes of a packet."""
         try:
-            got = packets.read(packet)[:3]
-        except packets.Refused as refusal:
+            got = model.unpack(packet)[:3]
+        except model.Refused as refusal:
             became[refusal.args[0]] += 1
             return []
         as_sent = (got[0], got[1], len(got[2])) == sent
@@ -96,7 +95,7 @@ def call():
                     mark, payload = near.mux(code, ROOM, 255)
                 except model.Refused:
                     break
-                packet = packets.write(opens, code, mark, payload, 261)
+                packet = model.pack(opens, code, mark, payload, 261)
                 opens = mark
                 wrong, hits = damage(packet, len(payload), noise)
                 octets += len(payload)
