@@ -1,7 +1,8 @@
 /*
  * A host in C: it sends units, a bad link damages them by a fixed pattern, and it receives them again and shows each badge and which
  * octets were repaired. Then it receives noise, which nobody sent, and shows why a unit without a check may not be trusted, whatever its
- * badge says. Last it writes what it received to the record of the call, and reads that back.
+ * badge says. It writes what it received to the record of the call, and reads that back. Last it writes a packet of level 2, damages its
+ * header, and reads it where it lies.
  * './kyte host' builds and runs it; examples/host.expected is what it prints.
  */
 #include "kyteblossom.h"
@@ -36,8 +37,10 @@ static const char *const refusals[] = {
     [KYTE_REFUSED_SETTING] = "width or e is none of the code's",
     [KYTE_REFUSED_LENGTH] = "the unit is too short or too long",
     [KYTE_REFUSED_ROOM] = "the buffer is too small",
+    [KYTE_REFUSED_CODE] = "there is no such multiplex code",
     [KYTE_REFUSED_CHANNELS] = "there is a seventeenth channel",
-    [KYTE_REFUSED_FORM] = "these are no units, or it is no record",
+    [KYTE_REFUSED_FORM] = "these are no units, or it is no record or packet",
+    [KYTE_REFUSED_HEADER] = "more bits of the header are wrong than can be put right",
 };
 
 /* So many places of a unit are shown, and of the others how many there are. */
@@ -176,6 +179,32 @@ static int is_lost_in_record(const struct kept *kept)
     return !is_same;
 }
 
+/* Sends a payload in a packet, of whose header the link damages so many bits. Whether something else is read. */
+static int is_lost_in_packet(const char *payload, uint32_t code, int wrong)
+{
+    uint8_t packet[KYTE_LONGEST_PACKET];
+    size_t length = strlen(payload);
+    int32_t n = kyte_packet_write(0, code, 1, (const uint8_t *)payload, length, packet, sizeof packet);
+    if (n < 0) {
+        printf("Packet of code %u: ", (unsigned)code);
+        show_refusal(n);
+        return 0;
+    }
+    for (int i = 0; i < wrong; i++)
+        packet[2 + i % 3] ^= (uint8_t)(1 << 2 * i);
+
+    int32_t answer = kyte_packet_read(packet, (size_t)n);
+    printf("Packet of %d octets, wrong header bits %d: ", (int)n, wrong);
+    if (answer < 0) {
+        show_refusal(answer);
+        return 0;
+    }
+    const uint8_t *at = kyte_packet_payload(packet, answer);
+    printf("code %d, '%.*s' at octet %d%s, the next packet at octet %zu\n", kyte_packet_code(answer), (int)kyte_packet_length(answer),
+           (const char *)at, (int)(at - packet), kyte_packet_mark(answer) ? ", closing mark" : "", kyte_packet_next(answer));
+    return kyte_packet_code(answer) != (int)code || kyte_packet_length(answer) != length || memcmp(at, payload, length) != 0;
+}
+
 int main(void)
 {
     static struct kept kept;
@@ -188,5 +217,9 @@ int main(void)
     for (uint32_t width = 0; width <= 16; width += 8)
         deceived += is_deceived_by_noise(width, &kept);
     printf("Trusted units that differ from what was sent: %d\n", deceived);
-    return is_lost_in_record(&kept) || deceived != 0;
+    int lost = is_lost_in_record(&kept);
+    for (int wrong = 0; wrong <= 4; wrong++)
+        lost += is_lost_in_packet("crane 4: hook clear", 3, wrong);
+    lost += is_lost_in_packet("crane 4: hook clear", 16, 0);
+    return lost || deceived != 0;
 }

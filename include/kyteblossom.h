@@ -1,15 +1,15 @@
 /*
- * Kyteblossom: the protected units of ITU-T H.223, Annex D (AL1M, mode FEC_ONLY), and the record of a call's units, for a host in C
- * or C++.
+ * Kyteblossom: the protected units of ITU-T H.223, Annex D (AL1M, mode FEC_ONLY), the record of a call's units, and the packets of level 2
+ * (H.223, Annex B), for a host in C or C++.
  *
  * Every function answers every number and every buffer: widths, limits and lengths out of range are refused by a number, and a
  * refusal leaves all that was lent as it came. What a function writes it writes from the start of the buffer; what lies past that never
  * changes. A length counts the elements of its buffer: octets, or numbers of 16 bits where the pointer is to uint16_t.
  *
- * Proved is what the five functions of the library, kyte_length, kyte_encode, kyte_receive, kyte_record_write and kyte_record_read, answer
- * and leave in the buffers (docs/PROMISES.md), and that the equations beside the inline functions below give back from an answer of
- * kyte_receive what it was made of. Not proved, but tried (tests/host): that the inline functions, which are C, compute those equations,
- * and what a compiler makes of the whole.
+ * Proved is what the seven functions of the library, kyte_length, kyte_encode, kyte_receive, kyte_record_write, kyte_record_read,
+ * kyte_packet_write and kyte_packet_read, answer and leave in the buffers (docs/PROMISES.md), and that the equations beside the inline
+ * functions below give back from an answer of kyte_receive or kyte_packet_read what it was made of. Not proved, but tried (tests/host): that
+ * the inline functions, which are C, compute those equations, and what a compiler makes of the whole.
  *
  * The one duty of the host: a pointer and its length name that many elements that are there to be read (and, where the pointer is not
  * const, written) for the whole call, and no two buffers of one call, which has up to three, overlap. A length may be 0; the pointer is
@@ -44,12 +44,20 @@ extern "C" {
 #define KYTE_RECORD_UNITS 95325
 #define KYTE_RECORD_OCTETS 1048576
 
+/* The longest payload of a packet; the octets before it, flag and header; all those around it; and a size that is enough for `packet`. */
+#define KYTE_LONGEST_PAYLOAD 254
+#define KYTE_PACKET_BEFORE 5
+#define KYTE_PACKET_AROUND 7
+#define KYTE_LONGEST_PACKET 261
+
 /* Why a call is refused: the answer is minus one of these. */
 #define KYTE_REFUSED_SETTING 1   /* width is not 0, 8 or 16, or e is over 127 */
-#define KYTE_REFUSED_LENGTH 2    /* a unit or a word is too short or too long, or a record too long */
+#define KYTE_REFUSED_LENGTH 2    /* a unit or a word is too short or too long, or a record or a payload too long */
 #define KYTE_REFUSED_ROOM 3      /* a buffer that is to be written is too small */
+#define KYTE_REFUSED_CODE 4      /* the multiplex code is over 15 */
 #define KYTE_REFUSED_CHANNELS 12 /* the units are on more than 16 channels */
-#define KYTE_REFUSED_FORM 15     /* the numbers and octets are no list of units, or the octets no record */
+#define KYTE_REFUSED_FORM 15     /* the octets are no list of units, no record, or no packet: a flag is neither form, or it is cut short */
+#define KYTE_REFUSED_HEADER 17   /* no header that can be sent lies within three bits of a packet's */
 
 /* What is known of a unit that is handed up. */
 #define KYTE_CLEAN 0        /* the received word is a code word, and its check agrees */
@@ -105,6 +113,31 @@ int32_t kyte_record_write(const uint16_t *units, size_t units_len, const uint8_t
 int32_t kyte_record_read(const uint8_t *record, size_t record_len, uint16_t *units, size_t units_len, uint8_t *octets,
                          size_t octets_len);
 
+/*
+ * A packet of level 2 (H.223, B.3.1 to B.3.3): a flag of two octets, three octets of header, a payload of 0 to 254 octets, and the closing
+ * flag. The header says the multiplex code and the payload's length, so coded that up to three of its 24 bits may be wrong. A closing flag
+ * that is complemented, 1E B2 for E1 4D, is the closing mark. It is also the flag that opens the next packet, so that either form opens one.
+ * The payload itself is not protected.
+ */
+
+/*
+ * Writes a packet to the front of `packet`. `opens` and `mark` choose the form of its first flag and of its closing flag: 0 is the plain one,
+ * and anything else the complement. Answers how many octets were written, 7 more than the payload has. Below 0: refused (4 for a code over
+ * 15; then 2 for a payload of more than 254 octets; then 3). To write the next packet of a stream, hand in the place of the closing flag, and
+ * for `opens` what was `mark`. The packet of code 0 without a payload is the one that fills a link with nothing to send.
+ */
+int32_t kyte_packet_write(uint32_t opens, uint32_t code, uint32_t mark, const uint8_t *payload, size_t payload_len, uint8_t *packet,
+                          size_t packet_len);
+
+/*
+ * Reads the packet that the octets begin with; more may follow it. Answers its code + 16 if its closing flag is the closing mark + 256 octets
+ * of its payload: kyte_packet_code, kyte_packet_mark and kyte_packet_length take it apart, kyte_packet_payload says where the payload lies,
+ * and kyte_packet_next how far on the next packet begins. A header of which at most three bits are wrong is read as it was sent. Below 0:
+ * refused (15 for a first flag that is neither form, or fewer than five octets; then 17 for a header with more wrong bits, where no other
+ * lies within three; then 2 for a length of 255, which is not used; then 15 for a closing flag that is neither form, or missing).
+ */
+int32_t kyte_packet_read(const uint8_t *octets, size_t octets_len);
+
 /* The refusal's number, or 0 where an answer is no refusal: minus the answer where it is below 0. */
 static inline int kyte_refused(int32_t answer) { return answer < 0 ? -answer : 0; }
 
@@ -134,6 +167,22 @@ static inline const uint8_t *kyte_unit(int32_t answer, const uint8_t *received, 
         return 0;
     return kyte_badge(answer) == KYTE_CORRECTED ? repair : received;
 }
+
+/* The parts of kyte_packet_read's answer; -1, 0 and 0 of a refusal. The answer modulo 16; / 16, modulo 2; and / 256. */
+static inline int kyte_packet_code(int32_t answer) { return answer < 0 ? -1 : answer & 15; }
+
+static inline int kyte_packet_mark(int32_t answer) { return answer < 0 ? 0 : answer >> 4 & 1; }
+
+static inline size_t kyte_packet_length(int32_t answer) { return answer < 0 ? 0 : (size_t)(answer >> 8); }
+
+/* Where the payload lies in the octets that were read: 5 on; null after a refusal. */
+static inline const uint8_t *kyte_packet_payload(const uint8_t *octets, int32_t answer)
+{
+    return answer < 0 ? 0 : octets + KYTE_PACKET_BEFORE;
+}
+
+/* How many octets on the next packet's first flag lies, which is this one's closing flag: 5 and the payload's octets; 0 after a refusal. */
+static inline size_t kyte_packet_next(int32_t answer) { return answer < 0 ? 0 : KYTE_PACKET_BEFORE + kyte_packet_length(answer); }
 
 #ifdef __cplusplus
 }

@@ -1,7 +1,7 @@
 /*
  * The header's functions on every answer that kyte_receive has: each refusal, each badge with each count and each length of a unit, and
- * with each width, also such as are refused; and on the refusals that records alone have. Status 1, and a line, at the first that reads
- * otherwise than its equation.
+ * with each width, also such as are refused; on every answer that kyte_packet_read has: each code with each length, with the mark and
+ * without; and on the refusals that the other entries have. Status 1, and a line, at the first that reads otherwise than its equation.
  */
 #include "kyteblossom.h"
 #include "reading.h"
@@ -11,7 +11,8 @@
 
 static const uint32_t widths[] = { 0, 8, 16, 1, 7, 9, 15, 17, 24, 32, 256, 264, 65544, 0x80000008, 0xFFFFFFFF };
 
-static const int32_t refusals[] = { KYTE_REFUSED_SETTING, KYTE_REFUSED_LENGTH, KYTE_REFUSED_ROOM, KYTE_REFUSED_CHANNELS, KYTE_REFUSED_FORM };
+static const int32_t refusals[] = { KYTE_REFUSED_SETTING, KYTE_REFUSED_LENGTH,   KYTE_REFUSED_ROOM,  KYTE_REFUSED_CODE,
+                                    KYTE_REFUSED_CHANNELS, KYTE_REFUSED_FORM, KYTE_REFUSED_HEADER };
 
 static unsigned long answers;
 
@@ -30,11 +31,34 @@ static int is_misread(int32_t answer)
     return 0;
 }
 
+/* .. of those for packets. */
+static int is_packet_misread(int32_t answer)
+{
+    static const uint8_t octets[KYTE_PACKET_AROUND];
+    answers++;
+    const char *differs = packet_reading_differs(answer, octets);
+    if (differs)
+        printf("DIFFERS: %s of the answer %d\n", differs, (int)answer);
+    return differs != 0;
+}
+
+static int is_some_packet_misread(void)
+{
+    for (int32_t code = 0; code <= 15; code++)
+        for (int32_t mark = 0; mark <= 1; mark++)
+            for (int32_t length = 0; length <= KYTE_LONGEST_PAYLOAD; length++)
+                if (is_packet_misread(code + 16 * mark + 256 * length))
+                    return 1;
+    return 0;
+}
+
 int main(void)
 {
     for (size_t i = 0; i < sizeof refusals / sizeof *refusals; i++)
-        if (is_misread(-refusals[i]))
+        if (is_misread(-refusals[i]) || is_packet_misread(-refusals[i]))
             return 1;
+    if (is_some_packet_misread())
+        return 1;
     for (int32_t badge = 0; badge <= 4; badge++)
         for (int32_t changed = 0; changed <= 127; changed++)
             for (int32_t length = 1; length <= 255; length++)

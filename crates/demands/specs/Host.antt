@@ -24,7 +24,7 @@ use Rattle.checks.specs.Width.{kindAt}
 use Rattle.adaptation.specs.Receiving.{RepairLent, isBare, unitLength}
 use Rattle.kyteblossom.specs.Answer.{EncodeIs, ReceiveIs}
 use Rattle.kyteblossom.specs.Header.{isBelow, toldBadge, toldChanged, toldLength, toldUnit, isChecked, isTrusted}
-use Rattle.kyteblossom.specs.Claims.{LengthAnswered, EncodeAnswered, ReceiveAnswered, RecordWriteAnswered, RecordReadAnswered, PacketWriteAnswered, PacketReadAnswered}
+use Rattle.kyteblossom.specs.Claims.{LengthAnswered, EncodeAnswered, ReceiveAnswered, RecordWriteAnswered, RecordReadAnswered, PacketWriteAnswered, PacketReadAnswered, PacketBack}
 
 abbrev pub foundBadge : Bool → ℕ → Bool → ℕ
 foundBadge x d false = 3
@@ -74,6 +74,7 @@ pub record Host : Type 0 where
   pub reading : RecordReadAnswered
   pub packing : PacketWriteAnswered
   pub unpacking : PacketReadAnswered
+  pub packetBack : PacketBack
   -- demand 3
   pub repairs : (b e : ℕ) (w : List ℕ) (before after : RepairLent) (r : ℤ) → ReceiveIs b e w before r after → isBelow r ≡ false
       → HostRepairs b e w before after r

@@ -3,3 +3,4 @@ pub mod Theorems
 pub mod Laws
 pub mod Answering
 pub mod Recorded
+pub mod Framed

@@ -11,14 +11,19 @@
 --                                 `received` otherwise
 --   isChecked b                   a check of b bits is one: 8 or 16
 --   isTrusted r b                 kyte_trusted: clean or corrected, where there is a check
+--   toldCode r                    kyte_packet_code: the answer modulo 16, and -1 of a refusal
+--   toldMark r                    kyte_packet_mark: the answer / 16, modulo 2, and 0 of a refusal
+--   toldPayloadLength r           kyte_packet_length: the answer / 256, and 0 of a refusal
+--   toldPayload octets r          the octets that kyte_packet_payload and kyte_packet_length name: from the fifth on
+--   toldNext r                    kyte_packet_next: 5 and the payload's octets, and 0 of a refusal
 --
 -- Assumes nothing.
 use mathlib.Core.Bool.{Bool, true, false, cond, _&&_, _||_}
 use mathlib.Core.List.{List}
-use Prim.Native.Nat.{ℕ, suc, _/_, _%_}
+use Prim.Native.Nat.{ℕ, suc, _+_, _/_, _%_}
 use lib.Dec.{eqb}
 use lib.IntN.{ℤ, pos, negsuc}
-use lib.ListN.{take}
+use lib.ListN.{take, drop}
 
 abbrev pub isBelow : ℤ → Bool
 isBelow (pos n) = false
@@ -52,3 +57,24 @@ isChecked b = eqb b 8 || eqb b 16
 
 abbrev pub isTrusted : ℤ → ℕ → Bool
 isTrusted r b = (isBadge r 0 || isBadge r 1) && isChecked b
+
+-- ---- packets
+
+abbrev pub toldCode : ℤ → ℤ
+toldCode (pos n) = pos (n % 16)
+toldCode (negsuc k) = negsuc 0
+
+abbrev pub toldMark : ℤ → ℕ
+toldMark (pos n) = n / 16 % 2
+toldMark (negsuc k) = 0
+
+abbrev pub toldPayloadLength : ℤ → ℕ
+toldPayloadLength (pos n) = n / 256
+toldPayloadLength (negsuc k) = 0
+
+abbrev pub toldPayload : List ℕ → ℤ → List ℕ
+toldPayload octets r = take (toldPayloadLength r) (drop 5 octets)
+
+abbrev pub toldNext : ℤ → ℕ
+toldNext (pos n) = 5 + n / 256
+toldNext (negsuc k) = 0

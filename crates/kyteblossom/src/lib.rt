@@ -3,12 +3,14 @@ use adaptation::al1m;
 use adaptation::al1m::Judgement;
 use adaptation::al1m::Received;
 use calls::Length;
-use record::Reading;
+use packets::Packet;
+use table::Code;
 ghost use mathlib.Core.Path.{_≡_};
-ghost use Prim.Native.Nat.{_<_};
+ghost use Prim.Native.Nat.{_≤_, _<_};
 ghost use lib.IntN.{pos, negℤ};
 ghost use Rattle.adaptation.specs.AL1M.{sentLength};
-ghost use Rattle.kyteblossom.specs.Answer.{answer, packed, EncodeIs, ReceiveIs, RecordWriteIs, RecordReadIs};
+ghost use Rattle.packets.specs.Packet.{read};
+ghost use Rattle.kyteblossom.specs.Answer.{answer, packed, EncodeIs, ReceiveIs, RecordWriteIs, RecordReadIs, packetNumber, packetSays, PacketWriteIs};
 
 // A refusal as the host reads it: minus its number.
 fn refusal(k: u8) -> i32
@@ -26,6 +28,20 @@ fn pack(j: Judgement) -> i32
     let changed = j.changed as u32;
     let length = j.length as u32;
     (adaptation::badge_number(badge) as u32 + 256 * changed + 65536 * length) as i32
+}
+
+// What a packet says, as one number.
+fn pack_packet(p: Packet) -> i32
+    requires { ⌜ (p .code .0 ≤ 15) × (p .length ≤ 254) ⌝ }
+    ensures { λ r. ⌜ r ≡ pos (packetNumber (p .code .0) (p .mark) (p .length)) ⌝ }
+{
+    let length = p.length as u32;
+    let unmarked = p.code.0 + 256 * length;
+    if p.mark {
+        (unmarked + 16) as i32
+    } else {
+        unmarked as i32
+    }
 }
 
 // How many octets a unit is sent in, or minus the refusal's number.
@@ -85,7 +101,35 @@ pub extern "C" fn kyte_record_read(input: &[u8], units: &mut [u16], content: &mu
     ensures { λ r. ⌜ RecordReadIs (now (input .entry)) (now (units .entry)) (now (content .entry)) r (now (units .exit)) (now (content .exit)) ⌝ }
 {
     match record::read(input, units, content) {
-        Reading::Units(n) => n as i32,
-        Reading::Refused(k) => refusal(k),
+        record::Reading::Units(n) => n as i32,
+        record::Reading::Refused(k) => refusal(k),
+    }
+}
+
+// Writes a packet: how many octets of `packet` were written, or minus the refusal's number. A flag is plain for 0, and else complemented.
+#[no_mangle]
+pub extern "C" fn kyte_packet_write(
+    opens: u32,
+    code: u32,
+    mark: u32,
+    payload: &[u8],
+    packet: &mut [u8],
+) -> i32
+    ensures { λ r. ⌜ PacketWriteIs opens code mark (now (payload .entry)) (now (packet .entry)) r (now (packet .exit)) ⌝ }
+{
+    match packets::write(opens != 0, Code(code), mark != 0, payload, packet) {
+        Length::Octets(written) => written as i32,
+        Length::Refused(k) => refusal(k),
+    }
+}
+
+// Reads the packet at the front of the octets: code + 16 mark + 256 payload length, or minus the refusal's number.
+#[no_mangle]
+pub extern "C" fn kyte_packet_read(octets: &[u8]) -> i32
+    ensures { λ r. ⌜ r ≡ answer (packetSays (read (now (octets .entry)))) ⌝ }
+{
+    match packets::read(octets) {
+        packets::Reading::Packet(p) => pack_packet(p),
+        packets::Reading::Refused(k) => refusal(k),
     }
 }
