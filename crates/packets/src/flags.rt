@@ -2,7 +2,7 @@
 ghost use mathlib.Core.Path.{_≡_};
 ghost use mathlib.Core.List.{List};
 ghost use lib.ListN.{drop};
-ghost use Rattle.packets.specs.Flag.{flagOf, flagIn, isNeither};
+ghost use Rattle.packets.specs.Flag.{flagOf, isFlag, flagIn, isNeither};
 
 // What stands where a flag is looked for.
 pub enum Flag {
@@ -22,17 +22,23 @@ pub fn of(complemented: bool) -> [u8; 2]
     }
 }
 
+// Whether the flag, or its complement, stands at a place.
+fn stands(octets: &[u8], place: usize, complemented: bool) -> bool
+    ensures { λ r. ⌜ r ≡ isFlag complemented (drop place (now (octets .entry))) ⌝ }
+{
+    if octets.len() < place {
+        return false;
+    }
+    octets::same(octets::front(&octets[place..], 2), &of(complemented))
+}
+
 // Which flag stands at a place, if one does.
 pub fn at(octets: &[u8], place: usize) -> Flag
     ensures { λ r. ⌜ r ≡ flagIn (drop place (now (octets .entry))) ⌝ }
 {
-    if octets.len() < place {
-        return Flag::Neither;
-    }
-    let here = octets::front(&octets[place..], 2);
-    if octets::same(here, &of(false)) {
+    if stands(octets, place, false) {
         Flag::Plain
-    } else if octets::same(here, &of(true)) {
+    } else if stands(octets, place, true) {
         Flag::Complemented
     } else {
         Flag::Neither

@@ -1,48 +1,22 @@
--- By the two octets that stand there. Assumes nothing.
+-- By the two tests. Assumes nothing.
 use borrow.Author.Needs.{needs}
 use mathlib.Core.Path.{sym, _∙_}
-use mathlib.Core.Bool.{true, false}
-use denote.Ref.{now}
-use Rattle.packets.proofs.Standing.{looked, is-plain, is-complemented, is-neither, past-the-end}
+use Rattle.packets.proofs.Standing.{is-plain, is-complemented, is-neither}
 use Rattle.packets.proofs.flags.at.Statement.{statement}
 use Rattle.packets.proofs.flags.at.Tie as tie
 
 returns : tie.Need-returns
-returns c = sym (past-the-end _ _ (c .if1 .taken))
+returns c = sym (is-plain _ (sym (c .before .stands .ensures) ∙ c .if1 .taken))
 
 returns-2 : tie.Need-returns-2
 returns-2 c =
-    let s = c .before in
-    let o = s .before .before in
-    let a = o .before .before .before .before .before .args in
-    sym (is-plain _ (looked false (a .place) (now (a .octets)) _ _ _ (s .same .ensures) (o .before .front .ensures) (o .of .ensures) ∙ c .if2 .taken))
+    let e = c .before .before in
+    sym (is-complemented _ (sym (e .before .stands .ensures) ∙ e .if1 .left) (sym (c .before .stands2 .ensures) ∙ c .if2 .taken))
 
 returns-3 : tie.Need-returns-3
 returns-3 c =
-    let t = c .before in
-    let e = t .before .before .before in
-    let s = e .before in
-    let o = s .before .before in
-    let f = o .before .front .ensures in
-    let a = o .before .before .before .before .before .args in
-    sym (is-complemented _
-    (looked false (a .place) (now (a .octets)) _ _ _ (s .same .ensures) f (o .of .ensures) ∙ e .if2 .left)
-    (looked true (a .place) (now (a .octets)) _ _ _ (t .same2 .ensures) f (t .before .before .of2 .ensures) ∙ c .if3 .taken))
-
-returns-4 : tie.Need-returns-4
-returns-4 c =
-    let t = c .before in
-    let e = t .before .before .before in
-    let s = e .before in
-    let o = s .before .before in
-    let f = o .before .front .ensures in
-    let a = o .before .before .before .before .before .args in
-    sym (is-neither _
-    (looked false (a .place) (now (a .octets)) _ _ _ (s .same .ensures) f (o .of .ensures) ∙ e .if2 .left)
-    (looked true (a .place) (now (a .octets)) _ _ _ (t .same2 .ensures) f (t .before .before .of2 .ensures) ∙ c .if3 .left))
+    let e = c .before .before in
+    sym (is-neither _ (sym (e .before .stands .ensures) ∙ e .if1 .left) (sym (c .before .stands2 .ensures) ∙ c .if2 .left))
 
 pub at-spec : {M : Type 1} → statement M
-at-spec =
-    tie.close
-    (tie.spec returns (λ c. search needs) (λ c. search needs) (λ c. search needs) (λ c κs. search needs) (λ c κs. search needs) (λ c. search needs)
-    (λ c κs. search needs) (λ c κs. search needs) (λ c. search needs) (λ c κs. search needs) returns-2 returns-3 returns-4)
+at-spec = tie.close (tie.spec (λ c κs. search needs) (λ c κs. search needs) returns returns-2 returns-3)
