@@ -20,11 +20,11 @@ use Rattle.table.proofs.Laws.{cut-octets, payloadSlots-filled, payloadSlots-mos
 use Rattle.table.specs.Table.{entryOf, isDefined, longestPayload}
 use Rattle.channels.specs.declared.Channels.{Channels}
 use Rattle.channels.specs.Channels.{allOpen}
-use Rattle.multiplex.specs.Pieces.{Piece, placed, total}
+use Rattle.multiplex.specs.Pieces.{placed, total}
 use Rattle.multiplex.specs.Demultiplexer.{Delivery, nothing, delivery}
 use Rattle.multiplex.specs.Multiplexer.{Walk, walked, gathered}
 use Rattle.multiplex.specs.Units.{UnitOn}
-use Rattle.multiplex.proofs.Laws.{Tells, tells-nothing}
+use Rattle.multiplex.proofs.Laws.{tells-nothing}
 use Rattle.runs.specs.Runs.{Parcel}
 use Rattle.runs.proofs.Matching.{Matched}
 use Rattle.multiplex.proofs.Laws.{Agrees, walk-agrees}

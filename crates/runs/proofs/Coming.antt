@@ -3,17 +3,16 @@
 --   come-pair         it is delivered, or stays on its way
 --
 -- Assumes nothing.
-use mathlib.Core.Path.{_≡_, refl, sym, ap, subst, _∙_}
-use mathlib.Core.Bool.{Bool, true, false, cond}
-use mathlib.Core.List.{List, [], _∷_, _++_}
+use mathlib.Core.Path.{_≡_, refl, sym, subst}
+use mathlib.Core.Bool.{cond}
+use mathlib.Core.List.{List, _∷_, _++_}
 use Prim.Native.Nat.{ℕ, _+_}
 use native.Mathlib.Omega.{arith}
 use Rattle.octets.specs.Each.{Each}
-use Rattle.octets.specs.Written.{written}
-use Rattle.calls.specs.Refusal.{Ended, ended, leaving, refusing}
+use Rattle.calls.specs.Refusal.{Ended, ended, leaving}
 use Rattle.calls.proofs.Laws.{by-test}
-use Rattle.multiplex.specs.Demultiplexer.{Delivery, DemuxLent, delivery, tooSmall, writes, demultiplexed}
-use Rattle.multiplex.specs.Units.{UnitOn, unitsIn}
+use Rattle.multiplex.specs.Demultiplexer.{Delivery, DemuxLent, delivery, tooSmall, writes}
+use Rattle.multiplex.specs.Units.{UnitOn}
 use Rattle.multiplex.specs.Calls.{Link, Answer, finished, telling, ours, calledBy}
 use Rattle.multiplex.proofs.Laws.{tells-read}
 use Rattle.runs.specs.Runs.{Parcel, End, lacksRoom, taking, arriving}

@@ -23,7 +23,7 @@ use Rattle.runs.proofs.Hearing.{run-same, calls-same, first-packable}
 
 module _ {R : ℕ → ℕ → Type 0} (r : PacketRun R) where
   at-first : WorldPackable (packetBeginning r)
-  at-first = first-packable (r .held) (r .waiting) (r .held′) (r .waiting′)
+  at-first = first-packable (r .lent)
 
   all : PermittedAll R (λ j. ours) (packetBeginning r) (map parcelEvent (r .events))
       × (run (λ j. ours) (packetBeginning r) (map parcelEvent (r .events)) ≡ packetEnding r)
@@ -31,18 +31,7 @@ module _ {R : ℕ → ℕ → Type 0} (r : PacketRun R) where
   all = run-same R (r .events) (packetBeginning r) at-first (r .permitted)
 
   abbrev whole : Run R
-  whole = record {
-    held = r .held;
-    waiting = r .waiting;
-    held′ = r .held′;
-    waiting′ = r .waiting′;
-    heldRoom = r .heldRoom;
-    waitingRoom = r .waitingRoom;
-    heldRoom′ = r .heldRoom′;
-    waitingRoom′ = r .waitingRoom′;
-    events = map parcelEvent (r .events);
-    permitted = all .0;
-  }
+  whole = record { lent = r .lent; events = map parcelEvent (r .events); permitted = all .0 }
 
   ended : (P : World → Type 0) → P (ending whole) → P (packetEnding r)
   ended P = subst P (all .1)

@@ -8,9 +8,9 @@
 --
 -- Assumes nothing.
 use mathlib.Core.Path.{_≡_, refl, sym, ap, ap₂, subst, _∙_}
-use mathlib.Core.Bool.{Bool, true, false, cond, not, _||_}
+use mathlib.Core.Bool.{Bool, true, false, cond, _||_}
 use mathlib.Core.List.{List, [], _∷_, _++_, append-nil}
-use Prim.Native.Nat.{ℕ, _+_, _*_, _≤_}
+use Prim.Native.Nat.{ℕ, _+_, _≤_}
 use native.Mathlib.Omega.{arith}
 use borrow.Author.Tests.{le-ltb, eqb-false}
 use lib.Dec.{eqb}
@@ -21,22 +21,20 @@ use Rattle.octets.specs.Written.{written}
 use Rattle.calls.specs.Refusal.{Told, refused, told, Ended, leaving, refusing}
 use Rattle.calls.proofs.Laws.{both-tests, told-refused}
 use Rattle.table.specs.Slots.{payloadSlots}
-use Rattle.table.specs.Table.{entryOf, longestPayload}
+use Rattle.table.specs.Table.{entryOf}
 use Rattle.channels.specs.declared.Channels.{Channels}
-use Rattle.channels.specs.Channels.{allOctets}
 use Rattle.multiplex.specs.Pieces.{total}
-use Rattle.multiplex.specs.Demultiplexer.{Delivery, DemuxLent, delivery, tooSmall, writes, demultiplexed}
+use Rattle.multiplex.specs.Demultiplexer.{DemuxLent, delivery, tooSmall, writes, demultiplexed}
 use Rattle.multiplex.specs.Multiplexer.{MuxLent, Payload, Walk, walked, gathered, multiplexTests, multiplexed}
-use Rattle.multiplex.specs.Units.{UnitOn, unitsOn, enoughOutput, enoughUnits}
+use Rattle.multiplex.specs.Units.{UnitOn, unitsOn}
 use Rattle.multiplex.specs.Calls.{made, finished, telling, ours, calledBy}
-use Rattle.multiplex.proofs.Laws.{unitOctets, Tells}
-use Rattle.runs.specs.Runs.{Side, near, far, other, Parcel, End, World, endAt, begin}
+use Rattle.multiplex.proofs.Laws.{unitOctets}
+use Rattle.runs.specs.Runs.{Side, near, far, other, Parcel, End, World, endAt, Lent, begin}
 use Rattle.runs.specs.Demand.{withoutLast, isWaiting, whollySent, Accepts, Serves, Delivers, Demand2}
 use Rattle.runs.proofs.Matching.{Matched}
-use Rattle.runs.proofs.Shadowing.{UnitAlike, Parallel}
+use Rattle.runs.proofs.Shadowing.{UnitAlike}
 use Rattle.runs.proofs.Going.{Way, way-none, welcome, few-units}
-use Rattle.runs.proofs.Linking.{Linked, LinkedEnds, Came, linked-come, linked-more, linked-start, told-once}
-use Rattle.runs.proofs.Running.{Pair, pair-back}
+use Rattle.runs.proofs.Linking.{Linked, LinkedEnds, linked-come, linked-more, linked-start, told-once}
 use Rattle.runs.proofs.Stepping.{Kept, run-kept}
 
 -- ---- by channel
@@ -154,15 +152,14 @@ delivers {R} x k = record {
     next near = accepts (x .nearEnd) (x .farEnd) (k .back)
     next far = accepts (x .farEnd) (x .nearEnd) (k .there)
 
-pub begin-kept : (R : ℕ → ℕ → Type 0) (h w h′ w′ : List ℕ) → length h ≡ allOctets → length w ≡ allOctets → length h′ ≡ allOctets → length w′ ≡ allOctets
-    → Kept R (begin h w h′ w′)
-begin-kept R h w h′ w′ eh ew eh′ ew′ = record {
+pub begin-kept : (R : ℕ → ℕ → Type 0) (l : Lent) → Kept R (begin l)
+begin-kept R l = record {
   tables = refl;
   unrefused = refl;
   unrefused₁ = refl;
-  there = linked-start R _ w h′ ew eh′;
-  back = linked-start R _ w′ h ew′ eh;
+  there = linked-start R _ (l .waiting) (l .held′) (l .waitingRoom) (l .heldRoom′);
+  back = linked-start R _ (l .waiting′) (l .held) (l .waitingRoom′) (l .heldRoom);
 }
 
 pub demand-met : Demand2 (λ j. ours)
-demand-met R h w h′ w′ eh ew eh′ ew′ es p = delivers _ (run-kept R es (begin h w h′ w′) (begin-kept R h w h′ w′ eh ew eh′ ew′) p)
+demand-met R l es p = delivers _ (run-kept R es (begin l) (begin-kept R l) p)

@@ -1,6 +1,6 @@
 -- Four libraries that do not meet demand 2. Units of one octet are posted and sent on channel 0, each in a payload of its own.
 --
---   blank, blank-length, enough, world   octets of 0, and both ends with them
+--   blank, blank-length, enough, blanks, world   octets of 0, and both ends with them
 --   output, units    room that is enough
 --   idle-fails       the idle one delivers the first unit and not the second: the first, because ours does
 --   refuser-fails    the one that refuses everything refuses the first payload
@@ -8,29 +8,27 @@
 --   silent-fails     .. nor does the one whose payloads are empty
 --
 -- Assumes nothing.
-use mathlib.Core.Path.{_≡_, refl, sym, ap, subst, _∙_}
+use mathlib.Core.Path.{_≡_, refl, sym, ap, subst}
 use mathlib.Core.Bool.{Bool, true, false, cond}
 use mathlib.Core.List.{List, [], _∷_, _++_, append-nil}
 use Prim.Native.Nat.{ℕ, _≤_}
 use native.Mathlib.Omega.{arith}
-use lib.Dec.{eqb}
 use lib.ListN.{length, replicate, length-replicate}
 use Rattle.octets.specs.Tests.{never}
 use Rattle.octets.specs.Each.{Each, each-length, each-self}
-use Rattle.calls.specs.Refusal.{Told, refused, told, refusal}
+use Rattle.calls.specs.Refusal.{Told, refused, told}
 use Rattle.table.specs.Form.{inTurn, elementAs, listAs, treeOf}
 use Rattle.table.specs.Slots.{slots, cut, payloadSlots}
 use Rattle.table.specs.Table.{entryOf, isDefined}
 use Rattle.channels.specs.Search.{first}
 use Rattle.channels.specs.Channels.{start, placeOf, posted, allOctets}
 use Rattle.multiplex.specs.Pieces.{total}
-use Rattle.multiplex.specs.Demultiplexer.{demultiplexed}
 use Rattle.multiplex.specs.Multiplexer.{Payload, walked, multiplexed}
 use Rattle.multiplex.specs.Units.{unitsOn, unitsIn, enoughOutput, enoughUnits}
 use Rattle.multiplex.specs.Calls as call
-use Rattle.multiplex.specs.Calls.{Answer, ours, calledBy, testsOf}
-use Rattle.runs.specs.Runs.{Side, near, far, other, Parcel, End, World, endAt, begin, Event, posts, pays, arrives, lacksRoom, taking, arriving, Libraries, step, run}
-use Rattle.runs.specs.Demand.{PermittedAll, withoutLast, whollySent, Delivers, Demand2}
+use Rattle.multiplex.specs.Calls.{Answer, ours, calledBy}
+use Rattle.runs.specs.Runs.{Side, near, far, Parcel, End, World, endAt, Lent, begin, Event, posts, pays, arrives, lacksRoom, taking, Libraries, step, run}
+use Rattle.runs.specs.Demand.{PermittedAll, withoutLast, Delivers, Demand2}
 use Rattle.runs.specs.Claims.{idle, refuser, mute, silent}
 use Rattle.runs.proofs.Delivering.{demand-met}
 
@@ -44,13 +42,25 @@ blank-length n = length-replicate n 0
 pub enough : (n : ℕ) → n ≤ length (blank n)
 enough n = omega (arith, blank-length n)
 
+abbrev pub blanks : Lent
+blanks =
+    let e = blank-length allOctets in
+    record {
+      held = blank allOctets;
+      waiting = blank allOctets;
+      held′ = blank allOctets;
+      waiting′ = blank allOctets;
+      heldRoom = e;
+      waitingRoom = e;
+      heldRoom′ = e;
+      waitingRoom′ = e;
+    }
+
 abbrev pub world : World
-world = begin (blank allOctets) (blank allOctets) (blank allOctets) (blank allOctets)
+world = begin blanks
 
 tried : (L : Libraries) → Demand2 L → (es : List Event) → PermittedAll _≡_ L world es → Delivers _≡_ L (run L world es)
-tried L d es p =
-    let e = blank-length allOctets in
-    d _≡_ (blank allOctets) (blank allOctets) (blank allOctets) (blank allOctets) e e e e es p
+tried L d es p = d _≡_ blanks es p
 
 -- ---- the multiplexer
 

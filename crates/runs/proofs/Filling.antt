@@ -7,7 +7,7 @@
 -- Assumes nothing.
 use mathlib.Core.Path.{_≡_, refl, _∙_}
 use mathlib.Core.Bool.{false}
-use mathlib.Core.List.{List, [], _++_, append-nil}
+use mathlib.Core.List.{[], _++_, append-nil}
 use Prim.Native.Nat.{ℕ}
 use native.Mathlib.Omega.{arith}
 use borrow.Author.Tests.{le-ltb}

@@ -8,8 +8,7 @@
 --   other-sending, other-taking   a sending leaves the number expected, and a taking the number sent
 --
 -- Assumes nothing.
-use mathlib.Core.Path.{_≡_, refl, sym, ap, subst, _∙_}
-use mathlib.Core.Logic.{_≢_}
+use mathlib.Core.Path.{_≡_, refl, ap, subst, _∙_}
 use mathlib.Core.Bool.{Bool, true, false, cond, not, _&&_}
 use mathlib.Core.List.{List, [], _∷_}
 use Prim.Native.Nat.{ℕ, _+_, _%_, _<_}
@@ -17,20 +16,20 @@ use native.Mathlib.Decide.{ℕ-discrete}
 use borrow.Author.Tests.{eq-eqb, ne-eqb, ltb-true, not-false}
 use lib.Dec.{eqb}
 use lib.ListN.{length, take}
-use Rattle.calls.specs.Refusal.{Told, refused, told, Ended, ended, leaving, refusing}
+use Rattle.calls.specs.Refusal.{Told, refused, told, Ended, ended, refusing}
 use Rattle.calls.proofs.Laws.{by-test, by-tests, checked-leaves, checked-keeps}
 use Rattle.checks.specs.Check.{agrees, eight}
 use Rattle.adaptation.specs.AL2.{whole, isSendable, isWhole, unitOf, Receipt, settled, expectedBy, receiptOf, received}
 use Rattle.adaptation.specs.declared.al2.Number.the-variants.{Numbered, Plain}
 use Rattle.channels.specs.declared.Channel.{Channel}
 use Rattle.channels.specs.declared.Channels.{Channels}
-use Rattle.channels.specs.Channels.{placeOf, isIn, channelAt, put, numbering, placeCount}
+use Rattle.channels.specs.Channels.{placeOf, isIn, put, numbering, placeCount}
 use Rattle.channels.specs.Claims.{channelOf}
-use Rattle.channels.specs.Layers.{SendLent, numberAs, risen, sendingTests, sending, takingTests, taking}
-use Rattle.channels.proofs.Laws.{seat, seats-put, place-seats, place-unique, put-elsewhere, channel-put, channel-else, IsSent, sent-is}
+use Rattle.channels.specs.Layers.{SendLent, risen, sendingTests, sending, takingTests, taking}
+use Rattle.channels.proofs.Laws.{channel-put, channel-else, IsSent, sent-is}
 use Rattle.runs.specs.Runs.{added}
 use Rattle.runs.specs.Carried.{Coding, Reception}
-use Rattle.runs.proofs.Same.{Same, same-self, same-put}
+use Rattle.runs.proofs.Same.{Same, same-put}
 use Rattle.runs.proofs.Numbering.{on-same}
 
 abbrev pub sentOf : Channel → ℕ

@@ -16,23 +16,21 @@
 use mathlib.Core.Path.{_≡_, refl, sym, ap, ap₂, subst, _∙_}
 use mathlib.Core.Bool.{Bool, true, false, cond, not, _&&_, _||_}
 use mathlib.Core.List.{List, [], _∷_, _++_, append-assoc, append-nil}
-use Prim.Native.Nat.{ℕ, _+_, _*_, _≤_, _<_}
+use Prim.Native.Nat.{ℕ, _+_, _*_, _≤_}
 use native.Mathlib.Omega.{arith}
 use borrow.Author.Tests.{le-ltb}
 use lib.Dec.{leb}
 use lib.ListN.{length}
-use Rattle.octets.specs.Each.{Each, each-length}
-use Rattle.calls.specs.Refusal.{Ended, leaving, refusing}
+use Rattle.octets.specs.Each.{Each}
+use Rattle.calls.specs.Refusal.{leaving, refusing}
 use Rattle.table.specs.Slots.{Slot, payloadSlots, octetsOf, numbersOf}
 use Rattle.table.specs.Table.{entryOf, isDefined, longestPayload}
 use Rattle.table.proofs.Laws.{payloadSlots-most}
-use Rattle.channels.specs.declared.Channel.{Channel}
 use Rattle.channels.specs.declared.Channels.{Channels}
-use Rattle.channels.specs.Channels.{channelAt, placeOf, isIn, allOpen, holding, placeCount, placeOctets}
-use Rattle.channels.specs.Claims.{Orderly}
+use Rattle.channels.specs.Channels.{channelAt, allOpen, holding, placeOctets}
 use Rattle.channels.proofs.Laws.{Seat, seat, seats, seat-at, place-seats, segmentable-place}
 use Rattle.multiplex.specs.Pieces.{Piece, placed, lastPlace}
-use Rattle.multiplex.specs.Demultiplexer.{Delivery, DemuxLent, nothing, tookAll, counted, grown, roomIn, hasRoom, fits, delivery, tooSmall, writes, demultiplexed}
+use Rattle.multiplex.specs.Demultiplexer.{Delivery, DemuxLent, nothing, tookAll, counted, grown, hasRoom, fits, delivery, tooSmall, writes, demultiplexed}
 use Rattle.multiplex.specs.Units.{UnitOn, enoughOutput}
 use Rattle.multiplex.proofs.Laws.{Tells, records-length}
 use Rattle.runs.specs.Runs.{Parcel}

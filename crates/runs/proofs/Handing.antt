@@ -5,30 +5,28 @@
 --   carried-by-AL2     each unit wholly sent is handed up as it was handed in, with badge 0 and none missing
 --
 -- Assumes nothing.
-use mathlib.Core.Path.{_≡_, refl, sym, ap, ap₂, subst, _∙_}
+use mathlib.Core.Path.{_≡_, refl, sym, ap, ap₂, _∙_}
 use mathlib.Core.Bool.{Bool, true, false, cond, _&&_}
-use mathlib.Core.List.{List, [], _∷_, _++_, map}
+use mathlib.Core.List.{List, [], _∷_, map}
 use Prim.Native.Nat.{ℕ, _+_, _%_, _<_}
 use native.Mathlib.Nat.{mod-lt}
 use native.Mathlib.Omega.{arith}
 use lib.Dec.{eqb}
-use lib.ListN.{length, take}
-use Rattle.octets.specs.Tests.{never}
+use lib.ListN.{take}
 use Rattle.octets.specs.Each.{each-map, each-same}
 use Rattle.calls.specs.Refusal.{Told, refused, told}
-use Rattle.adaptation.specs.AL2.{whole, isSendable, Receipt, handedUp, expectedBy, received}
-use Rattle.adaptation.specs.AL2Claims.{asSent, wholesFrom, expectedNext, receipts, inOrder}
+use Rattle.adaptation.specs.AL2.{whole, isSendable, Receipt, handedUp}
+use Rattle.adaptation.specs.AL2Claims.{asSent, wholesFrom, receipts, inOrder}
 use Rattle.adaptation.specs.declared.al2.Number.the-variants.{Numbered}
 use Rattle.adaptation.proofs.Laws.{nextInOrder}
 use Rattle.channels.specs.declared.Channel.{Channel}
-use Rattle.channels.specs.Channels.{start, vacant, fresh, placeOf, placeCount}
+use Rattle.channels.specs.Channels.{start, vacant, fresh, placeOf}
 use Rattle.channels.specs.Layers as layers
 use Rattle.channels.specs.Claims.{channelOf}
-use Rattle.multiplex.specs.Units.{unitsOn}
 use Rattle.multiplex.specs.Calls as call
-use Rattle.multiplex.specs.Calls.{Link, Call, Answer, telling, sent, taken, ours, calledBy, called}
-use Rattle.runs.specs.Runs.{Side, near, far, other, World, endAt, added}
-use Rattle.runs.specs.Demand.{isByLayer, withoutLast, isWaiting, whollySent}
+use Rattle.multiplex.specs.Calls.{Answer, telling, sent, taken, calledBy, called}
+use Rattle.runs.specs.Runs.{Side, near, far, other, endAt, added}
+use Rattle.runs.specs.Demand.{withoutLast, isWaiting}
 use Rattle.runs.specs.Carried as carried
 use Rattle.runs.specs.Carried.{Run, beginning, ending, Coding, Reception, codedBy, takenBy, overRun, codings, receptions, unitsCoded, wholesTaken, receiptsTold}
 use Rattle.runs.proofs.Permitting.{by-layer}
@@ -115,7 +113,7 @@ many-taken (many-more (taken-one w r e) m) = rw e (ap (λ (l : List (Told Receip
 
 module _ {R : ℕ → ℕ → Type 0} (r : Run R) (i : Side) (n : ℕ) where
   kept : Kept R (beginning r)
-  kept = begin-kept R (r .held) (r .waiting) (r .held′) (r .waiting′) (r .heldRoom) (r .waitingRoom) (r .heldRoom′) (r .waitingRoom′)
+  kept = begin-kept R (r .lent)
 
   at-first : (f : Channel → ℕ) → f vacant ≡ 0 → f (fresh 0 true) ≡ 0 → onChannel f (endAt (beginning r) i) n ≡ 0
   at-first f v e = by i
@@ -161,7 +159,7 @@ in-order-by false us m = receipts-in-order 0 us (omega arith) m
 
 pub as-sent : carried.AsSent
 as-sent r i n q =
-    let d = demand-met _≡_ (r .held) (r .waiting) (r .held′) (r .waiting′) (r .heldRoom) (r .waitingRoom) (r .heldRoom′) (r .waitingRoom′) (r .events) (r .permitted) in
+    let d = demand-met _≡_ (r .lent) (r .events) (r .permitted) in
     sym (each-same (each-map (λ u v e. each-same e) (d .complete i n q)))
 
 pub carried-by-AL2 : carried.CarriedByAL2

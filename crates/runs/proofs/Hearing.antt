@@ -21,7 +21,7 @@ use Rattle.calls.specs.Refusal.{Told, refused, told}
 use Rattle.packets.specs.Packet.{Heading, read}
 use Rattle.multiplex.specs.Calls as call
 use Rattle.multiplex.specs.Calls.{Call, Answer, ours, called}
-use Rattle.runs.specs.Runs.{Side, near, far, Parcel, End, World, endAt, begin, both, calls, posts, pays, arrives}
+use Rattle.runs.specs.Runs.{Side, near, far, Parcel, End, World, endAt, Lent, begin, both, calls, posts, pays, arrives}
 use Rattle.runs.specs.Runs.{refusedOnce, lacksRoom, taking, arriving, after, step, run}
 use Rattle.runs.specs.Demand.{Permitted, PermittedAll, Accepts, Delivers}
 use Rattle.runs.specs.Carried.{calledAt, overRun}
@@ -85,9 +85,9 @@ calls-same {A = A} f i R (e ∷ es) x a p =
     (ap (λ (y : World). overRun f y i (map parcelEvent es)) (step-same R x e a (p .0) .1)
     ∙ calls-same f i R es (packetStep read x e) (packets-packable R read x e a (p .0)) (p .1))
 
-pub first-packable : (h w h′ w′ : List ℕ) → WorldPackable (begin h w h′ w′)
-first-packable h w h′ w′ near = tt
-first-packable h w h′ w′ far = tt
+pub first-packable : (l : Lent) → WorldPackable (begin l)
+first-packable l near = tt
+first-packable l far = tt
 
 -- ---- the demand
 
@@ -110,8 +110,8 @@ hears-next e a f q rest u output units c b ro ru =
     rw taken (refl, omega (arith, n .1))
 
 pub packet-demand : PacketDemand read
-packet-demand R h w h′ w′ eh ew eh′ ew′ es p =
-    let m = run-same R es (begin h w h′ w′) (first-packable h w h′ w′) p in
-    let d : Delivers R (λ j. ours) (packetRun read (begin h w h′ w′) es)
-    = subst (Delivers R (λ j. ours)) (m .1) (demand-met R h w h′ w′ eh ew eh′ ew′ (map parcelEvent es) (m .0)) in
-    record { delivers = d; takes = λ i. hears-next (endAt (packetRun read (begin h w h′ w′) es) i) (m .2 i) (d .accepts i) }
+packet-demand R l es p =
+    let m = run-same R es (begin l) (first-packable l) p in
+    let d : Delivers R (λ j. ours) (packetRun read (begin l) es)
+    = subst (Delivers R (λ j. ours)) (m .1) (demand-met R l (map parcelEvent es) (m .0)) in
+    record { delivers = d; takes = λ i. hears-next (endAt (packetRun read (begin l) es) i) (m .2 i) (d .accepts i) }

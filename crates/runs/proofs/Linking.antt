@@ -14,9 +14,9 @@
 --   linked-start      .. and at first
 --
 -- Assumes nothing.
-use mathlib.Core.Path.{_≡_, refl, sym, ap, ap₂, subst, _∙_}
-use mathlib.Core.Bool.{Bool, true, false}
-use mathlib.Core.List.{List, [], _∷_, _++_, append-assoc, append-nil}
+use mathlib.Core.Path.{_≡_, refl, sym, subst, _∙_}
+use mathlib.Core.Bool.{Bool}
+use mathlib.Core.List.{List, [], _∷_, _++_, append-assoc}
 use Prim.Native.Nat.{ℕ, _+_, _*_, _-_, _≤_, _<_}
 use native.Mathlib.Decide.{ℕ-discrete}
 use native.Mathlib.Omega.{arith}
@@ -25,14 +25,12 @@ use Rattle.octets.specs.Each.{Each, each-none, each-append, each-length, each-m
 use Rattle.octets.specs.Written.{written}
 use Rattle.table.specs.Slots.{payloadSlots}
 use Rattle.table.specs.Table.{entryOf}
-use Rattle.channels.specs.declared.Channel.{Channel}
 use Rattle.channels.specs.declared.Channels.{Channels}
 use Rattle.channels.specs.Channels.{start, fresh, placeOf, freePlace, channelAt, put, waiting, heldOf, placeCount, placeOctets, allOctets}
-use Rattle.channels.specs.Claims.{Orderly, Bounded}
 use Rattle.channels.proofs.Laws.{put-there, put-elsewhere, orderly-put, startBounded}
 use Rattle.multiplex.specs.Demultiplexer.{Delivery, delivery}
 use Rattle.multiplex.specs.Multiplexer.{walked}
-use Rattle.multiplex.specs.Units.{UnitOn, unitsIn}
+use Rattle.multiplex.specs.Units.{UnitOn}
 use Rattle.multiplex.proofs.Laws.{unitOn, Tells, tells-read}
 use Rattle.runs.specs.Runs.{Parcel, End}
 use Rattle.runs.proofs.Same.{Same, heldCount, waitingCount, same-self, same-puts}

@@ -37,7 +37,7 @@ use Rattle.runs.specs.Packets.{Brings, Reader, parcelAt}
 use Rattle.runs.specs.Hearing.{does, hears, hearing, packetStep, packetRun, PacketsPermitted, PacketsDeliver, PacketDemand}
 use Rattle.runs.specs.OverPackets.{deaf, marked, byOpening, spotless, exacting}
 use Rattle.runs.proofs.Delivering.{demand-met}
-use Rattle.runs.proofs.Failing.{blank, blank-length, enough, world, output, units}
+use Rattle.runs.proofs.Failing.{blank, enough, blanks, world, output, units}
 use Rattle.runs.proofs.Bringing.{said, brought-read}
 use Rattle.runs.proofs.Hearing.{unrefused}
 
@@ -117,8 +117,7 @@ is-read h b = brought-read b (omega (arith, all .code), omega (arith, all .many)
 tried : (f : Reader) → PacketDemand f → (u : List ℕ) → Brings Any q u → PacketsDeliver Any f (packetStep f (way (1 ∷ [])) (hears far u output units))
 unfolding packetRun packetStep PacketsPermitted run
 tried f d u b =
-    let e = blank-length allOctets in
-    d Any (blank allOctets) (blank allOctets) (blank allOctets) (blank allOctets) e e e e
+    d Any blanks
     (does (posts near 0 (1 ∷ [])) ∷ does (pays near 0 1 (0 ∷ [])) ∷ hears far u output units ∷ [])
     (tt, (omega arith, ((q, [], all .is, b), tt)))
 
@@ -177,9 +176,7 @@ abbrev firstOfTwo : List Event
 firstOfTwo = posts near 0 (1 ∷ 1 ∷ []) ∷ pays near 0 1 (0 ∷ []) ∷ []
 
 ours-delivers : (es : List Event) → PermittedAll Any (λ j. ours) world es → Delivers Any (λ j. ours) (run (λ j. ours) world es)
-ours-delivers es p =
-    let e = blank-length allOctets in
-    demand-met Any (blank allOctets) (blank allOctets) (blank allOctets) (blank allOctets) e e e e es p
+ours-delivers es p = demand-met Any blanks es p
 
 got-told : (k : ℕ) → got .answer ≡ refused k → ⊥
 unfolding run step PermittedAll

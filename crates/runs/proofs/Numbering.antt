@@ -6,16 +6,14 @@
 --   post-keeps, pay-keeps, come-keeps   a post, a payload that is made and one that comes leave it
 --
 -- Assumes nothing.
-use mathlib.Core.Path.{_≡_, refl, sym, ap, subst, _∙_}
-use mathlib.Core.Bool.{Bool, true, false, cond}
+use mathlib.Core.Path.{_≡_, refl, ap, _∙_}
+use mathlib.Core.Bool.{Bool}
 use mathlib.Core.List.{List, [], _∷_}
 use Prim.Native.Nat.{ℕ, _≤_, _<_}
 use native.Mathlib.Decide.{ℕ-discrete}
 use borrow.Author.Tests.{ltb-false, leb-false}
 use lib.ListN.{length}
-use Rattle.octets.specs.Tests.{never}
-use Rattle.calls.specs.Refusal.{Ended, leaving, refusing}
-use Rattle.calls.proofs.Laws.{by-test, by-tests, checked-keeps}
+use Rattle.calls.proofs.Laws.{by-test, checked-keeps}
 use Rattle.table.specs.Slots.{payloadSlots}
 use Rattle.table.specs.Table.{entryOf}
 use Rattle.channels.specs.declared.Channel.{Channel}
@@ -24,12 +22,12 @@ use Rattle.channels.specs.Channels.{vacant, fresh, placeOf, freePlace, channelA
 use Rattle.channels.specs.Claims.{channelOf}
 use Rattle.channels.proofs.Laws.{place-seats, put-there, put-elsewhere, vacant-behind, place-new, place-old, place-not-free}
 use Rattle.multiplex.specs.Pieces.{placed}
-use Rattle.multiplex.specs.Demultiplexer.{DemuxLent, delivery, demultiplexTests, demultiplexed}
+use Rattle.multiplex.specs.Demultiplexer.{DemuxLent, demultiplexTests, demultiplexed}
 use Rattle.multiplex.specs.Multiplexer.{MuxLent, multiplexTests, multiplexed}
 use Rattle.multiplex.specs.Calls as call
 use Rattle.multiplex.specs.Calls.{ours, calledBy, called}
 use Rattle.runs.specs.Runs.{Parcel, End, lacksRoom, taking, arriving}
-use Rattle.runs.proofs.Same.{Same, same-self, same-back, same-at, same-put, same-walk, same-delivery}
+use Rattle.runs.proofs.Same.{Same, same-self, same-at, same-put, same-walk, same-delivery}
 
 abbrev pub onChannel : (Channel → ℕ) → End → ℕ → ℕ
 onChannel f e n = f (channelOf (e .link .channels) n)

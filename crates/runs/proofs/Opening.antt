@@ -7,17 +7,15 @@
 -- Assumes nothing.
 use mathlib.Core.Path.{_≡_, refl, sym, ap, _∙_}
 use mathlib.Core.Logic.{_≢_}
-use mathlib.Core.Bool.{Bool, true, false}
-use mathlib.Core.List.{List, [], _∷_, _++_, map}
+use mathlib.Core.Bool.{Bool, true}
+use mathlib.Core.List.{List, [], _++_}
 use Prim.Native.Nat.{ℕ, zero, suc, _≤_, _<_, _-_}
 use native.Mathlib.Decide.{ℕ-discrete}
 use native.Mathlib.Omega.{arith}
-use borrow.Author.Tests.{ne-eqb, eq-eqb, not-true}
 use lib.ListN.{length, getD, set, length-set, replicate}
-use Rattle.octets.specs.Tests.{never}
 use Rattle.channels.specs.declared.Channel.{Channel}
 use Rattle.channels.specs.declared.Channels.{Channels}
-use Rattle.channels.specs.Channels.{vacant, fresh, start, isChannel, isFree, placeOf, freePlace, channelAt, put, placeCount, allOctets}
+use Rattle.channels.specs.Channels.{vacant, fresh, start, placeOf, freePlace, channelAt, put, placeCount, allOctets}
 use Rattle.multiplex.specs.Units.{UnitOn, unitsOn}
 use Rattle.channels.proofs.Laws.{Seat, seat, vacant-behind, put-there, put-elsewhere, place-new, place-old, place-not-free}
 use Rattle.runs.proofs.Same.{map-set}

@@ -8,16 +8,16 @@
 --   carried-by-AL1M   at most e octets changed on the way: the unit is handed up as it was handed in
 --
 -- Assumes nothing.
-use mathlib.Core.Path.{_≡_, refl, sym, ap, ap₂, subst, _∙_}
+use mathlib.Core.Path.{_≡_, refl, sym, ap, ap₂, _∙_}
 use mathlib.Core.Bool.{Bool, true, false, cond, not}
 use mathlib.Core.List.{List, [], _∷_, _++_, map}
-use Prim.Native.Nat.{ℕ, _+_, _≤_, _<_}
+use Prim.Native.Nat.{ℕ, _+_}
 use borrow.Author.Tests.{not-false}
 use lib.Dec.{eqb}
-use lib.ListN.{length, getD, take}
+use lib.ListN.{length, take}
 use lib.Seq.{take-append-seam}
 use Rattle.octets.specs.Each.{each-at, each-length}
-use Rattle.calls.specs.Refusal.{Told, refused, told, Ended, leaving, refusing}
+use Rattle.calls.specs.Refusal.{Told, told, Ended, refusing}
 use Rattle.calls.proofs.Laws.{by-test, by-tests}
 use Rattle.calls.specs.declared.Length.the-variants as sends
 use Rattle.adaptation.specs.Handed.{longestUnit, isUnit, Handed, handed}
@@ -28,11 +28,11 @@ use Rattle.adaptation.proofs.Laws.{sentIsHandedUp, plainReceived}
 use Rattle.channels.specs.Channels.{Post, postTests, posted}
 use Rattle.multiplex.specs.Units.{UnitOn, unitsOn}
 use Rattle.multiplex.specs.Calls as call
-use Rattle.multiplex.specs.Calls.{Answer, done, telling, ours, calledBy, called}
-use Rattle.runs.specs.Runs.{Side, near, far, other, Parcel, End, World, endAt, Event, both, calls, posts, pays, arrives, added, lacksRoom, taking, arriving, step, run}
-use Rattle.runs.specs.Demand.{withoutLast, isWaiting, whollySent}
+use Rattle.multiplex.specs.Calls.{done, telling, ours, calledBy, called}
+use Rattle.runs.specs.Runs.{Side, near, far, Parcel, End, World, endAt, Event, both, calls, posts, pays, arrives, added, lacksRoom, taking, arriving, step, run}
+use Rattle.runs.specs.Demand.{withoutLast, isWaiting}
 use Rattle.runs.specs.Carried as carried
-use Rattle.runs.specs.Carried.{Run, beginning, ending}
+use Rattle.runs.specs.Carried.{beginning, ending}
 use Rattle.runs.proofs.Delivering.{demand-met}
 use Rattle.runs.proofs.Handing.{as-sent}
 
@@ -145,7 +145,7 @@ sent-front b e m u room out s =
 
 pub carried-by-AL1M : carried.CarriedByAL1M
 carried-by-AL1M R r i n j q h b e m u room out w before after a s c d =
-    let k = demand-met R (r .held) (r .waiting) (r .held′) (r .waiting′) (r .heldRoom) (r .waitingRoom) (r .heldRoom′) (r .waitingRoom′) (r .events) (r .permitted) in
+    let k = demand-met R (r .lent) (r .events) (r .permitted) in
     let long : length w ≡ m =
     ap (λ (l : List ℕ). length l) (sym d) ∙ sym (each-length (each-at [] (k .complete i n q) j h)) ∙ ap (λ (l : List ℕ). length l) c ∙ sent-front b e m u room out s in
     (long, λ near enough list received. sentIsHandedUp b e m u room out w before after a s long near enough list received)

@@ -33,7 +33,7 @@ use Rattle.multiplex.specs.Demultiplexer.{Delivery, finished, joined, closed}
 use Rattle.multiplex.specs.Multiplexer.{left}
 use Rattle.multiplex.specs.Units.{UnitOn, unitsOn}
 use Rattle.channels.specs.Claims.{Orderly}
-use Rattle.channels.proofs.Laws.{seats, Seat, seats-put, seat-at, place-number, place-unique, put-there, put-elsewhere, heldAt, filled-room, number-seats}
+use Rattle.channels.proofs.Laws.{seats, Seat, seats-put, seat-at, place-unique, put-there, put-elsewhere, heldAt, filled-room, number-seats}
 use Rattle.channels.proofs.Laws.{held-grown, held-else}
 use Rattle.multiplex.proofs.Laws.{unitOn, Tells, tells-finished, on-this, on-other, waiting-left, waiting-length}
 use Rattle.runs.proofs.Matching.{waitingAt, way, Twin, Matched, full-there, changed}

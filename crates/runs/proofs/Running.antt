@@ -8,43 +8,34 @@
 --   pay-pair          and after a payload is made
 --
 -- Assumes nothing.
-use mathlib.Core.Path.{_≡_, refl, sym, ap, ap₂, subst, _∙_}
-use mathlib.Core.Logic.{_⊎_, inl, inr}
-use mathlib.Core.Bool.{Bool, true, false, cond, not}
+use mathlib.Core.Path.{_≡_, refl, sym, subst}
+use mathlib.Core.Bool.{false, not}
 use mathlib.Core.List.{List, [], _∷_, _++_, append-nil}
 use Prim.Native.Nat.{ℕ, _+_, _≤_}
 use native.Mathlib.Omega.{arith}
 use borrow.Author.Tests.{ltb-true, ltb-false, leb-true, leb-false, not-false}
 use lib.Dec.{leb, ltb}
 use lib.ListN.{length, take}
-use Rattle.octets.specs.Tests.{both-true, never}
-use Rattle.octets.specs.Each.{Each, each-length}
+use Rattle.octets.specs.Tests.{both-true}
 use Rattle.octets.specs.Written.{written}
-use Rattle.calls.specs.Refusal.{refused, Ended, ended, leaving, refusing}
-use Rattle.calls.proofs.Laws.{by-test, by-tests, both-tests}
+use Rattle.calls.specs.Refusal.{Ended, ended, leaving, refusing}
+use Rattle.calls.proofs.Laws.{by-tests}
 use Rattle.table.specs.Slots.{payloadSlots}
-use Rattle.table.specs.Table.{entryOf, isDefined, replaced, longestPayload}
+use Rattle.table.specs.Table.{entryOf, isDefined, longestPayload}
 use Rattle.adaptation.specs.Handed.{isUnit}
 use Rattle.channels.specs.declared.Channels.{Channels}
-use Rattle.channels.specs.Channels.{placeOf, freePlace, channelAt, put, isIn, opened, openTests, postTests, posted, Post, numbering, placeCount, placeOctets}
+use Rattle.channels.specs.Channels.{placeOf, channelAt, isIn, postTests, posted, Post, placeCount, placeOctets}
 use Rattle.channels.specs.Layers as layers
-use Rattle.channels.proofs.Laws.{seats, free-seats, place-seats}
 use Rattle.multiplex.specs.Pieces.{total}
-use Rattle.multiplex.specs.Demultiplexer.{Delivery, DemuxLent, delivery, tooSmall, writes, demultiplexed}
 use Rattle.multiplex.specs.Multiplexer.{MuxLent, Payload, Walk, walked, gathered, multiplexTests, multiplexed}
-use Rattle.multiplex.specs.Units.{UnitOn, unitsIn}
+use Rattle.multiplex.specs.Units.{UnitOn}
 use Rattle.multiplex.specs.Calls as call
-use Rattle.multiplex.specs.Calls.{Link, Call, Answer, done, finished, made, telling, ours, calledBy, called}
-use Rattle.multiplex.proofs.Laws.{calls-refuse, tells-read}
-use Rattle.runs.specs.Runs.{Side, near, far, other, Parcel, End, World, endAt, begin, Event, both, calls, posts, pays, arrives}
-use Rattle.runs.specs.Runs.{added, parcelsTold, with, posting, sending, taking, arriving, after, step, run}
-use Rattle.runs.specs.Demand.{isShared, isByLayer, Quiet, Permitted, PermittedAll}
-use Rattle.runs.proofs.Same.{Same, heldCount, waitingCount, same-self, same-back, same-put, same-walk, same-delivery}
-use Rattle.runs.proofs.Matching.{Matched}
-use Rattle.runs.proofs.Shadowing.{Parallel}
-use Rattle.runs.proofs.Going.{Welcome, welcome, welcome-same}
-use Rattle.runs.proofs.Accepting.{Made, parcel, payload-front}
-use Rattle.runs.proofs.Linking.{Linked, LinkedEnds, linked-sender, linked-receiver, linked-post, linked-pay, linked-open, Came, linked-come, linked-start}
+use Rattle.multiplex.specs.Calls.{done, made, telling}
+use Rattle.runs.specs.Runs.{Parcel, End}
+use Rattle.runs.specs.Runs.{added, parcelsTold, with, posting, sending}
+use Rattle.runs.proofs.Same.{Same, heldCount, waitingCount, same-self, same-back, same-put, same-walk}
+use Rattle.runs.proofs.Accepting.{Made, payload-front}
+use Rattle.runs.proofs.Linking.{Linked, LinkedEnds, linked-sender, linked-receiver, linked-post, linked-pay}
 
 pub record Pair (R : ℕ → ℕ → Type 0) (a b : End) : Type 0 where
   pub tables : a .link .table ≡ b .link .table

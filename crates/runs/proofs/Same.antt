@@ -12,7 +12,7 @@
 --
 -- Assumes nothing.
 use mathlib.Core.Path.{_≡_, refl, sym, ap, ap₂, _∙_}
-use mathlib.Core.Bool.{Bool, true, false, cond}
+use mathlib.Core.Bool.{Bool}
 use mathlib.Core.List.{List, [], _∷_, map}
 use Prim.Native.Nat.{ℕ, zero, suc}
 use lib.ListN.{getD, set, take, drop, List·getD-map}
@@ -23,8 +23,8 @@ use Rattle.channels.specs.declared.Channels.{Channels}
 use Rattle.channels.specs.Channels.{vacant, placeOf, isIn, channelAt, put, holding, waiting}
 use Rattle.channels.proofs.Laws.{Seat, seat, seats, seats-put}
 use Rattle.multiplex.specs.Pieces.{Piece, lastPlace}
-use Rattle.multiplex.specs.Demultiplexer.{Delivery, nothing, finished, joined, took, tookAll, delivery}
-use Rattle.multiplex.specs.Multiplexer.{Walk, isBlocked, goesOn, moved, left, stopped, pieceAt, sending, ending, visit, walked}
+use Rattle.multiplex.specs.Demultiplexer.{Delivery, nothing, took, tookAll, delivery}
+use Rattle.multiplex.specs.Multiplexer.{Walk, isBlocked, goesOn, moved, left, walked}
 use Rattle.calls.proofs.Laws.{by-test}
 
 pub map-set : {A B : Type 0} (f : A → B) (l : List A) (i : ℕ) (a : A) → map f (set l i a) ≡ set (map f l) i (f a)

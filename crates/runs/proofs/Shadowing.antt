@@ -28,12 +28,12 @@ use Rattle.channels.specs.declared.Channel.{Channel}
 use Rattle.channels.specs.declared.Channels.{Channels}
 use Rattle.channels.specs.Channels.{placeOf, isIn, channelAt, put, holding, heldOf, placeCount, placeOctets, allOpen}
 use Rattle.channels.specs.Claims.{Orderly}
-use Rattle.channels.proofs.Laws.{Seat, seat, seats, seat-at, seats-length, put-there, put-elsewhere, heldAt, held-grown, held-else, orderly-joined, orderly-emptied}
+use Rattle.channels.proofs.Laws.{Seat, seat, seat-at, seats-length, put-there, put-elsewhere, heldAt, held-grown, held-else, orderly-joined, orderly-emptied}
 use Rattle.multiplex.specs.Pieces.{placed}
 use Rattle.multiplex.specs.Demultiplexer.{Delivery, nothing, finished, joined, took, tookAll, closed, counted, hasRoom, fits}
 use Rattle.multiplex.specs.Units.{UnitOn}
 use Rattle.multiplex.proofs.Laws.{unitOn, Tells, tells-nothing, tells-finished, counted-took}
-use Rattle.runs.proofs.Same.{Same, heldCount, same-self, same-after, same-at, same-puts}
+use Rattle.runs.proofs.Same.{Same, heldCount, same-after, same-at, same-puts}
 
 pub record UnitAlike (R : ℕ → ℕ → Type 0) (u v : UnitOn) : Type 0 where
   pub channel : u .channel ≡ v .channel

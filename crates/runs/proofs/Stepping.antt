@@ -8,21 +8,18 @@
 --   run-kept          .. and so does every run
 --
 -- Assumes nothing.
-use mathlib.Core.Path.{_≡_, refl, sym, ap, subst, _∙_}
-use mathlib.Core.Logic.{_⊎_, inl, inr}
-use mathlib.Core.Bool.{Bool, true, false, cond}
+use mathlib.Core.Path.{_≡_, refl, sym, ap, _∙_}
+use mathlib.Core.Logic.{inl, inr}
+use mathlib.Core.Bool.{Bool, true}
 use mathlib.Core.List.{List, [], _∷_, _++_}
-use Prim.Native.Nat.{ℕ, _≤_, _<_}
+use Prim.Native.Nat.{ℕ}
 use borrow.Author.Tests.{ltb-false, leb-false}
-use lib.ListN.{length}
-use Rattle.octets.specs.Tests.{never}
-use Rattle.octets.specs.Each.{Each}
-use Rattle.calls.specs.Refusal.{refused, Ended, leaving, refusing}
+use Rattle.calls.specs.Refusal.{refused, Ended, refusing}
 use Rattle.calls.proofs.Laws.{by-test, both-tests, checked-keeps}
 use Rattle.table.specs.Table.{replaced}
 use Rattle.channels.specs.declared.Channel.{Channel}
 use Rattle.channels.specs.declared.Channels.{Channels}
-use Rattle.channels.specs.Channels.{placeOf, freePlace, channelAt, put, fresh, opened, openTests, numbering, placeCount}
+use Rattle.channels.specs.Channels.{placeOf, freePlace, channelAt, put, opened, openTests, numbering, placeCount}
 use Rattle.channels.specs.Layers as layers
 use Rattle.channels.proofs.Laws.{seats, free-seats, place-seats}
 use Rattle.multiplex.specs.Units.{UnitOn}
@@ -35,7 +32,7 @@ use Rattle.runs.proofs.Permitting.{by-layer, by-shared}
 use Rattle.runs.proofs.Same.{Same, heldCount, waitingCount, same-self, same-back, same-put}
 use Rattle.runs.proofs.Going.{Way, way-none}
 use Rattle.runs.proofs.Matching.{Matched}
-use Rattle.runs.proofs.Linking.{Linked, LinkedEnds, linked-open}
+use Rattle.runs.proofs.Linking.{Linked, linked-open}
 use Rattle.runs.proofs.Running.{Pair, pair-back, layer-pair, none-pair, post-pair, pay-pair}
 use Rattle.runs.proofs.Coming.{come-pair}
 

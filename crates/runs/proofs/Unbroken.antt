@@ -5,13 +5,12 @@
 --   run-follows     then over a run it goes on from call to call
 --
 -- Assumes nothing.
-use mathlib.Core.Path.{_≡_, refl, sym, ap, subst, _∙_}
-use mathlib.Core.Logic.{_⊎_, inl, inr}
-use mathlib.Core.Bool.{Bool, true, false, cond}
+use mathlib.Core.Path.{_≡_, refl, ap}
+use mathlib.Core.Logic.{inl, inr}
+use mathlib.Core.Bool.{Bool, true}
 use mathlib.Core.List.{List, [], _∷_, _++_}
 use Prim.Native.Nat.{ℕ}
 use lib.ListN.{length}
-use Rattle.octets.specs.Tests.{never}
 use Rattle.calls.specs.Refusal.{refused}
 use Rattle.channels.specs.declared.Channel.{Channel}
 use Rattle.channels.specs.declared.Channels.{Channels}
@@ -21,8 +20,8 @@ use Rattle.multiplex.specs.Calls as call
 use Rattle.multiplex.specs.Calls.{Link, Call, Answer, ours, calledBy, called}
 use Rattle.multiplex.proofs.Laws.{calls-refuse}
 use Rattle.runs.specs.Runs.{Side, near, far, End, World, endAt, Event, both, calls, posts, pays, arrives, added, step, run}
-use Rattle.runs.specs.Demand.{isShared, isByLayer, Quiet, Permitted, PermittedAll}
-use Rattle.runs.specs.Carried.{isAt, calledAt, overRun}
+use Rattle.runs.specs.Demand.{isShared, isByLayer, Permitted, PermittedAll}
+use Rattle.runs.specs.Carried.{calledAt, overRun}
 use Rattle.runs.proofs.Permitting.{by-shared}
 use Rattle.runs.proofs.Same.{Same}
 use Rattle.runs.proofs.Numbering.{onChannel, on-same, on-opened, post-keeps, pay-keeps, come-keeps}

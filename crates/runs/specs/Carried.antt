@@ -49,31 +49,23 @@ use Rattle.adaptation.specs.declared.Badge.the-variants.{Unchecked}
 use Rattle.adaptation.specs.declared.al1m.Received.{Received}
 use Rattle.adaptation.specs.declared.al1m.Received.the-variants as al1m
 use Rattle.calls.specs.declared.Length.the-variants as sends
-use Rattle.channels.specs.Channels.{allOctets}
 use Rattle.multiplex.specs.Units.{unitsOn}
 use Rattle.multiplex.specs.Claims.{LiesThere}
 use Rattle.multiplex.specs.Calls as call
 use Rattle.multiplex.specs.Calls.{Call, Answer, done, finished, made, sent, taken, ours, called}
-use Rattle.runs.specs.Runs.{Side, near, far, other, End, World, endAt, begin, Event, both, calls, posts, pays, arrives, added, Libraries, step, run}
+use Rattle.runs.specs.Runs.{Side, near, far, other, End, World, endAt, Lent, begin, Event, both, calls, posts, pays, arrives, added, step, run}
 use Rattle.runs.specs.Demand.{PermittedAll, withoutLast, isWaiting, whollySent}
 
 -- ---- a run
 
 pub record Run (R : ℕ → ℕ → Type 0) : Type 0 where
-  pub held : List ℕ
-  pub waiting : List ℕ
-  pub held′ : List ℕ
-  pub waiting′ : List ℕ
-  pub heldRoom : length held ≡ allOctets
-  pub waitingRoom : length waiting ≡ allOctets
-  pub heldRoom′ : length held′ ≡ allOctets
-  pub waitingRoom′ : length waiting′ ≡ allOctets
+  pub lent : Lent
   pub events : List Event
-  pub permitted : PermittedAll R (λ before. ours) (begin held waiting held′ waiting′) events
+  pub permitted : PermittedAll R (λ before. ours) (begin lent) events
 
 module _ {R : ℕ → ℕ → Type 0} (r : Run R) where
   abbrev pub beginning : World
-  beginning = begin (r .held) (r .waiting) (r .held′) (r .waiting′)
+  beginning = begin (r .lent)
 
   abbrev pub ending : World
   ending = run (λ before. ours) beginning (r .events)

@@ -30,12 +30,12 @@ use lib.ListN.{length}
 use Rattle.octets.specs.Each.{Each}
 use Rattle.calls.specs.Refusal.{refused, told, refusal}
 use Rattle.channels.specs.declared.Channels.{Channels}
-use Rattle.channels.specs.Channels.{allOctets, placeOf, channelAt}
+use Rattle.channels.specs.Channels.{placeOf, channelAt}
 use Rattle.multiplex.specs.Multiplexer.{Payload}
 use Rattle.multiplex.specs.Units.{unitsOn, enoughOutput, enoughUnits}
 use Rattle.multiplex.specs.Calls as call
-use Rattle.multiplex.specs.Calls.{Call, Answer, made, calledBy, called, testsOf}
-use Rattle.runs.specs.Runs.{Side, other, Parcel, End, World, endAt, begin, Event, both, calls, posts, pays, arrives, Libraries, step, run}
+use Rattle.multiplex.specs.Calls.{Call, made, calledBy, called, testsOf}
+use Rattle.runs.specs.Runs.{Side, other, Parcel, End, World, endAt, Lent, begin, Event, both, calls, posts, pays, arrives, Libraries, step, run}
 
 -- ---- what may come
 
@@ -108,5 +108,4 @@ pub record Delivers (R : ℕ → ℕ → Type 0) (L : Libraries) (x : World) : T
 
 abbrev pub Demand2 : Libraries → Type 1
 Demand2 L =
-    (R : ℕ → ℕ → Type 0) (h w h′ w′ : List ℕ) → length h ≡ allOctets → length w ≡ allOctets → length h′ ≡ allOctets → length w′ ≡ allOctets
-    → (es : List Event) → PermittedAll R L (begin h w h′ w′) es → Delivers R L (run L (begin h w h′ w′) es)
+    (R : ℕ → ℕ → Type 0) (l : Lent) (es : List Event) → PermittedAll R L (begin l) es → Delivers R L (run L (begin l) es)

@@ -20,11 +20,10 @@ use mathlib.Core.List.{List, [], _∷_}
 use Prim.Native.Nat.{ℕ, _≤_}
 use lib.ListN.{length}
 use Rattle.calls.specs.Refusal.{Told, refused, told, refusing}
-use Rattle.channels.specs.Channels.{allOctets}
 use Rattle.packets.specs.Packet.{longest, Heading}
 use Rattle.multiplex.specs.Units.{enoughOutput, enoughUnits}
 use Rattle.multiplex.specs.Calls.{ours}
-use Rattle.runs.specs.Runs.{Side, Parcel, End, World, endAt, begin, Event, both, calls, posts, pays, arrives, taking, arriving, after, step}
+use Rattle.runs.specs.Runs.{Side, Parcel, End, World, endAt, Lent, begin, Event, both, calls, posts, pays, arrives, taking, arriving, after, step}
 use Rattle.runs.specs.Demand.{Permitted, Delivers}
 use Rattle.runs.specs.Packets.{Brings, Reader, parcelAt}
 
@@ -75,5 +74,4 @@ pub record PacketsDeliver (R : ℕ → ℕ → Type 0) (f : Reader) (x : World) 
 
 abbrev pub PacketDemand : Reader → Type 1
 PacketDemand f =
-    (R : ℕ → ℕ → Type 0) (h w h′ w′ : List ℕ) → length h ≡ allOctets → length w ≡ allOctets → length h′ ≡ allOctets → length w′ ≡ allOctets
-    → (es : List PacketEvent) → PacketsPermitted R f (begin h w h′ w′) es → PacketsDeliver R f (packetRun f (begin h w h′ w′) es)
+    (R : ℕ → ℕ → Type 0) (l : Lent) (es : List PacketEvent) → PacketsPermitted R f (begin l) es → PacketsDeliver R f (packetRun f (begin l) es)

@@ -36,13 +36,12 @@ use lib.ListN.{length, take, drop}
 use Rattle.octets.specs.Same.{same}
 use Rattle.octets.specs.Each.{Each}
 use Rattle.calls.specs.Refusal.{Told, refused, told, leaving}
-use Rattle.channels.specs.Channels.{allOctets}
 use Rattle.packets.specs.Flag.{flagOf, isFlag}
 use Rattle.packets.specs.Header.{headerOf, wrongBits}
 use Rattle.packets.specs.Packet.{Heading, heading, wrote, read}
 use Rattle.multiplex.specs.Calls as call
 use Rattle.multiplex.specs.Calls.{Link, Call, Answer, finished, called}
-use Rattle.runs.specs.Runs.{Side, other, Parcel, World, endAt, begin, Event, arrives}
+use Rattle.runs.specs.Runs.{Side, other, Parcel, World, endAt, Lent, begin, Event, arrives}
 use Rattle.runs.specs.Carried.{Run, beginning, ending, Coding, Reception, codedBy, takenBy, calledAt}
 use Rattle.runs.specs.Carried.{FollowIn, UnitsAsSent, ByAL1, ByAL2, ByPlainAL2, ByAL1M}
 use Rattle.runs.specs.Packets.{Brings, AllPackable, Stream, bodiesOf, streamOf, Reader, parcelAt, readAll, ParcelAlike}
@@ -51,20 +50,13 @@ use Rattle.runs.specs.Hearing.{PacketEvent, does, hears, packetStep, pac
 -- ---- a run over packets
 
 pub record PacketRun (R : ℕ → ℕ → Type 0) : Type 0 where
-  pub held : List ℕ
-  pub waiting : List ℕ
-  pub held′ : List ℕ
-  pub waiting′ : List ℕ
-  pub heldRoom : length held ≡ allOctets
-  pub waitingRoom : length waiting ≡ allOctets
-  pub heldRoom′ : length held′ ≡ allOctets
-  pub waitingRoom′ : length waiting′ ≡ allOctets
+  pub lent : Lent
   pub events : List PacketEvent
-  pub permitted : PacketsPermitted R read (begin held waiting held′ waiting′) events
+  pub permitted : PacketsPermitted R read (begin lent) events
 
 module _ {R : ℕ → ℕ → Type 0} (r : PacketRun R) where
   abbrev pub packetBeginning : World
-  packetBeginning = begin (r .held) (r .waiting) (r .held′) (r .waiting′)
+  packetBeginning = begin (r .lent)
 
   abbrev pub packetEnding : World
   packetEnding = packetRun read packetBeginning (r .events)

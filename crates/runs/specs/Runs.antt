@@ -5,7 +5,8 @@
 --   End                one end: its state, the payloads on their way to it, the oldest first, how many came and how many of them it
 --                      refused, and the units that were posted and accepted there, and those that it delivered, in order
 --   World, endAt       both ends
---   fresh, begin       both ends fresh, with any contents of their octets
+--   fresh              an end that is fresh, with octets that it holds and octets that wait
+--   Lent, begin        what both ends are lent for these octets, as many as document 01 asks, with any contents; and both fresh with it
 --   Event              both c             the call c at both ends
 --                      calls i c          the call c at end i
 --                      posts i n u        end i posts the unit u on channel n
@@ -24,12 +25,14 @@
 --   step, run          one event, and one behind another
 --
 -- Assumes nothing.
-use mathlib.Core.Bool.{Bool, true, false, cond}
+use mathlib.Core.Path.{_≡_}
+use mathlib.Core.Bool.{Bool, false, cond}
 use mathlib.Core.List.{List, [], _∷_, _++_}
 use Prim.Native.Nat.{ℕ, _+_}
 use lib.Dec.{eqb}
-use lib.ListN.{take}
+use lib.ListN.{length, take}
 use Rattle.calls.specs.Refusal.{Told, refused, told, Ended}
+use Rattle.channels.specs.Channels.{allOctets}
 use Rattle.multiplex.specs.Units.{UnitOn, unitsIn}
 use Rattle.multiplex.specs.Calls as call
 use Rattle.multiplex.specs.Calls.{Link, Call, Answer, done, finished, made, sent, taken, Library, calledBy, called, begun}
@@ -63,12 +66,21 @@ abbrev pub endAt : World → Side → End
 endAt x near = x .nearEnd
 endAt x far = x .farEnd
 
--- an end has octets that it holds and octets that wait
 abbrev pub fresh : (held waiting : List ℕ) → End
 fresh h w = record { link = begun h w; coming = []; came = 0; refusals = 0; posted = []; delivered = [] }
 
-abbrev pub begin : (h w h′ w′ : List ℕ) → World
-begin h w h′ w′ = record { nearEnd = fresh h w; farEnd = fresh h′ w′ }
+pub record Lent : Type 0 where
+  pub held : List ℕ
+  pub waiting : List ℕ
+  pub held′ : List ℕ
+  pub waiting′ : List ℕ
+  pub heldRoom : length held ≡ allOctets
+  pub waitingRoom : length waiting ≡ allOctets
+  pub heldRoom′ : length held′ ≡ allOctets
+  pub waitingRoom′ : length waiting′ ≡ allOctets
+
+abbrev pub begin : Lent → World
+begin l = record { nearEnd = fresh (l .held) (l .waiting); farEnd = fresh (l .held′) (l .waiting′) }
 
 -- ---- events
 

@@ -1,4 +1,4 @@
-// What the words behind a call's name may say: a channel, one of two words, a mark, octets that end the line, and how much is lent.
+// What the words behind a call's name may say: a channel, one of two words, a mark, a payload with its code and mark, octets that end the line, and how much is lent.
 use text::hex;
 use text::hex::Octets;
 use text::numbers;
@@ -20,6 +20,17 @@ pub enum Choice {
 // A closing mark and the place behind it, or none.
 pub enum Mark {
     Given { mark: bool, at: usize },
+    Bad,
+}
+
+// A payload's code and mark, how many octets it has, and the place behind it, or none.
+pub enum Payload {
+    Given {
+        code: u32,
+        mark: bool,
+        octets: usize,
+        at: usize,
+    },
     Bad,
 }
 
@@ -83,6 +94,25 @@ pub fn mark_at(line: &[u8], from: usize) -> Mark {
     }
     Mark::Given {
         mark: value == 1,
+        at,
+    }
+}
+
+// CODE MARK OCTETS
+pub fn payload_at(line: &[u8], from: usize, octets: &mut [u8]) -> Payload {
+    let Number::Value { value: code, at } = numbers::next(line, from) else {
+        return Payload::Bad;
+    };
+    let Mark::Given { mark, at } = mark_at(line, at) else {
+        return Payload::Bad;
+    };
+    let Octets::Count { count, at } = hex::next(line, at, octets) else {
+        return Payload::Bad;
+    };
+    Payload::Given {
+        code,
+        mark,
+        octets: count,
         at,
     }
 }

@@ -2,14 +2,11 @@
 use crate::arguments;
 use crate::arguments::Last;
 use crate::arguments::Mark;
+use crate::arguments::Payload;
 use crate::arguments::Room;
 use crate::call::Call;
 use crate::call::PackCall;
 use crate::call::Packet;
-use text::hex;
-use text::hex::Octets;
-use text::numbers;
-use text::numbers::Number;
 use text::words;
 
 // after MARK: the mark of the packet before, whose closing flag opens this one. A line that names none has the plain flag.
@@ -23,13 +20,13 @@ fn after_at(line: &[u8], at: usize) -> Mark {
 
 // pack CODE MARK OCTETS [after MARK] [room N]
 pub fn pack(line: &[u8], from: usize, octets: &mut [u8]) -> Call {
-    let Number::Value { value: code, at } = numbers::next(line, from) else {
-        return Call::Malformed;
-    };
-    let Mark::Given { mark, at } = arguments::mark_at(line, at) else {
-        return Call::Malformed;
-    };
-    let Octets::Count { count, at } = hex::next(line, at, octets) else {
+    let Payload::Given {
+        code,
+        mark,
+        octets: count,
+        at,
+    } = arguments::payload_at(line, from, octets)
+    else {
         return Call::Malformed;
     };
     let Mark::Given { mark: opens, at } = after_at(line, at) else {

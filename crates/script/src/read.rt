@@ -3,7 +3,7 @@ use crate::arguments;
 use crate::arguments::Channel;
 use crate::arguments::Choice;
 use crate::arguments::Last;
-use crate::arguments::Mark;
+use crate::arguments::Payload;
 use crate::arguments::Room;
 use crate::arguments::Rooms;
 use crate::call::Call;
@@ -184,13 +184,13 @@ fn mux(line: &[u8], from: usize) -> Call {
 
 // demux CODE MARK OCTETS [room OCTETS UNITS]
 fn demux(line: &[u8], from: usize, octets: &mut [u8]) -> Call {
-    let Number::Value { value: code, at } = numbers::next(line, from) else {
-        return Call::Malformed;
-    };
-    let Mark::Given { mark, at } = arguments::mark_at(line, at) else {
-        return Call::Malformed;
-    };
-    let Octets::Count { count, at } = hex::next(line, at, octets) else {
+    let Payload::Given {
+        code,
+        mark,
+        octets: count,
+        at,
+    } = arguments::payload_at(line, from, octets)
+    else {
         return Call::Malformed;
     };
     let Rooms::Lent {
