@@ -3,6 +3,7 @@
 --   bit-xor           a bit of a sum is the difference of the bits
 --   product-bit       a matrix transposed, times a column: each bit of it
 --   distance-places   the distance counts the places at which two words differ
+--   distance-block    .. and is the sum of those of their parts
 --
 -- Assumes nothing.
 use mathlib.Core.Path.{_≡_, refl, sym, ap, ap₂, _∙_}
@@ -11,11 +12,12 @@ use mathlib.Core.List.{List, [], _∷_}
 use Prim.Native.Nat.{ℕ, zero, suc, _+_, _*_, _/_, _%_, _^_, _<_}
 use native.Mathlib.Nat.{zero-div, zero-mul, one-mul, mul-zero, mul-one}
 use native.Mathlib.Omega.{arith}
-use lib.Bits.{bitXor, differ, xor-shr, xor-lt}
+use lib.Bits.{bitXor, differ, xor-shr, xor-lt, xor-block}
+use lib.Count.{ones, ones-cat}
 use lib.Dec.{eqb}
 use lib.ListN.{length, getD}
 use Rattle.octets.specs.Xor.{bit-lt, xor-odd}
-use Rattle.golay.specs.Code.{product}
+use Rattle.golay.specs.Code.{product, distance}
 use Rattle.golay.specs.Claims.{count, total, bitAt, DistanceCounts}
 use Rattle.golay.proofs.Ones.{total-front, total-same, bit-zero, bit-next, ones-total}
 
@@ -73,3 +75,6 @@ places (suc k) a b =
 
 pub distance-places : DistanceCounts
 distance-places a b h l = ones-total 24 (bitXor a b) (xor-lt 24 a b h l) ∙ places 24 a b
+
+pub distance-block : (k a b r s : ℕ) → r < 2 ^ k → s < 2 ^ k → distance (a * 2 ^ k + r) (b * 2 ^ k + s) ≡ distance a b + distance r s
+distance-block k a b r s h l = ap ones (xor-block k a b r s h l) ∙ ones-cat k (bitXor a b) (bitXor r s) (xor-lt k r s h l)

@@ -70,7 +70,7 @@ abbrev pub DistanceCounts : Type 0
 DistanceCounts = (a b : ℕ) → a < 2 ^ 24 → b < 2 ^ 24 → distance a b ≡ count 24 (λ j. not (eqb (bitAt a j) (bitAt b j)))
 
 abbrev pub FoundExactly : Type 0
-FoundExactly = (w d : ℕ) → nearest w ≡ Data d ↔ Within w d
+FoundExactly = (w d : ℕ) → nearest w ≡ Data d ↔ ((d < 2 ^ 12) × (distance w (codeWord d) ≤ 3))
 
 abbrev pub NothingExactly : Type 0
 NothingExactly = (w : ℕ) → nearest w ≡ Nothing ↔ ((d : ℕ) → Within w d → ⊥)

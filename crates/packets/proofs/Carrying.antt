@@ -18,16 +18,16 @@ use lib.Bits.{xor-self}
 use lib.Count.{ones-le}
 use lib.Dec.{lit<}
 use lib.ListN.{length, take, drop, length-take, length-drop, length-append}
-use lib.Seq.{length-take-le, getD-take}
+use lib.Seq.{length-take-le}
 use Rattle.calls.specs.Refusal.{refused, told}
 use Rattle.calls.proofs.Laws.{told-refused, told-same}
 use Rattle.packets.specs.Flag.{flagOf}
 use Rattle.packets.specs.Header.{dataOf, headerOf, headerWord, wrongBits}
 use Rattle.packets.specs.Packet.{packetOf, Heading, heading, read}
-use Rattle.packets.specs.Claims.{Says, Carries, ReadExactly, CarriesOne, CutShort, LengthUnused}
-use Rattle.packets.proofs.Fields.{code-of, length-of, data-of, header-is-word, header-word-same, header-near}
+use Rattle.packets.specs.Claims.{Carries, ReadExactly, CarriesOne, CutShort, LengthUnused}
+use Rattle.packets.proofs.Fields.{code-of, length-of, header-near, data-says}
 use Rattle.packets.proofs.Opening.{begins-long}
-use Rattle.packets.proofs.Ends.{Ends, refuses, tells, ends, short-ends, unused-ends, unclosed-ends, told-ends}
+use Rattle.packets.proofs.Ends.{DataStand, Ends, refuses, tells, ends, short-ends, unused-ends, unclosed-ends, told-ends}
 use Rattle.packets.proofs.Parts.{opening-at, header-at, front-cut, closing-at, front-length, front-and-rest, packet-length, parts-make}
 
 heading-is : (p : Heading) → p .next ≡ 5 + p .length → heading (p .code) (p .mark) (p .length) ≡ p
@@ -35,14 +35,12 @@ heading-is p e = ap (λ (n : ℕ). record { code = p .code; mark = p .mark; leng
 
 -- ---- from what was read
 
-module _ (u : List ℕ) (d : ℕ) (m : Bool) (says : Says u d) (fits : d / 16 ≤ 254) (closing : take 2 (drop (5 + d / 16) u) ≡ flagOf m) where
+module _ (u : List ℕ) (d : ℕ) (m : Bool) (says : DataStand u d) (fits : d / 16 ≤ 254) (closing : take 2 (drop (5 + d / 16) u) ≡ flagOf m) where
   carried : Carries u (heading (d % 16) m (d / 16))
   carried =
       let far = begins-long (drop (5 + d / 16) u) (m, closing) in
       let long : 7 + d / 16 ≤ length u = omega (arith, length-drop (5 + d / 16) u) in
-      let small = says .1 .1 .0 in
-      let word = header-word-same (take 3 (drop 2 u)) (drop 2 u) (λ i l. getD-take 3 (drop 2 u) i 0 l) in
-      let header = header-is-word (d % 16) (d / 16) (omega arith) (omega arith) in
+      let s = data-says u d (says .1 .1) in
       record {
         opens = says .0 .0;
         header = take 3 (drop 2 u);
@@ -50,8 +48,8 @@ module _ (u : List ℕ) (d : ℕ) (m : Bool) (says : Says u d) (fits : d / 16 �
         rest = drop (7 + d / 16) u;
         is = rw (← says .0 .1, ← closing) (parts-make (d / 16) u);
         three = length-take-le 3 (drop 2 u) (rw length-drop (omega arith));
-        near = rw (word, header, data-of d) (says .1 .1 .1);
-        code = omega arith;
+        near = s .2;
+        code = s .0;
         long = length-take-le (d / 16) (drop 5 u) (rw length-drop (omega arith));
         fits = fits;
         next = refl;
@@ -60,7 +58,7 @@ module _ (u : List ℕ) (d : ℕ) (m : Bool) (says : Says u d) (fits : d / 16 �
 -- ---- to what is read
 
 front-says : (o : Bool) (h r : List ℕ) (c n : ℕ) → length h ≡ 3 → c ≤ 15 → n ≤ 255 → wrongBits h (headerOf c n) ≤ 3
-    → Says (flagOf o ++ h ++ r) (dataOf c n)
+    → DataStand (flagOf o ++ h ++ r) (dataOf c n)
 front-says o h r c n three hc hn near =
     let long = front-length o h three in (
       (o, opening-at o h three r),
@@ -77,7 +75,7 @@ packet-read o h xs m rest c three hc hn near =
     let code = code-of c (length xs) (omega arith) in
     let long = length-of c (length xs) (omega arith) in
     let front = front-says o h (xs ++ (flagOf m ++ rest)) c (length xs) three hc (omega arith) near in
-    let says : Says u (dataOf c (length xs)) = rw (front-and-rest o h three m xs rest) front in
+    let says : DataStand u (dataOf c (length xs)) = rw (front-and-rest o h three m xs rest) front in
     let closing = closing-at o h three m xs rest in
     rw (code, long) at (told-ends u (dataOf c (length xs)) says m (omega arith) (rw long closing))
 
@@ -111,7 +109,7 @@ cut-short o m c n xs hc hx l = by (decLt n 5)
         let u = take n (packetOf o c m xs) in
         let cut : u ≡ flagOf o ++ h ++ take (n - 5) (xs ++ flagOf m) =
         ap (take n) (append-assoc (flagOf o ++ h) xs (flagOf m)) ∙ front-cut o h refl (xs ++ flagOf m) n (omega arith) in
-        let says : Says u (dataOf c (length xs)) =
+        let says : DataStand u (dataOf c (length xs)) =
         rw cut (front-says o h (take (n - 5) (xs ++ flagOf m)) c (length xs) refl hc (omega arith) (own-near h)) in
         let long = length-of c (length xs) (omega arith) in
         let left = length-drop (5 + dataOf c (length xs) / 16) u in

@@ -1,5 +1,6 @@
 -- How a reading ends, by what stands in the octets.
 --
+--   DataStand u d            behind a flag the data d stand, to within three bits
 --   NoWord, Unused, Broken   what is there where 17, 2 and 15 are given
 --   Why u k                  why k is
 --   Ends u                   u is refused, or a packet is told (refuses, tells), with what is there then
@@ -23,28 +24,31 @@ use Rattle.golay.specs.declared.Found.the-variants as golay
 use Rattle.packets.specs.Flag.{flagOf, flagIn, isNeither}
 use Rattle.packets.specs.Header.{headerWord}
 use Rattle.packets.specs.Packet.{heading, closed, read}
-use Rattle.packets.specs.Claims.{BeginsWithFlag, Says}
+use Rattle.packets.specs.Claims.{BeginsWithFlag}
 use Rattle.packets.specs.declared.flags.Flag.the-variants.{Neither}
 use Rattle.packets.proofs.Opening.{form-marks, flag-stands, flag-cases, begins-flag, flagless, neither-none}
 use Rattle.packets.proofs.Cases.{read-no-flag, read-short, read-no-word, read-unused, read-closed}
+
+abbrev pub DataStand : List ℕ → ℕ → Type 0
+DataStand u d = BeginsWithFlag u × ((5 ≤ length u) × Within (headerWord (drop 2 u)) d)
 
 module _ (u : List ℕ) where
   abbrev pub NoWord : Type 0
   NoWord = BeginsWithFlag u × ((5 ≤ length u) × ((d : ℕ) → Within (headerWord (drop 2 u)) d → ⊥))
 
   abbrev pub Unused : Type 0
-  Unused = (d : ℕ) × (Says u d × (d / 16 ≡ 255))
+  Unused = (d : ℕ) × (DataStand u d × (d / 16 ≡ 255))
 
   abbrev pub Broken : Type 0
   Broken =
-      (BeginsWithFlag u → ⊥) ⊎ ((length u < 5) ⊎ ((d : ℕ) × (Says u d × ((d / 16 ≤ 254) × (BeginsWithFlag (drop (5 + d / 16) u) → ⊥)))))
+      (BeginsWithFlag u → ⊥) ⊎ ((length u < 5) ⊎ ((d : ℕ) × (DataStand u d × ((d / 16 ≤ 254) × (BeginsWithFlag (drop (5 + d / 16) u) → ⊥)))))
 
   abbrev pub Why : ℕ → Type 0
   Why k = ((k ≡ 15) × Broken) ⊎ (((k ≡ 17) × NoWord) ⊎ ((k ≡ 2) × Unused))
 
   pub data Ends : Type 0 where
     refuses : (k : ℕ) → Why k → read u ≡ refused k → Ends
-    tells : (d : ℕ) (m : Bool) → Says u d → d / 16 ≤ 254 → take 2 (drop (5 + d / 16) u) ≡ flagOf m → read u ≡ told (heading (d % 16) m (d / 16)) → Ends
+    tells : (d : ℕ) (m : Bool) → DataStand u d → d / 16 ≤ 254 → take 2 (drop (5 + d / 16) u) ≡ flagOf m → read u ≡ told (heading (d % 16) m (d / 16)) → Ends
 
 pub flagless-ends : (u : List ℕ) → (BeginsWithFlag u → ⊥) → read u ≡ refused 15
 flagless-ends u f = read-no-flag u (flagless u f)
@@ -60,7 +64,7 @@ module _ (u : List ℕ) where
   pub wordless-ends : BeginsWithFlag u → 5 ≤ length u → ((d : ℕ) → Within (headerWord (drop 2 u)) d → ⊥) → read u ≡ refused 17
   wordless-ends b l none = read-no-word u (begins-flag u b) l (golay .nothing-exactly (headerWord (drop 2 u)) .1 none)
 
-  module _ (d : ℕ) (says : Says u d) where
+  module _ (d : ℕ) (says : DataStand u d) where
     found : nearest (headerWord (drop 2 u)) ≡ golay.Data d
     found = golay .found-exactly (headerWord (drop 2 u)) d .1 (says .1 .1)
 
@@ -79,13 +83,13 @@ module _ (u : List ℕ) where
   pub ends : Ends u
   ends = by (flag-cases u)
     where
-      closes : (d : ℕ) (says : Says u d) → d / 16 ≤ 254 → BeginsWithFlag (drop (5 + d / 16) u) ⊎ (flagIn (drop (5 + d / 16) u) ≡ Neither) → Ends u
+      closes : (d : ℕ) (says : DataStand u d) → d / 16 ≤ 254 → BeginsWithFlag (drop (5 + d / 16) u) ⊎ (flagIn (drop (5 + d / 16) u) ≡ Neither) → Ends u
       closes d says l (inl (m, e)) = tells d m says l e (told-ends d says m l e)
       closes d says l (inr e) =
           let none = neither-none (drop (5 + d / 16) u) e in
           refuses 15 (inl (refl, inr (inr (d, (says, (l, none)))))) (unclosed-ends d says l none)
 
-      measures : (d : ℕ) (says : Says u d) → Dec (d / 16 ≤ 254) → Ends u
+      measures : (d : ℕ) (says : DataStand u d) → Dec (d / 16 ≤ 254) → Ends u
       measures d says (yes l) = closes d says l (flag-cases (drop (5 + d / 16) u))
       measures d says (no l) =
           let small = says .1 .1 .0 in

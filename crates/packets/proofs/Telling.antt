@@ -6,18 +6,20 @@
 --
 -- Assumes nothing.
 use mathlib.Core.Path.{_≡_, refl, sym, ap, _∙_}
-use mathlib.Core.Logic.{inl, inr, ⊎-elim}
+use mathlib.Core.Logic.{_⊎_, inl, inr, ⊎-elim}
 use mathlib.Core.Bool.{Bool, true, false}
 use mathlib.Core.List.{List}
-use Prim.Native.Nat.{ℕ, _+_, _≤_}
+use Prim.Native.Nat.{ℕ, _+_, _/_, _%_, _≤_, _<_}
 use native.Mathlib.Omega.{arith}
 use lib.ListN.{length, take, drop, length-take, length-drop}
 use Rattle.calls.specs.Refusal.{refused, told}
 use Rattle.calls.proofs.Laws.{told-refused, told-same}
 use Rattle.packets.specs.Flag.{flagOf}
 use Rattle.packets.specs.Packet.{Heading, read}
-use Rattle.packets.specs.Claims.{OfReading, NextFlag}
-use Rattle.packets.proofs.Ends.{Broken, Why, Ends, refuses, tells, ends, flagless-ends, short-ends, wordless-ends, unused-ends, unclosed-ends}
+use Rattle.packets.specs.Header.{dataOf}
+use Rattle.packets.specs.Claims.{BeginsWithFlag, HeaderStands, Says, OfReading, NextFlag}
+use Rattle.packets.proofs.Fields.{length-of, says-data, data-says}
+use Rattle.packets.proofs.Ends.{DataStand, NoWord, Unused, Broken, Why, Ends, refuses, tells, ends, flagless-ends, short-ends, wordless-ends, unused-ends, unclosed-ends}
 
 module _ (u : List ℕ) where
   why : (k : ℕ) → read u ≡ refused k → Why u k
@@ -27,22 +29,43 @@ module _ (u : List ℕ) where
       by (refuses j w r) = let same : j ≡ k = cc in rw same at w
       by (tells d m s l f r) = told-refused r e
 
-  breaks : Broken u → read u ≡ refused 15
-  breaks (inl f) = flagless-ends u f
-  breaks (inr (inl l)) = short-ends u l
-  breaks (inr (inr (d, (s, (l, n))))) = unclosed-ends u d s l n
+  stands : HeaderStands u → (c n : ℕ) → Says u c n → DataStand u (dataOf c n)
+  stands (b, l) c n s = (b, (l, says-data u c n s))
+
+  -- what stands where 15 is given, by the header
+  abbrev Cut : Type 0
+  Cut = (BeginsWithFlag u → ⊥)
+      ⊎ ((length u < 5) ⊎ (HeaderStands u × (c : ℕ) × (n : ℕ) × Says u c n × (n ≤ 254) × (BeginsWithFlag (drop (5 + n) u) → ⊥)))
+
+  breaks : Broken u → Cut
+  breaks (inl f) = inl f
+  breaks (inr (inl l)) = inr (inl l)
+  breaks (inr (inr (d, ((b, (l, w)), (fits, none))))) = inr (inr ((b, l), d % 16, d / 16, data-says u d w, fits, none))
+
+  broken : Cut → read u ≡ refused 15
+  broken (inl f) = flagless-ends u f
+  broken (inr (inl l)) = short-ends u l
+  broken (inr (inr (hs, c, n, s, fits, none))) =
+      let long = length-of c n (omega (arith, s .0)) in
+      unclosed-ends u (dataOf c n) (stands hs c n s) (rw long fits) (rw long none)
+
+  unsaid : NoWord u → HeaderStands u × ((c n : ℕ) → Says u c n → ⊥)
+  unsaid (b, (l, none)) = ((b, l), λ c n s. none (dataOf c n) (says-data u c n s))
+
+  said255 : Unused u → HeaderStands u × (c : ℕ) × Says u c 255
+  said255 (d, ((b, (l, w)), all)) = ((b, l), d % 16, rw all at (data-says u d w))
 
   pub of-reading : OfReading u
   of-reading = record {
     read17 = (
-      λ e. ⊎-elim (λ h. absurd (omega arith)) (⊎-elim (λ h. h .1) (λ h. absurd (omega arith))) (why 17 e),
-      λ h. wordless-ends u (h .0) (h .1 .0) (h .1 .1),
+      λ e. ⊎-elim (λ h. absurd (omega arith)) (⊎-elim (λ h. unsaid (h .1)) (λ h. absurd (omega arith))) (why 17 e),
+      λ h. wordless-ends u (h .0 .0) (h .0 .1) (λ d w. h .1 (d % 16) (d / 16) (data-says u d w)),
     );
     read2 = (
-      λ e. ⊎-elim (λ h. absurd (omega arith)) (⊎-elim (λ h. absurd (omega arith)) (λ h. h .1)) (why 2 e),
-      λ h. unused-ends u (h .0) (h .1 .0) (h .1 .1),
+      λ e. ⊎-elim (λ h. absurd (omega arith)) (⊎-elim (λ h. absurd (omega arith)) (λ h. said255 (h .1))) (why 2 e),
+      λ (hs, c, s). unused-ends u (dataOf c 255) (stands hs c 255 s) (length-of c 255 (omega (arith, s .0))),
     );
-    read15 = (λ e. ⊎-elim (λ h. h .1) (⊎-elim (λ h. absurd (omega arith)) (λ h. absurd (omega arith))) (why 15 e), breaks);
+    read15 = (λ e. ⊎-elim (λ h. breaks (h .1)) (⊎-elim (λ h. absurd (omega arith)) (λ h. absurd (omega arith))) (why 15 e), broken);
     others = λ k e. ⊎-elim (λ h. inl (h .0)) (⊎-elim (λ h. inr (inl (h .0))) (λ h. inr (inr (h .0)))) (why k e);
   }
 

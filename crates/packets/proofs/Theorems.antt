@@ -12,7 +12,7 @@ use Rattle.golay.specs.Matrix.{matrix}
 use Rattle.golay.specs.Code.{product, parity}
 use Rattle.packets.specs.Flag.{flagOf}
 use Rattle.packets.specs.Claims.{FlagsAre, FillPacket, Packets}
-use Rattle.packets.proofs.Fields.{fields-stand, header-is-word}
+use Rattle.packets.proofs.Fields.{fields-stand, header-is-word, wrong-bits-are}
 use Rattle.packets.proofs.Telling.{of-reading, next-flag}
 use Rattle.packets.proofs.Carrying.{read-exactly, carries-one, cut-short, length-unused}
 use Rattle.packets.proofs.Writing.{of-writing, write-answered, read-back}
@@ -37,6 +37,8 @@ packets = record {
   flags-are = flags-are;
   fields-stand = fields-stand;
   header-is-word = header-is-word;
+  wrong-bits-are = wrong-bits-are;
+  packet-is = λ o c m xs. refl;
   fill-packet = fill-packet;
   read-exactly = read-exactly;
   carries-one = carries-one;

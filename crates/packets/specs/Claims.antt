@@ -2,14 +2,18 @@
 -- the specs/Claims.antt of `golay`.
 --
 --   FlagsAre         the flag is E1 4D; the complement adds up with it to ones
---   FieldsStand c n  figure B.2, field by field: MC, MPL and P in the three octets
+--   columnAt c n i   the column of B.3.2.1.3, from the top: MC1 to MC4, then MPL1 to MPL8
+--   FieldsStand c n  figure B.2, field by field: MC, MPL and P in the three octets, P by the clause's equation, bit by bit
 --   HeaderIsWord     the 24 bits of a header are the code's word of its data, so that what is claimed of the code is claimed of it
+--   WrongBitsAre     the wrong bits of a header are those of its three octets
+--   PacketIs         a packet is flag, header, payload and closing flag (B.3.1)
 --   FillPacket       code 0 and length 0: three octets of 0 between the flags (B.3.2.3)
 --   Carries u p      u begins with a packet that says p: intact flags, and a header of which at most three bits are wrong
 --   ReadExactly      reading tells of a packet exactly if there is one
 --   CarriesOne       .. and never of two
 --   BeginsWithFlag u   one of the two flags stands in front
---   Says u d         behind a flag the data d stand, to within three bits
+--   HeaderStands u   .. and three octets behind it
+--   Says u c n       these are the header of code c and length n, to within three bits
 --   OfReading u      when each refusal is given
 --   CutShort         a packet of which the end is missing, wherever it is cut, is refused with 15
 --   LengthUnused     a header that says 255, to within three bits, behind a flag, is refused with 2
@@ -22,12 +26,15 @@
 -- Assumes nothing.
 use mathlib.Core.Path.{_≡_}
 use mathlib.Core.Logic.{_↔_, _⊎_}
-use mathlib.Core.Bool.{Bool, true, false}
+use mathlib.Core.Bool.{Bool, true, false, cond}
 use mathlib.Core.List.{List, [], _∷_, _++_}
-use Prim.Native.Nat.{ℕ, _+_, _*_, _/_, _%_, _≤_, _<_}
+use Prim.Native.Nat.{ℕ, _+_, _*_, _-_, _/_, _%_, _≤_, _<_}
+use lib.Dec.{ltb}
 use lib.ListN.{length, getD, take, drop}
 use Rattle.calls.specs.Refusal.{refused, told, leaving}
-use Rattle.golay.specs.Code.{parity, codeWord, Within}
+use Rattle.golay.specs.Matrix.{matrix}
+use Rattle.golay.specs.Code.{codeWord, distance}
+use Rattle.golay.specs.Claims.{total, bitAt}
 use Rattle.packets.specs.Flag.{flagOf}
 use Rattle.packets.specs.Header.{dataOf, headerOf, headerWord, wrongBits}
 use Rattle.packets.specs.Packet.{packetOf, wrote, Heading, heading, read}
@@ -35,16 +42,27 @@ use Rattle.packets.specs.Packet.{packetOf, wrote, Heading, heading, read
 abbrev pub FlagsAre : Type 0
 FlagsAre = (flagOf false ≡ 225 ∷ 77 ∷ []) × (flagOf true ≡ 30 ∷ 178 ∷ []) × ((i : ℕ) → i < 2 → getD (flagOf false) i 0 + getD (flagOf true) i 0 ≡ 255)
 
+abbrev pub columnAt : (code length i : ℕ) → ℕ
+columnAt c n i = cond (ltb i 4) (bitAt c i) (bitAt n (i - 4))
+
 pub record FieldsStand (c n : ℕ) : Type 0 where
   pub three : length (headerOf c n) ≡ 3
   pub octets : (i : ℕ) → i < 3 → getD (headerOf c n) i 0 < 256
   -- MC in bits 1 to 4 of octet 1; MPL1 to MPL4 in its bits 5 to 8, MPL5 to MPL8 in bits 1 to 4 of octet 2; P1 to P4 in its bits 5 to 8, P5 to P12 in octet 3
   pub code : getD (headerOf c n) 0 0 % 16 ≡ c
   pub length : getD (headerOf c n) 0 0 / 16 + getD (headerOf c n) 1 0 % 16 * 16 ≡ n
-  pub parity : getD (headerOf c n) 1 0 / 16 + getD (headerOf c n) 2 0 * 16 ≡ parity (dataOf c n)
+  pub parity : (j : ℕ) → j < 12
+      → bitAt (getD (headerOf c n) 1 0 / 16 + getD (headerOf c n) 2 0 * 16) j ≡ total 12 (λ i. bitAt (getD matrix i 0) j * columnAt c n i) % 2
 
 abbrev pub HeaderIsWord : Type 0
 HeaderIsWord = (c n : ℕ) → c < 16 → n < 256 → headerWord (headerOf c n) ≡ codeWord (dataOf c n)
+
+abbrev pub WrongBitsAre : Type 0
+WrongBitsAre =
+    (h g : List ℕ) → ((i : ℕ) → i < 3 → (getD h i 0 < 256) × (getD g i 0 < 256)) → wrongBits h g ≡ total 3 (λ i. distance (getD h i 0) (getD g i 0))
+
+abbrev pub PacketIs : Type 0
+PacketIs = (o : Bool) (c : ℕ) (m : Bool) (xs : List ℕ) → packetOf o c m xs ≡ flagOf o ++ headerOf c (length xs) ++ xs ++ flagOf m
 
 abbrev pub FillPacket : Type 0
 FillPacket = (o m : Bool) → packetOf o 0 m [] ≡ flagOf o ++ 0 ∷ 0 ∷ 0 ∷ flagOf m
@@ -74,15 +92,17 @@ CarriesOne = (u : List ℕ) (p q : Heading) → Carries u p → Carries u q → 
 abbrev pub BeginsWithFlag : List ℕ → Type 0
 BeginsWithFlag u = (m : Bool) × (take 2 u ≡ flagOf m)
 
--- u begins with a flag, three octets follow, and the data d stand in them, to within three bits
-abbrev pub Says : List ℕ → ℕ → Type 0
-Says u d = BeginsWithFlag u × ((5 ≤ length u) × Within (headerWord (drop 2 u)) d)
+abbrev pub HeaderStands : List ℕ → Type 0
+HeaderStands u = BeginsWithFlag u × (5 ≤ length u)
+
+abbrev pub Says : List ℕ → (code length : ℕ) → Type 0
+Says u c n = (c ≤ 15) × (n ≤ 255) × (wrongBits (take 3 (drop 2 u)) (headerOf c n) ≤ 3)
 
 pub record OfReading (u : List ℕ) : Type 0 where
-  pub read17 : read u ≡ refused 17 ↔ (BeginsWithFlag u × ((5 ≤ length u) × ((d : ℕ) → Within (headerWord (drop 2 u)) d → ⊥)))
-  pub read2 : read u ≡ refused 2 ↔ ((d : ℕ) × (Says u d × (d / 16 ≡ 255)))
+  pub read17 : read u ≡ refused 17 ↔ (HeaderStands u × ((c n : ℕ) → Says u c n → ⊥))
+  pub read2 : read u ≡ refused 2 ↔ (HeaderStands u × (c : ℕ) × Says u c 255)
   pub read15 : read u ≡ refused 15
-      ↔ ((BeginsWithFlag u → ⊥) ⊎ ((length u < 5) ⊎ ((d : ℕ) × (Says u d × ((d / 16 ≤ 254) × (BeginsWithFlag (drop (5 + d / 16) u) → ⊥))))))
+      ↔ ((BeginsWithFlag u → ⊥) ⊎ ((length u < 5) ⊎ (HeaderStands u × (c : ℕ) × (n : ℕ) × Says u c n × (n ≤ 254) × (BeginsWithFlag (drop (5 + n) u) → ⊥))))
   pub others : (k : ℕ) → read u ≡ refused k → (k ≡ 15) ⊎ ((k ≡ 17) ⊎ (k ≡ 2))
 
 abbrev pub CutShort : Type 0
@@ -120,6 +140,8 @@ pub record Packets : Type 0 where
   pub flags-are : FlagsAre
   pub fields-stand : (c n : ℕ) → c < 16 → n < 256 → FieldsStand c n
   pub header-is-word : HeaderIsWord
+  pub wrong-bits-are : WrongBitsAre
+  pub packet-is : PacketIs
   pub fill-packet : FillPacket
   pub read-exactly : ReadExactly
   pub carries-one : CarriesOne
