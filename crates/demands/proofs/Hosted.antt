@@ -35,7 +35,7 @@ use Rattle.adaptation.proofs.Laws.{receivedUnique}
 use Rattle.kyteblossom.specs.Answer.{packed, receiveAnswer, EncodeIs, ReceiveIs}
 use Rattle.kyteblossom.specs.Header.{isBelow, toldBadge, isBadge, isChecked, isTrusted}
 use Rattle.kyteblossom.specs.Claims.{Parts}
-use Rattle.kyteblossom.proofs.Laws.{lengthAnswered, encodeAnswered, receiveAnswered, recordWriteAnswered, recordReadAnswered, packetWriteAnswered, packetReadAnswered, packetBack, checkedExactly}
+use Rattle.kyteblossom.proofs.Laws.{lengthAnswered, encodeAnswered, receiveAnswered, recordWriteAnswered, recordReadAnswered, formsAre, packetWriteAnswered, packetReadAnswered, packetBack, checkedExactly}
 use Rattle.demands.specs.Repairs.{Repairs}
 use Rattle.demands.specs.Host.{foundBadge, FoundTold, HostRepairs, SentTold, Host}
 use Rattle.demands.proofs.Reached.{demand3}
@@ -207,6 +207,7 @@ host = record {
   receiving = receiveAnswered;
   writing = recordWriteAnswered;
   reading = recordReadAnswered;
+  forms = formsAre;
   packing = packetWriteAnswered;
   unpacking = packetReadAnswered;
   packetBack = packetBack;

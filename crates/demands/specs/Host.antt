@@ -24,7 +24,7 @@ use Rattle.checks.specs.Width.{kindAt}
 use Rattle.adaptation.specs.Receiving.{RepairLent, isBare, unitLength}
 use Rattle.kyteblossom.specs.Answer.{EncodeIs, ReceiveIs}
 use Rattle.kyteblossom.specs.Header.{isBelow, toldBadge, toldChanged, toldLength, toldUnit, isChecked, isTrusted}
-use Rattle.kyteblossom.specs.Claims.{LengthAnswered, EncodeAnswered, ReceiveAnswered, RecordWriteAnswered, RecordReadAnswered, PacketWriteAnswered, PacketReadAnswered, PacketBack}
+use Rattle.kyteblossom.specs.Claims.{LengthAnswered, EncodeAnswered, ReceiveAnswered, RecordWriteAnswered, RecordReadAnswered, FormsAre, PacketWriteAnswered, PacketReadAnswered, PacketBack}
 
 abbrev pub foundBadge : Bool → ℕ → Bool → ℕ
 foundBadge x d false = 3
@@ -72,6 +72,7 @@ pub record Host : Type 0 where
   pub receiving : ReceiveAnswered
   pub writing : RecordWriteAnswered
   pub reading : RecordReadAnswered
+  pub forms : FormsAre
   pub packing : PacketWriteAnswered
   pub unpacking : PacketReadAnswered
   pub packetBack : PacketBack

@@ -1,5 +1,6 @@
 -- The claims on packets (specs/Claims.antt), by what is claimed of writing and reading them.
 --
+--   formsAre                                  the forms of a flag that the host hands in
 --   packetWriteAnswered, packetReadAnswered   the claims on each entry
 --   packetBack                                .. and on both
 --   packet-write-once, packet-read-once       any two answers that a promise allows are equal, and so is what they leave
@@ -11,6 +12,7 @@ use mathlib.Core.Bool.{Bool, true, false, cond, true≢false}
 use mathlib.Core.List.{List, _++_}
 use Prim.Native.Nat.{ℕ, zero, suc, _+_, _/_, _≤_}
 use native.Mathlib.Omega.{arith}
+use borrow.Author.Tests.{ne-eqb}
 use lib.IntN.{ℤ, pos}
 use lib.ListN.{length, take, drop}
 use Rattle.calls.specs.Refusal.{Told, refused, told, Ended, ended, leaving, Test, refusal, Refuses}
@@ -20,7 +22,7 @@ use Rattle.packets.specs.Packet.{wrote, writeTests, Heading, heading, readTests
 use Rattle.packets.proofs.Laws.{packets, read-refuses, wrote-refuses, read-told-small, write-small}
 use Rattle.kyteblossom.specs.Answer.{answer, isComplemented, PacketWriteIs, packetNumber, packetSays}
 use Rattle.kyteblossom.specs.Header.{isBelow}
-use Rattle.kyteblossom.specs.Claims.{PacketWriteAnswered, PacketParts, PacketReadAnswered, PacketBack}
+use Rattle.kyteblossom.specs.Claims.{FormsAre, PacketWriteAnswered, PacketParts, PacketReadAnswered, PacketBack}
 use Rattle.kyteblossom.proofs.Answering.{answered, told-so}
 
 -- no refusal has the number 0
@@ -138,6 +140,9 @@ pub packet-read-once : (u : List ℕ) (r q : ℤ) → r ≡ answer (packetSays (
 packet-read-once u r q a b = a ∙ sym b
 
 -- ---- both
+
+pub formsAre : FormsAre
+formsAre = (refl, λ n. rw (ne-eqb (suc n) 0 (λ e. absurd (omega arith))))
 
 pub packetBack : PacketBack
 packetBack o c m xs before after rest r q a h is =

@@ -3,7 +3,7 @@
 --
 --   lengthAnswered, encodeAnswered, receiveAnswered, checkedExactly    the claims (Theorems)
 --   recordWriteAnswered, recordReadAnswered    .. on records, and `record-write-once`, `record-read-once` (Recorded)
---   packetWriteAnswered, packetReadAnswered, packetBack    .. on packets, and `packet-write-once`, `packet-read-once` (Framed)
+--   formsAre, packetWriteAnswered, packetReadAnswered, packetBack    .. on packets, and `packet-write-once`, `packet-read-once` (Framed)
 --   encode-once     sending
 --   receive-once    receiving
 --
@@ -18,7 +18,7 @@ use Rattle.adaptation.proofs.Laws.{encodedUnique, receivedUnique}
 use Rattle.calls.specs.declared.Length.{Length}
 use Rattle.kyteblossom.specs.Answer.{answer, receiveAnswer, EncodeIs, ReceiveIs}
 pub use Rattle.kyteblossom.proofs.Recorded.{recordWriteAnswered, recordReadAnswered, record-write-once, record-read-once}
-pub use Rattle.kyteblossom.proofs.Framed.{packetWriteAnswered, packetReadAnswered, packetBack, packet-write-once, packet-read-once}
+pub use Rattle.kyteblossom.proofs.Framed.{formsAre, packetWriteAnswered, packetReadAnswered, packetBack, packet-write-once, packet-read-once}
 pub use Rattle.kyteblossom.proofs.Theorems.{lengthAnswered, encodeAnswered, receiveAnswered, checkedExactly}
 
 pub encode-once : (n e : ℕ) (u before after left : List ℕ) (r q : ℤ) → EncodeIs n e u before r after → EncodeIs n e u before q left

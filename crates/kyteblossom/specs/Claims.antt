@@ -10,6 +10,7 @@
 --   ReceiveAnswered              .. with kyte_receive; it is what was judged, in parts
 --   RecordWriteAnswered          so it is with kyte_record_write; it is the number of octets that were written
 --   RecordReadAnswered           .. and with kyte_record_read; it is the number of units
+--   FormsAre                     0 is the plain form of a flag, and anything else the complemented one
 --   PacketWriteAnswered          so it is with kyte_packet_write; it is the number of octets that were written, and they are the packet
 --   PacketParts u p r            the header's functions give back from r what the packet says that u begins with, each part by itself, and where
 --                                its payload and the next packet lie
@@ -22,7 +23,7 @@ use mathlib.Core.Path.{_≡_}
 use mathlib.Core.Logic.{_↔_}
 use mathlib.Core.Bool.{true, false, cond, not}
 use mathlib.Core.List.{List, _++_}
-use Prim.Native.Nat.{ℕ, _+_, _^_, _≤_, _<_}
+use Prim.Native.Nat.{ℕ, suc, _+_, _*_, _^_, _≤_, _<_}
 use lib.Dec.{eqb}
 use lib.IntN.{ℤ, pos, negℤ}
 use lib.ListN.{length, take, drop}
@@ -64,7 +65,7 @@ EncodeAnswered =
 
 -- each part has the room of its own in the number of 32 bits, so that none runs into the next
 pub record Parts (r : ℤ) (j : Judgement) (w after : List ℕ) : Type 0 where
-  pub number : r ≡ pos (packed j)
+  pub number : r ≡ pos (badgeNumber (j .badge) + 256 * j .changed + 65536 * j .length)
   pub fits : packed j < 2 ^ 31
   pub badge-is : toldBadge r ≡ pos (badgeNumber (j .badge))
   pub changed-is : toldChanged r ≡ j .changed
@@ -93,6 +94,9 @@ RecordReadAnswered =
 
 -- ---- packets; specs/Claims.antt of `packets` says what a packet is
 
+abbrev pub FormsAre : Type 0
+FormsAre = (isComplemented 0 ≡ false) × ((n : ℕ) → isComplemented (suc n) ≡ true)
+
 abbrev pub PacketWriteAnswered : Type 0
 PacketWriteAnswered =
     (o c m : ℕ) (xs before after : List ℕ) (r : ℤ) → PacketWriteIs o c m xs before r after
@@ -104,7 +108,7 @@ PacketWriteAnswered =
     × (drop (length xs + 7) after ≡ drop (length xs + 7) before))
 
 pub record PacketParts (u : List ℕ) (p : Heading) (r : ℤ) : Type 0 where
-  pub number : r ≡ pos (packetNumber (p .code) (p .mark) (p .length))
+  pub number : r ≡ pos (p .code + 16 * cond (p .mark) 1 0 + 256 * p .length)
   pub fits : packetNumber (p .code) (p .mark) (p .length) < 2 ^ 31
   pub code-is : toldCode r ≡ pos (p .code)
   pub mark-is : toldMark r ≡ cond (p .mark) 1 0
