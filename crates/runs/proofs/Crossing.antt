@@ -6,14 +6,14 @@
 --
 -- Assumes nothing.
 use mathlib.Core.Path.{_≡_, refl, subst}
-use mathlib.Core.List.{List, map}
+use mathlib.Core.List.{List}
 use Prim.Native.Nat.{ℕ}
 use Rattle.multiplex.specs.Calls.{Call, Answer, ours}
 use Rattle.runs.specs.Runs.{Side, other, World, run}
 use Rattle.runs.specs.Demand.{PermittedAll}
 use Rattle.runs.specs.Carried.{Run, ending, Coding, Reception, codedBy, takenBy, overRun, codings}
 use Rattle.runs.specs.Carried.{UnitsAsSent, FollowIn, ByAL1, ByAL2, ByPlainAL2, ByAL1M}
-use Rattle.runs.specs.OverPackets.{PacketRun, packetBeginning, packetEnding, parcelEvent, Simulated, OnWayPackable, overPackets}
+use Rattle.runs.specs.OverPackets.{PacketRun, packetBeginning, packetEnding, parcelEvents, Simulated, OnWayPackable, overPackets}
 use Rattle.runs.specs.OverPackets.{packetCodings, packetReceptions, PacketsAsSent, PacketNumbers}
 use Rattle.runs.specs.OverPackets.{PacketsByAL1, PacketsByAL2, PacketsByPlainAL2, PacketsByAL1M}
 use Rattle.runs.proofs.Handing.{as-sent, numbers-follow, carried-by-AL2}
@@ -25,20 +25,20 @@ module _ {R : ℕ → ℕ → Type 0} (r : PacketRun R) where
   at-first : WorldPackable (packetBeginning r)
   at-first = first-packable (r .lent)
 
-  all : PermittedAll R (λ j. ours) (packetBeginning r) (map parcelEvent (r .events))
-      × (run (λ j. ours) (packetBeginning r) (map parcelEvent (r .events)) ≡ packetEnding r)
+  all : PermittedAll R (λ j. ours) (packetBeginning r) (parcelEvents (r .events))
+      × (run (λ j. ours) (packetBeginning r) (parcelEvents (r .events)) ≡ packetEnding r)
       × WorldPackable (packetEnding r)
   all = run-same R (r .events) (packetBeginning r) at-first (r .permitted)
 
   abbrev whole : Run R
-  whole = record { lent = r .lent; events = map parcelEvent (r .events); permitted = all .0 }
+  whole = record { lent = r .lent; events = parcelEvents (r .events); permitted = all .0 }
 
   ended : (P : World → Type 0) → P (ending whole) → P (packetEnding r)
   ended P = subst P (all .1)
 
   -- what AL2 sent and took is the same
   listed : {A : Type 0} (f : Call → Answer → List A) (i : Side)
-      → overRun f (packetBeginning r) i (map parcelEvent (r .events)) ≡ overPackets f (packetBeginning r) i (r .events)
+      → overRun f (packetBeginning r) i (parcelEvents (r .events)) ≡ overPackets f (packetBeginning r) i (r .events)
   listed f i = calls-same f i R (r .events) (packetBeginning r) at-first (r .permitted)
 
 pub parcel-run : Simulated

@@ -14,13 +14,14 @@ pub mod Stepping
 pub mod Delivering
 pub mod Failing
 pub mod Numbering
-pub mod Filling
 pub mod Following
 pub mod Unbroken
 pub mod Handing
 pub mod Passed
 pub mod Packing
+pub mod Behind
 pub mod Bringing
+pub mod Filling
 pub mod Streaming
 pub mod Hearing
 pub mod Crossing

@@ -1,8 +1,9 @@
--- Three readers that do not meet the demand. A unit of one octet is posted and sent on channel 0, and its packet is heard.
+-- Four readers that do not meet the demand. A unit of one octet is posted and sent on channel 0, and its packet is heard; or a fill packet is heard.
 --
---   deaf-fails         the reader that refuses everything loses the packet
---   exacting-fails     so does the one that reads no header of which a bit is wrong, where one bit is
---   by-opening-fails   the one that takes the mark from the opening flag delivers no unit: the octet is held, as that of a longer unit would be
+--   deaf-fails           the reader that refuses everything loses the packet
+--   exacting-fails       so does the one that reads no header of which a bit is wrong, where one bit is
+--   by-opening-fails     the one that takes the mark from the opening flag delivers no unit: the octet is held, as that of a longer unit would be
+--   deaf-to-fill-fails   the one that refuses fill packets counts a refusal
 --
 -- Assumes nothing.
 use mathlib.Core.Path.{_≡_, refl, sym, ap, ap₂, _∙_}
@@ -12,7 +13,7 @@ use Prim.Native.Nat.{ℕ, _+_, _≤_}
 use native.Mathlib.Omega.{arith}
 use lib.Count.{ones, onesIn}
 use lib.ListN.{length, take}
-use Rattle.octets.specs.Each.{Each, each-length, each-any}
+use Rattle.octets.specs.Each.{Each, each-none, each-length, each-any}
 use Rattle.octets.specs.Same.{same}
 use Rattle.octets.specs.Written.{written}
 use Rattle.calls.specs.Refusal.{Told, refused, told, Ended}
@@ -33,12 +34,13 @@ use Rattle.multiplex.specs.Calls as call
 use Rattle.multiplex.specs.Calls.{Link, Answer, ours, calledBy, called, begun}
 use Rattle.runs.specs.Runs.{near, far, Parcel, End, World, Event, posts, pays, arrives, added, unitsTold, lacksRoom, taking, arriving, step, run}
 use Rattle.runs.specs.Demand.{PermittedAll, withoutLast, whollySent, Delivers}
-use Rattle.runs.specs.Packets.{Brings, Reader, parcelAt}
-use Rattle.runs.specs.Hearing.{does, hears, hearing, packetStep, packetRun, PacketsPermitted, PacketsDeliver, PacketDemand}
-use Rattle.runs.specs.OverPackets.{deaf, marked, byOpening, spotless, exacting}
+use Rattle.runs.specs.Packets.{Brings, fill, Reader, parcelAt}
+use Rattle.runs.specs.Hearing.{does, hears, fills, hearing, filling, packetStep, packetRun, PacketsPermitted, PacketsDeliver, PacketDemand}
+use Rattle.runs.specs.OverPackets.{deaf, marked, byOpening, spotless, exacting, unlessFill, deafToFill}
 use Rattle.runs.proofs.Delivering.{demand-met}
 use Rattle.runs.proofs.Failing.{blank, enough, blanks, world, output, units}
 use Rattle.runs.proofs.Bringing.{said, brought-read}
+use Rattle.runs.proofs.Filling.{fill-leaves}
 use Rattle.runs.proofs.Hearing.{unrefused}
 
 -- any octet may have changed
@@ -225,3 +227,32 @@ by-opening-fails d =
     = tried byOpening d u sound-brings .delivers .complete near 0 (ap (λ (z : End). z .coming) a) in
     let one : 1 ≡ length (unitsOn 0 (added (got .answer) unitsTold)) = ap (λ (l : List (List ℕ)). length l) (sym (all .wholly)) ∙ each-length (rw a at k) in
     omega (arith, got-none)
+
+-- ---- a fill packet
+
+-- as it is sent
+abbrev fillPacket : List ℕ
+fillPacket = flagOf false ++ (0 ∷ 0 ∷ 0 ∷ [] ++ flagOf false)
+
+fill-wrong : wrongBits (0 ∷ 0 ∷ 0 ∷ []) (headerOf 0 0) ≡ 0
+unfolding parity product matrix ones onesIn
+fill-wrong = refl
+
+is-fill : Brings Any fill fillPacket
+is-fill = record {
+  opens = false;
+  behind = 0 ∷ 0 ∷ 0 ∷ [] ++ flagOf false;
+  rest = [];
+  is = refl;
+  body = record { header = 0 ∷ 0 ∷ 0 ∷ []; payload = []; is = refl; three = refl; few = omega (arith, fill-wrong); changed = each-none };
+}
+
+pub deaf-to-fill-fails : (k : ℕ) → PacketDemand (deafToFill k) → ⊥
+unfolding packetRun packetStep PacketsPermitted
+deaf-to-fill-fails k d =
+    let e = world .farEnd in
+    let z : filling (deafToFill k fillPacket) e fillPacket output units .refusals ≡ 0
+    = d Any blanks (fills far fillPacket output units ∷ []) (is-fill, tt) .delivers .unrefused far in
+    let t : deafToFill k fillPacket ≡ refused k = ap (unlessFill k) (fill-leaves Any fillPacket output units (e .link) is-fill .0) in
+    let one : 0 + 1 ≡ 0 = rw t at z in
+    omega arith

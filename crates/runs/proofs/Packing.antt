@@ -4,6 +4,7 @@
 --   packable-append   one list behind another
 --   made-packable     the payload that our library makes
 --   packable-after    both ends after what one of them has done
+--   fill-packable     a fill packet can be written
 --   packets-packable  each permitted event keeps it, whatever the reader is
 --
 -- Assumes nothing.
@@ -27,8 +28,8 @@ use Rattle.multiplex.specs.Calls.{made, telling, ours, calledBy, called}
 use Rattle.multiplex.proofs.Laws.{Agrees, walk-agrees}
 use Rattle.runs.specs.Runs.{Side, near, far, Parcel, End, World, endAt, both, calls, posts, pays, arrives}
 use Rattle.runs.specs.Runs.{added, parcelsTold, lacksRoom, taking, arriving, after, step}
-use Rattle.runs.specs.Packets.{AllPackable, Reader, parcelAt}
-use Rattle.runs.specs.Hearing.{PacketEvent, does, hears, hearing, packetStep, PacketPermitted}
+use Rattle.runs.specs.Packets.{fill, Packable, AllPackable, Reader, parcelAt}
+use Rattle.runs.specs.Hearing.{PacketEvent, does, hears, fills, hearing, packetStep, PacketPermitted}
 
 abbrev pub WorldPackable : World → Type 0
 WorldPackable x = (i : Side) → AllPackable (endAt x i .coming)
@@ -85,6 +86,9 @@ hearing-packable t e [] u output units a b = a
 hearing-packable (refused k) e (q ∷ rest) u output units a b = b .1
 hearing-packable (told p) e (q ∷ rest) u output units a b = arriving-packable e (parcelAt p u) rest (parcelAt p u .octets) output units a (b .1)
 
+pub fill-packable : Packable fill
+fill-packable = (omega arith, omega arith)
+
 pub packets-packable : (R : ℕ → ℕ → Type 0) (f : Reader) (x : World) (e : PacketEvent) → WorldPackable x → PacketPermitted R x e
     → WorldPackable (packetStep f x e)
 unfolding step packetStep
@@ -99,3 +103,5 @@ packets-packable R f x (does (pays i c room payload)) a p = packable-after x i _
 packets-packable R f x (does (arrives i xs output units)) a p = absurd p
 packets-packable R f x (hears i u output units) a p =
     packable-after x i _ [] a (hearing-packable (f u) (endAt x i) (endAt x i .coming) u output units (a i) (a i)) tt
+packets-packable R f x (fills i u output units) a p =
+    packable-after x i _ [] a (hearing-packable (f u) (endAt x i) (fill ∷ endAt x i .coming) u output units (a i) (fill-packable, a i)) tt

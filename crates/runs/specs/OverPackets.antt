@@ -4,7 +4,7 @@
 --   PacketRun R        a run of our library and our reader: both ends fresh, and packet events that are permitted
 --   packetBeginning, packetEnding   both ends at first, and at its end
 --   payloadIn t u      the payload that was read in u
---   parcelEvent        a packet event as an event: the payload that was read arrives
+--   parcelEvent, parcelEvents   a packet event as events, and one behind another: the payload that was read arrives, and a fill packet is nothing
 --   ParcelRun r        the run r event by event, with the payloads that were read, is a run of specs/Demand.antt with the same ends
 --   Simulated          every run over packets is one, so that everything said of runs is said of it
 --   OnWayPackable      what is on its way at the end of a run can be written as a packet
@@ -13,7 +13,7 @@
 --   PacketsAsSent      where no octet of a payload changes, each end delivers on each channel the units wholly sent at the other, in order
 --   PacketNumbers, PacketsByAL2, PacketsByPlainAL2, PacketsByAL1, PacketsByAL1M   what specs/Carried.antt claims of runs, of runs over packets.
 --                      The last is demand 3: unit j delivered, at most e octets of it changed, is handed up as it was sent
---   FillLeaves         a fill packet, at most three bits of its header wrong, is read as one, and what it carries finishes nothing and changes nothing
+--   FillLeaves         a fill packet is read as one, and what it carries finishes nothing and changes nothing
 --   WrittenBrings      what `write` writes, with anything behind it, brings the payload that was handed in
 --   StreamBrings       a stream brings its first payload; and from where the next packet's flag lies, which is its closing flag, the others
 --   StreamWritten      packets that were written one behind another are a stream, with anything behind them
@@ -24,28 +24,31 @@
 --   byOpening          a reader that takes the mark from the flag that opens the packet
 --   spotless h t       what was read of the header h, or refusal 17 where a bit of it is wrong
 --   exacting           a reader that reads no header of which a bit is wrong
+--   unlessFill k t     what was read, or refusal k where it is a fill packet
+--   deafToFill k       a reader that refuses fill packets, with number k, and reads all others
 --   WrongReadersFail   none of these meets the demand
 --   OverPackets        all of these
 --
 -- Assumes nothing.
 use mathlib.Core.Path.{_≡_}
-use mathlib.Core.Bool.{Bool, true, false, cond}
-use mathlib.Core.List.{List, [], _∷_, _++_, map}
-use Prim.Native.Nat.{ℕ, _≤_}
+use mathlib.Core.Bool.{Bool, true, false, cond, _&&_}
+use mathlib.Core.List.{List, [], _∷_, _++_}
+use Prim.Native.Nat.{ℕ}
+use lib.Dec.{eqb}
 use lib.ListN.{length, take, drop}
 use Rattle.octets.specs.Same.{same}
 use Rattle.octets.specs.Each.{Each}
 use Rattle.calls.specs.Refusal.{Told, refused, told, leaving}
 use Rattle.packets.specs.Flag.{flagOf, isFlag}
-use Rattle.packets.specs.Header.{headerOf, wrongBits}
+use Rattle.packets.specs.Header.{headerOf}
 use Rattle.packets.specs.Packet.{Heading, heading, wrote, read}
 use Rattle.multiplex.specs.Calls as call
 use Rattle.multiplex.specs.Calls.{Link, Call, Answer, finished, called}
 use Rattle.runs.specs.Runs.{Side, other, Parcel, World, endAt, Lent, begin, Event, arrives}
 use Rattle.runs.specs.Carried.{Run, beginning, ending, Coding, Reception, codedBy, takenBy, calledAt}
 use Rattle.runs.specs.Carried.{FollowIn, UnitsAsSent, ByAL1, ByAL2, ByPlainAL2, ByAL1M}
-use Rattle.runs.specs.Packets.{Brings, AllPackable, Stream, bodiesOf, streamOf, Reader, parcelAt, readAll, ParcelAlike}
-use Rattle.runs.specs.Hearing.{PacketEvent, does, hears, packetStep, packetRun, PacketsPermitted, PacketDemand}
+use Rattle.runs.specs.Packets.{Brings, fill, AllPackable, Stream, bodiesOf, streamOf, Reader, parcelAt, readAll, ParcelAlike}
+use Rattle.runs.specs.Hearing.{PacketEvent, does, hears, fills, packetStep, packetRun, PacketsPermitted, PacketDemand}
 
 -- ---- a run over packets
 
@@ -65,13 +68,18 @@ abbrev pub payloadIn : Told Heading → List ℕ → List ℕ
 payloadIn (refused k) u = []
 payloadIn (told p) u = parcelAt p u .octets
 
-abbrev pub parcelEvent : PacketEvent → Event
-parcelEvent (does e) = e
-parcelEvent (hears i u output units) = arrives i (payloadIn (read u) u) output units
+abbrev pub parcelEvent : PacketEvent → List Event
+parcelEvent (does e) = e ∷ []
+parcelEvent (hears i u output units) = arrives i (payloadIn (read u) u) output units ∷ []
+parcelEvent (fills i u output units) = []
+
+unfoldable pub parcelEvents : List PacketEvent → List Event
+parcelEvents [] = []
+parcelEvents (e ∷ es) = parcelEvent e ++ parcelEvents es
 
 pub record ParcelRun {R : ℕ → ℕ → Type 0} (r : PacketRun R) : Type 0 where
   pub run : Run R
-  pub events : run .events ≡ map parcelEvent (r .events)
+  pub events : run .events ≡ parcelEvents (r .events)
   pub begins : beginning run ≡ packetBeginning r
   pub ends : ending run ≡ packetEnding r
 
@@ -86,6 +94,7 @@ OnWayPackable = (R : ℕ → ℕ → Type 0) (r : PacketRun R) (i : Side) → Al
 abbrev pub packetCalled : {A : Type 0} → (Call → Answer → List A) → World → Side → PacketEvent → List A
 packetCalled f x i (does e) = calledAt f x i e
 packetCalled f x i (hears j u output units) = []
+packetCalled f x i (fills j u output units) = []
 
 unfoldable pub overPackets : {A : Type 0} → (Call → Answer → List A) → World → Side → List PacketEvent → List A
 overPackets f x i [] = []
@@ -118,10 +127,10 @@ PacketsByAL1M = (R : ℕ → ℕ → Type 0) (r : PacketRun R) → ByAL1M (packe
 
 -- ---- packets as they are written, and one behind another
 
-abbrev pub FillLeaves : Type 0
+abbrev pub FillLeaves : Type 1
 FillLeaves =
-    (o : Bool) (header rest output units : List ℕ) (x : Link) → length header ≡ 3 → wrongBits header (headerOf 0 0) ≤ 3
-    → (read (flagOf o ++ header ++ flagOf false ++ rest) ≡ told (heading 0 false 0))
+    (R : ℕ → ℕ → Type 0) (u output units : List ℕ) (x : Link) → Brings R fill u
+    → (read u ≡ told (heading 0 false 0))
     × (called x (call.demultiplexing 0 false [] output units) ≡ leaving (finished 0 output units) x)
 
 abbrev pub WrittenBrings : Type 1
@@ -165,10 +174,18 @@ spotless h (told p) = cond (same h (headerOf (p .code) (p .length))) (told p) (r
 abbrev pub exacting : Reader
 exacting u = spotless (take 3 (drop 2 u)) (read u)
 
+abbrev pub unlessFill : ℕ → Told Heading → Told Heading
+unlessFill k (refused j) = refused j
+unlessFill k (told p) = cond (eqb (p .code) 0 && eqb (p .length) 0) (refused k) (told p)
+
+abbrev pub deafToFill : ℕ → Reader
+deafToFill k u = unlessFill k (read u)
+
 pub record WrongReadersFail : Type 1 where
   pub deafFails : (k : ℕ) → PacketDemand (deaf k) → ⊥
   pub byOpeningFails : PacketDemand byOpening → ⊥
   pub exactingFails : PacketDemand exacting → ⊥
+  pub deafToFillFails : (k : ℕ) → PacketDemand (deafToFill k) → ⊥
 
 pub record OverPackets : Type 1 where
   pub simulated : Simulated

@@ -3,6 +3,7 @@
 --   Body R q v w       v is the packet of the payload q behind its opening flag, and w stands behind its closing flag: at most three bits of the
 --                      header are wrong, and each octet of the payload has changed at most as R allows
 --   Brings R q u       u begins with the packet of q, opened by either form of the flag
+--   fill               what a fill packet brings: no octets, under code 0, without the mark (B.3.2.3)
 --   Packable q         a packet has room for q: a code of at most 15, and at most 254 octets
 --   AllPackable        .. for each of a list
 --   Stream R qs v      v has the packets of the payloads qs behind an opening flag, the closing flag of each being the next one's first
@@ -14,7 +15,7 @@
 --
 -- Assumes nothing.
 use mathlib.Core.Path.{_≡_}
-use mathlib.Core.Bool.{Bool}
+use mathlib.Core.Bool.{Bool, false}
 use mathlib.Core.List.{List, [], _∷_, _++_}
 use Prim.Native.Nat.{ℕ, zero, suc, _≤_}
 use lib.ListN.{length, take, drop}
@@ -40,6 +41,9 @@ pub record Brings (R : ℕ → ℕ → Type 0) (q : Parcel) (u : List ℕ) : Typ
   pub rest : List ℕ
   pub is : u ≡ flagOf opens ++ behind
   pub body : Body R q behind rest
+
+abbrev pub fill : Parcel
+fill = record { code = 0; mark = false; octets = [] }
 
 abbrev pub Packable : Parcel → Type 0
 Packable q = (q .code ≤ highestCode) × (length (q .octets) ≤ longest)
