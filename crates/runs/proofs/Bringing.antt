@@ -7,6 +7,8 @@
 --   brought-next       and the closing flag where the next packet begins
 --   brought-read       so it is read
 --   brought-alike      .. as the payload was sent, but for what R allows
+--   read-brings        what is read so brings the payload
+--   brings-exactly     both
 --   body-written       a packet as it was written, behind its opening flag
 --   written-brings     what `write` writes brings the payload
 --
@@ -20,7 +22,7 @@ use lib.Bits.{xor-self}
 use lib.Count.{ones}
 use lib.ListN.{length, take, drop, length-append}
 use lib.Seq.{take-at, drop-at, drop-drop}
-use Rattle.octets.specs.Each.{Each, each-length, each-self}
+use Rattle.octets.specs.Each.{Each, each-length, each-any, each-self}
 use Rattle.calls.specs.Refusal.{told}
 use Rattle.packets.specs.Flag.{flagOf}
 use Rattle.packets.specs.Header.{headerOf, headerWord, wrongBits}
@@ -29,7 +31,7 @@ use Rattle.packets.specs.Claims.{Carries}
 use Rattle.packets.proofs.Laws.{packets}
 use Rattle.runs.specs.Runs.{Parcel}
 use Rattle.runs.specs.Packets.{Body, Brings, Packable, parcelAt, ParcelAlike}
-use Rattle.runs.specs.OverPackets.{WrittenBrings}
+use Rattle.runs.specs.OverPackets.{BringsExactly, WrittenBrings}
 
 pub flag-two : (m : Bool) → length (flagOf m) ≡ 2
 flag-two true = refl
@@ -92,6 +94,33 @@ module _ {R : ℕ → ℕ → Type 0} {q : Parcel} {u : List ℕ} (b : Brings R 
 
   pub brought-alike : ParcelAlike R q (parcelAt (said q) u)
   brought-alike = record { code = refl; mark = refl; octets = subst (Each R (q .octets)) (sym brought-payload) (b .body .changed) }
+
+-- ---- .. and nothing else
+
+abbrev carried-brings : (R : ℕ → ℕ → Type 0) (q : Parcel) (u : List ℕ) (c : Carries u (said q)) → Each R (q .octets) (c .payload) → Brings R q u
+carried-brings R q u c changed =
+    let o = flagOf (c .opens) in
+    let h = c .header in
+    let p = c .payload in
+    let f = flagOf (q .mark) in
+    record {
+      opens = c .opens;
+      behind = h ++ p ++ f ++ c .rest;
+      rest = c .rest;
+      is = c .is
+          ∙ ap (λ (v : List ℕ). v ++ f ++ c .rest) (append-assoc o h p)
+          ∙ ap (λ (v : List ℕ). v ++ c .rest) (append-assoc o (h ++ p) f)
+          ∙ append-assoc o (h ++ p ++ f) (c .rest);
+      body = record { header = h; payload = p; is = refl; three = c .three; few = c .near; changed = changed };
+    }
+
+pub read-brings : (R : ℕ → ℕ → Type 0) (q : Parcel) (u : List ℕ) → Carries u (said q) → Each R (q .octets) (parcelAt (said q) u .octets) → Brings R q u
+read-brings R q u c e =
+    let whatever = carried-brings (λ a b. Unit {0}) q u c (each-any (λ a b. Unit {0}) (λ a b. tt) (q .octets) (c .payload) (sym (c .long))) in
+    carried-brings R q u c (subst (Each R (q .octets)) (brought-payload whatever) e)
+
+pub brings-exactly : BringsExactly
+brings-exactly R q u h = (λ b. (brought-read b h, brought-alike b .octets), λ (e, a). read-brings R q u (packets .read-exactly u (said q) .0 e) a)
 
 -- ---- writing
 

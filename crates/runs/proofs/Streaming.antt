@@ -1,13 +1,15 @@
 -- Packets one behind another, the closing flag of each being the next one's first.
 --
 --   stream-brings      a stream brings its first payload, and the others from where the next packet's flag lies
+--   same-behind        what is behind a flag
+--   stream-made        what does so is a stream
 --   stream-written     packets that were written one behind another are a stream
 --   stream-read        reading in turn reads each payload,
 --   stream-read-back   and of packets as they were written exactly these
 --
 -- Assumes nothing.
 use mathlib.Core.Path.{_≡_, refl, sym, ap, subst, _∙_}
-use mathlib.Core.Bool.{Bool}
+use mathlib.Core.Bool.{Bool, true, false}
 use mathlib.Core.List.{List, [], _∷_, _++_, append-assoc}
 use Prim.Native.Nat.{ℕ}
 use lib.ListN.{length, drop}
@@ -18,7 +20,7 @@ use Rattle.packets.specs.Header.{headerOf}
 use Rattle.packets.specs.Packet.{Heading, read}
 use Rattle.runs.specs.Runs.{Parcel, added}
 use Rattle.runs.specs.Packets.{Body, Brings, stream-none, stream-more, bodiesOf, parcelAt, readAll, ParcelAlike}
-use Rattle.runs.specs.OverPackets.{StreamBrings, StreamWritten, StreamRead, StreamReadBack}
+use Rattle.runs.specs.OverPackets.{StreamBrings, StreamMade, StreamWritten, StreamRead, StreamReadBack}
 use Rattle.runs.proofs.Bringing.{brought-next, brought-read, brought-alike, body-written}
 
 abbrev opened : {R : ℕ → ℕ → Type 0} {q : Parcel} {v w : List ℕ} → (o : Bool) → Body R q v w → Brings R q (flagOf o ++ v)
@@ -26,6 +28,19 @@ opened {v = v} {w = w} o b = record { opens = o; behind = v; rest = w; is = refl
 
 pub stream-brings : StreamBrings
 stream-brings R o q qs v (stream-more b s) = (opened o b, (_, brought-next (opened o b), s))
+
+pub same-behind : (o m : Bool) (v w : List ℕ) → flagOf o ++ v ≡ flagOf m ++ w → v ≡ w
+same-behind false false v w e = ap (drop 2) e
+same-behind false true v w e = ap (drop 2) e
+same-behind true false v w e = ap (drop 2) e
+same-behind true true v w e = ap (drop 2) e
+
+pub stream-made : StreamMade
+stream-made R o q qs v w b e s =
+    let there = same-behind o (b .opens) v (b .behind) (b .is) in
+    let behind = same-behind (q .mark) (q .mark) (b .rest) w (sym (brought-next b) ∙ e) in
+    let body : Body R q v w = rw (there, ← behind) (b .body) in
+    stream-more body s
 
 pub stream-written : StreamWritten
 unfolding bodiesOf

@@ -13,8 +13,8 @@ use Rattle.runs.proofs.Delivering as delivering
 use Rattle.runs.proofs.Failing.{idle-fails, refuser-fails, mute-fails, silent-fails}
 use Rattle.runs.proofs.Handing.{as-sent, numbers-follow, carried-by-AL2}
 use Rattle.runs.proofs.Passed.{carried-by-AL1, carried-by-plain-AL2, carried-by-AL1M}
-use Rattle.runs.proofs.Bringing.{written-brings}
-use Rattle.runs.proofs.Streaming.{stream-brings, stream-written, stream-read, stream-read-back}
+use Rattle.runs.proofs.Bringing.{brings-exactly, written-brings}
+use Rattle.runs.proofs.Streaming.{stream-brings, stream-made, stream-written, stream-read, stream-read-back}
 use Rattle.runs.proofs.Filling.{fill-leaves}
 use Rattle.runs.proofs.Hearing.{packet-demand}
 use Rattle.runs.proofs.Crossing.{parcel-run, on-way-packable, packets-as-sent, packet-numbers}
@@ -50,8 +50,10 @@ over-packets = record {
   byPlainAL2 = packets-by-plain-AL2;
   byAL1M = packets-by-AL1M;
   fill = fill-leaves;
+  brings = brings-exactly;
   written = written-brings;
   streamBrings = stream-brings;
+  streamMade = stream-made;
   streamWritten = stream-written;
   streamRead = stream-read;
   streamReadBack = stream-read-back;

@@ -14,8 +14,11 @@
 --   PacketNumbers, PacketsByAL2, PacketsByPlainAL2, PacketsByAL1, PacketsByAL1M   what specs/Carried.antt claims of runs, of runs over packets.
 --                      The last is demand 3: unit j delivered, at most e octets of it changed, is handed up as it was sent
 --   FillLeaves         a fill packet is read as one, and what it carries finishes nothing and changes nothing
+--   BringsExactly      octets bring a payload exactly where its packet is read, with the payload behind the header changed at most as R allows: so
+--                      what is permitted to be heard is no less than what ticket 4 says
 --   WrittenBrings      what `write` writes, with anything behind it, brings the payload that was handed in
 --   StreamBrings       a stream brings its first payload; and from where the next packet's flag lies, which is its closing flag, the others
+--   StreamMade         .. and what does so is a stream
 --   StreamWritten      packets that were written one behind another are a stream, with anything behind them
 --   StreamRead         reading a stream in turn reads each payload, in order, with its code and mark
 --   StreamReadBack     .. and of one as it was written exactly these
@@ -31,6 +34,7 @@
 --
 -- Assumes nothing.
 use mathlib.Core.Path.{_≡_}
+use mathlib.Core.Logic.{_↔_}
 use mathlib.Core.Bool.{Bool, true, false, cond, _&&_}
 use mathlib.Core.List.{List, [], _∷_, _++_}
 use Prim.Native.Nat.{ℕ}
@@ -47,7 +51,7 @@ use Rattle.multiplex.specs.Calls.{Link, Call, Answer, finished, called}
 use Rattle.runs.specs.Runs.{Side, other, Parcel, World, endAt, Lent, begin, Event, arrives}
 use Rattle.runs.specs.Carried.{Run, beginning, ending, Coding, Reception, codedBy, takenBy, calledAt}
 use Rattle.runs.specs.Carried.{FollowIn, UnitsAsSent, ByAL1, ByAL2, ByPlainAL2, ByAL1M}
-use Rattle.runs.specs.Packets.{Brings, fill, AllPackable, Stream, bodiesOf, streamOf, Reader, parcelAt, readAll, ParcelAlike}
+use Rattle.runs.specs.Packets.{Brings, fill, Packable, AllPackable, Stream, bodiesOf, streamOf, Reader, parcelAt, readAll, ParcelAlike}
 use Rattle.runs.specs.Hearing.{PacketEvent, does, hears, fills, packetStep, packetRun, PacketsPermitted, PacketDemand}
 
 -- ---- a run over packets
@@ -133,6 +137,12 @@ FillLeaves =
     → (read u ≡ told (heading 0 false 0))
     × (called x (call.demultiplexing 0 false [] output units) ≡ leaving (finished 0 output units) x)
 
+abbrev pub BringsExactly : Type 1
+BringsExactly =
+    (R : ℕ → ℕ → Type 0) (q : Parcel) (u : List ℕ) → Packable q
+    → Brings R q u
+    ↔ ((read u ≡ told (heading (q .code) (q .mark) (length (q .octets)))) × Each R (q .octets) (take (length (q .octets)) (drop 5 u)))
+
 abbrev pub WrittenBrings : Type 1
 WrittenBrings =
     (R : ℕ → ℕ → Type 0) → ((a : ℕ) → R a a) → (o : Bool) (c : ℕ) (m : Bool) (xs before after rest : List ℕ) (n : ℕ)
@@ -143,6 +153,11 @@ StreamBrings =
     (R : ℕ → ℕ → Type 0) (o : Bool) (q : Parcel) (qs : List Parcel) (v : List ℕ) → Stream R (q ∷ qs) v
     → Brings R q (flagOf o ++ v)
     × ((w : List ℕ) × (drop (heading (q .code) (q .mark) (length (q .octets)) .next) (flagOf o ++ v) ≡ flagOf (q .mark) ++ w) × Stream R qs w)
+
+abbrev pub StreamMade : Type 1
+StreamMade =
+    (R : ℕ → ℕ → Type 0) (o : Bool) (q : Parcel) (qs : List Parcel) (v w : List ℕ) → Brings R q (flagOf o ++ v)
+    → drop (heading (q .code) (q .mark) (length (q .octets)) .next) (flagOf o ++ v) ≡ flagOf (q .mark) ++ w → Stream R qs w → Stream R (q ∷ qs) v
 
 abbrev pub StreamWritten : Type 1
 StreamWritten = (R : ℕ → ℕ → Type 0) → ((a : ℕ) → R a a) → (qs : List Parcel) (rest : List ℕ) → Stream R qs (bodiesOf qs ++ rest)
@@ -198,8 +213,10 @@ pub record OverPackets : Type 1 where
   pub byPlainAL2 : PacketsByPlainAL2
   pub byAL1M : PacketsByAL1M
   pub fill : FillLeaves
+  pub brings : BringsExactly
   pub written : WrittenBrings
   pub streamBrings : StreamBrings
+  pub streamMade : StreamMade
   pub streamWritten : StreamWritten
   pub streamRead : StreamRead
   pub streamReadBack : StreamReadBack
