@@ -14,7 +14,7 @@
 --   toldCode r                    kyte_packet_code: the answer modulo 16, and -1 of a refusal
 --   toldMark r                    kyte_packet_mark: the answer / 16, modulo 2, and 0 of a refusal
 --   toldPayloadLength r           kyte_packet_length: the answer / 256, and 0 of a refusal
---   toldPayload octets r          the octets that kyte_packet_payload and kyte_packet_length name: from the fifth on
+--   toldPayload octets r          the octets that kyte_packet_payload and kyte_packet_length name: from behind the first five on
 --   toldNext r                    kyte_packet_next: 5 and the payload's octets, and 0 of a refusal
 --
 -- Assumes nothing.
