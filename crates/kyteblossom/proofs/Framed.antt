@@ -134,6 +134,7 @@ pub packetReadAnswered : PacketReadAnswered
 packetReadAnswered u r is = (
   answered (readTests u) (read-positive u) tt tt r (packetSays (read u)) is (number-refuses (read u) (readTests u) (read-refuses u)),
   λ h. read-so u r is h (read u) refl,
+  λ p c. told-parts u r p (packets .read-exactly u p .1 c) is,
 )
 
 pub packet-read-once : (u : List ℕ) (r q : ℤ) → r ≡ answer (packetSays (read u)) → q ≡ answer (packetSays (read u)) → r ≡ q

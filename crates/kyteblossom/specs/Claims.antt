@@ -121,6 +121,7 @@ PacketReadAnswered =
     (u : List ℕ) (r : ℤ) → r ≡ answer (packetSays (read u))
     → Answered {X = Unit {0}} r (packetReadTests u) tt tt
     × (isBelow r ≡ false → (p : Heading) × Carries u p × PacketParts u p r)
+    × ((p : Heading) → Carries u p → PacketParts u p r)
 
 abbrev pub PacketBack : Type 0
 PacketBack =

@@ -2,6 +2,7 @@
 --
 --   read-exactly      a packet is told exactly where one is carried
 --   carries-one       .. and so there is one
+--   payload-lies      where its payload lies
 --   cut-short         a packet whose end is missing
 --   length-unused     a length of 255
 --   own-near          a header is near itself
@@ -24,11 +25,11 @@ use Rattle.calls.proofs.Laws.{told-refused, told-same}
 use Rattle.packets.specs.Flag.{flagOf}
 use Rattle.packets.specs.Header.{dataOf, headerOf, headerWord, wrongBits}
 use Rattle.packets.specs.Packet.{packetOf, Heading, heading, read}
-use Rattle.packets.specs.Claims.{Carries, ReadExactly, CarriesOne, CutShort, LengthUnused}
+use Rattle.packets.specs.Claims.{Carries, ReadExactly, CarriesOne, PayloadLies, CutShort, LengthUnused}
 use Rattle.packets.proofs.Fields.{code-of, length-of, header-near, data-says}
 use Rattle.packets.proofs.Opening.{begins-long}
 use Rattle.packets.proofs.Ends.{DataStand, Ends, refuses, tells, ends, short-ends, unused-ends, unclosed-ends, told-ends}
-use Rattle.packets.proofs.Parts.{opening-at, header-at, front-cut, closing-at, front-length, front-and-rest, packet-length, parts-make}
+use Rattle.packets.proofs.Parts.{opening-at, header-at, payload-at, front-cut, closing-at, front-length, front-and-rest, packet-length, parts-make}
 
 heading-is : (p : Heading) → p .next ≡ 5 + p .length → heading (p .code) (p .mark) (p .length) ≡ p
 heading-is p e = ap (λ (n : ℕ). record { code = p .code; mark = p .mark; length = p .length; next = n }) (sym e)
@@ -94,6 +95,9 @@ read-exactly u p = (λ e. told-carried e (ends u), λ c. carried-told c)
 
 pub carries-one : CarriesOne
 carries-one u p q a b = told-same p q (sym (read-exactly u p .1 a) ∙ read-exactly u q .1 b)
+
+pub payload-lies : PayloadLies
+payload-lies u p c = rw (c .is, ← c .long) (payload-at (c .opens) (c .header) (c .three) (p .mark) (c .payload) (c .rest))
 
 pub length-unused : LengthUnused
 length-unused o c h rest hc three near =

@@ -14,7 +14,7 @@ use Rattle.packets.specs.Flag.{flagOf}
 use Rattle.packets.specs.Claims.{FlagsAre, FillPacket, Packets}
 use Rattle.packets.proofs.Fields.{fields-stand, header-is-word, wrong-bits-are}
 use Rattle.packets.proofs.Telling.{of-reading, next-flag}
-use Rattle.packets.proofs.Carrying.{read-exactly, carries-one, cut-short, length-unused}
+use Rattle.packets.proofs.Carrying.{read-exactly, carries-one, payload-lies, cut-short, length-unused}
 use Rattle.packets.proofs.Writing.{of-writing, write-answered, read-back}
 
 flags-are : FlagsAre
@@ -42,6 +42,7 @@ packets = record {
   fill-packet = fill-packet;
   read-exactly = read-exactly;
   carries-one = carries-one;
+  payload-lies = payload-lies;
   of-reading = of-reading;
   cut-short = cut-short;
   length-unused = length-unused;

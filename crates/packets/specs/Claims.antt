@@ -14,6 +14,7 @@
 --   BeginsWithFlag u   one of the two flags stands in front
 --   HeaderStands u   .. and three octets behind it
 --   Says u c n       these are the header of code c and length n, to within three bits
+--   PayloadLies      the payload that a packet carries is the one that lies there
 --   OfReading u      when each refusal is given
 --   CutShort         a packet of which the end is missing, wherever it is cut, is refused with 15
 --   LengthUnused     a header that says 255, to within three bits, behind a flag, is refused with 2
@@ -37,7 +38,7 @@ use Rattle.golay.specs.Code.{codeWord, distance}
 use Rattle.golay.specs.Claims.{total, bitAt}
 use Rattle.packets.specs.Flag.{flagOf}
 use Rattle.packets.specs.Header.{dataOf, headerOf, headerWord, wrongBits}
-use Rattle.packets.specs.Packet.{packetOf, wrote, Heading, heading, read}
+use Rattle.packets.specs.Packet.{packetOf, wrote, Heading, heading, read, payloadAt}
 
 abbrev pub FlagsAre : Type 0
 FlagsAre = (flagOf false ≡ 225 ∷ 77 ∷ []) × (flagOf true ≡ 30 ∷ 178 ∷ []) × ((i : ℕ) → i < 2 → getD (flagOf false) i 0 + getD (flagOf true) i 0 ≡ 255)
@@ -88,6 +89,9 @@ ReadExactly = (u : List ℕ) (p : Heading) → read u ≡ told p ↔ Carries u p
 abbrev pub CarriesOne : Type 0
 CarriesOne = (u : List ℕ) (p q : Heading) → Carries u p → Carries u q → p ≡ q
 
+abbrev pub PayloadLies : Type 0
+PayloadLies = (u : List ℕ) (p : Heading) (c : Carries u p) → payloadAt (p .length) u ≡ c .payload
+
 -- what u begins with
 abbrev pub BeginsWithFlag : List ℕ → Type 0
 BeginsWithFlag u = (m : Bool) × (take 2 u ≡ flagOf m)
@@ -131,7 +135,7 @@ WriteAnswered =
 abbrev pub ReadBack : Type 0
 ReadBack =
     (o : Bool) (c : ℕ) (m : Bool) (xs before after rest : List ℕ) (n : ℕ) → wrote o c m xs before ≡ leaving n after
-    → (read (take n after ++ rest) ≡ told (heading c m (length xs))) × (take (length xs) (drop 5 (take n after ++ rest)) ≡ xs)
+    → (read (take n after ++ rest) ≡ told (heading c m (length xs))) × (payloadAt (length xs) (take n after ++ rest) ≡ xs)
 
 abbrev pub NextFlag : Type 0
 NextFlag = (u : List ℕ) (p : Heading) → read u ≡ told p → take 2 (drop (p .next) u) ≡ flagOf (p .mark)
@@ -145,6 +149,7 @@ pub record Packets : Type 0 where
   pub fill-packet : FillPacket
   pub read-exactly : ReadExactly
   pub carries-one : CarriesOne
+  pub payload-lies : PayloadLies
   pub of-reading : (u : List ℕ) → OfReading u
   pub cut-short : CutShort
   pub length-unused : LengthUnused

@@ -14,6 +14,7 @@
 --   readTests u             what refuses the reading of u, in this order
 --   read u                  what the packet says that u begins with, or the refusal's number
 --   closed c n f            .. of a packet of code c and length n that the flag f closes
+--   payloadAt n u           where a payload of n octets lies in a packet: behind flag and header
 --   readSays r              what a value of `Reading` says
 --
 -- Assumes nothing.
@@ -21,7 +22,7 @@ use mathlib.Core.Bool.{Bool, true, false, cond, not}
 use mathlib.Core.List.{List, [], _∷_, _++_}
 use Prim.Native.Nat.{ℕ, _+_, _/_, _%_}
 use lib.Dec.{ltb}
-use lib.ListN.{length, drop}
+use lib.ListN.{length, take, drop}
 use Rattle.octets.specs.Written.{written}
 use Rattle.calls.specs.Refusal.{Told, refused, told, Ended, leaving, refusing, Test, _when_, checked}
 use Rattle.table.specs.Table.{highestCode}
@@ -102,6 +103,9 @@ read u = checked refused (readTests u) (told (heading (codeIn u) (isMark (closin
 -- .. of a packet of code c and length n that the flag f closes
 abbrev pub closed : (code length : ℕ) → Flag → Told Heading
 closed c n f = cond (isNeither f) (refused 15) (told (heading c (isMark f) n))
+
+abbrev pub payloadAt : (length : ℕ) → List ℕ → List ℕ
+payloadAt n u = take n (drop 5 u)
 
 abbrev pub readSays : Reading → Told Heading
 readSays (answered.Packet p) = told (record { code = p .code .0; mark = p .mark; length = p .length; next = p .next })

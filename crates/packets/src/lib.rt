@@ -14,7 +14,7 @@ ghost use lib.ListN.{take, drop};
 ghost use Rattle.calls.specs.Refusal.{ended, lengthSays};
 ghost use Rattle.packets.specs.Flag.{flagIn};
 ghost use Rattle.packets.specs.Packet as packet;
-ghost use Rattle.packets.specs.Packet.{readSays, wrote};
+ghost use Rattle.packets.specs.Packet.{payloadAt, readSays, wrote};
 
 // The octets of the longest payload: a length of 255 is not used (B.3.2.1.2).
 pub const LONGEST: usize = 254;
@@ -85,7 +85,7 @@ fn close(octets: &[u8], code: Code, length: usize) -> Reading
 
 // The payload of so many octets where it lies in a packet, or what is there of it.
 pub fn payload(octets: &[u8], length: usize) -> &[u8]
-    ensures { λ r. ⌜ now r ≡ take length (drop 5 (now (octets .entry))) ⌝ }
+    ensures { λ r. ⌜ now r ≡ payloadAt length (now (octets .entry)) ⌝ }
 {
     if octets.len() < BEFORE {
         return octets::front(octets, 0);

@@ -10,6 +10,8 @@
 --   read-brings        what is read so brings the payload
 --   brings-exactly     both
 --   body-written       a packet as it was written, behind its opening flag
+--   packet-opened      .. and with it
+--   packet-brings      a packet brings its payload
 --   written-brings     what `write` writes brings the payload
 --
 -- Assumes nothing.
@@ -26,7 +28,7 @@ use Rattle.octets.specs.Each.{Each, each-length, each-any, each-self}
 use Rattle.calls.specs.Refusal.{told}
 use Rattle.packets.specs.Flag.{flagOf}
 use Rattle.packets.specs.Header.{headerOf, headerWord, wrongBits}
-use Rattle.packets.specs.Packet.{Heading, heading, read}
+use Rattle.packets.specs.Packet.{packetOf, Heading, heading, read}
 use Rattle.packets.specs.Claims.{Carries}
 use Rattle.packets.proofs.Laws.{packets}
 use Rattle.runs.specs.Runs.{Parcel}
@@ -139,17 +141,25 @@ body-written R r q w = record {
   changed = each-self R r (q .octets);
 }
 
+pub packet-opened : (o : Bool) (q : Parcel) (w : List ℕ)
+    → packetOf o (q .code) (q .mark) (q .octets) ++ w ≡ flagOf o ++ (headerOf (q .code) (length (q .octets)) ++ q .octets ++ flagOf (q .mark) ++ w)
+packet-opened o q w =
+    let f = flagOf o in
+    let h = headerOf (q .code) (length (q .octets)) in
+    let g = flagOf (q .mark) in
+    ap (λ (v : List ℕ). v ++ g ++ w) (append-assoc f h (q .octets)) ∙ ap (λ (v : List ℕ). v ++ w) (append-assoc f (h ++ q .octets) g)
+    ∙ append-assoc f (h ++ q .octets ++ g) w
+
+pub packet-brings : (R : ℕ → ℕ → Type 0) → ((a : ℕ) → R a a) → (o : Bool) (q : Parcel) (w : List ℕ)
+    → Brings R q (packetOf o (q .code) (q .mark) (q .octets) ++ w)
+packet-brings R r o q w = record {
+  opens = o;
+  behind = headerOf (q .code) (length (q .octets)) ++ q .octets ++ flagOf (q .mark) ++ w;
+  rest = w;
+  is = packet-opened o q w;
+  body = body-written R r q w;
+}
+
 pub written-brings : WrittenBrings
 written-brings R r o c m xs before after rest n e =
-    let h = headerOf c (length xs) in
-    let f = flagOf o in
-    record {
-      opens = o;
-      behind = h ++ xs ++ flagOf m ++ rest;
-      rest = rest;
-      is = ap (λ (v : List ℕ). v ++ rest) (packets .write-answered o c m xs before after n e .1)
-          ∙ ap (λ (v : List ℕ). v ++ flagOf m ++ rest) (append-assoc f h xs)
-          ∙ ap (λ (v : List ℕ). v ++ rest) (append-assoc f (h ++ xs) (flagOf m))
-          ∙ append-assoc f (h ++ xs ++ flagOf m) rest;
-      body = body-written R r (record { code = c; mark = m; octets = xs }) rest;
-    }
+    rw (packets .write-answered o c m xs before after n e .1) (packet-brings R r o (record { code = c; mark = m; octets = xs }) rest)

@@ -14,7 +14,7 @@ use Rattle.runs.proofs.Failing.{idle-fails, refuser-fails, mute-fails, 
 use Rattle.runs.proofs.Handing.{as-sent, numbers-follow, carried-by-AL2}
 use Rattle.runs.proofs.Passed.{carried-by-AL1, carried-by-plain-AL2, carried-by-AL1M}
 use Rattle.runs.proofs.Bringing.{brings-exactly, written-brings}
-use Rattle.runs.proofs.Streaming.{stream-brings, stream-made, stream-written, stream-read, stream-read-back}
+use Rattle.runs.proofs.Streaming.{goes-on, stream-is, stream-brings, stream-made, stream-written, stream-read, stream-read-back}
 use Rattle.runs.proofs.Filling.{fill-leaves}
 use Rattle.runs.proofs.Hearing.{packet-demand}
 use Rattle.runs.proofs.Crossing.{parcel-run, on-way-packable, packets-as-sent, packet-numbers}
@@ -52,6 +52,8 @@ over-packets = record {
   fill = fill-leaves;
   brings = brings-exactly;
   written = written-brings;
+  goesOn = goes-on;
+  streamIs = stream-is;
   streamBrings = stream-brings;
   streamMade = stream-made;
   streamWritten = stream-written;

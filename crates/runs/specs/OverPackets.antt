@@ -17,6 +17,8 @@
 --   BringsExactly      octets bring a payload exactly where its packet is read, with the payload behind the header changed at most as R allows: so
 --                      what is permitted to be heard is no less than what ticket 4 says
 --   WrittenBrings      what `write` writes, with anything behind it, brings the payload that was handed in
+--   GoesOn             so every run goes on: the packet of the payload that comes next, with anything behind it, may be heard
+--   StreamIs           packets that were written one behind another: the first, and the others from behind the flag that they share
 --   StreamBrings       a stream brings its first payload; and from where the next packet's flag lies, which is its closing flag, the others
 --   StreamMade         .. and what does so is a stream
 --   StreamWritten      packets that were written one behind another are a stream, with anything behind them
@@ -45,14 +47,14 @@ use Rattle.octets.specs.Each.{Each}
 use Rattle.calls.specs.Refusal.{Told, refused, told, leaving}
 use Rattle.packets.specs.Flag.{flagOf, isFlag}
 use Rattle.packets.specs.Header.{headerOf}
-use Rattle.packets.specs.Packet.{Heading, heading, wrote, read}
+use Rattle.packets.specs.Packet.{packetOf, Heading, heading, wrote, read}
 use Rattle.multiplex.specs.Calls as call
 use Rattle.multiplex.specs.Calls.{Link, Call, Answer, finished, called}
 use Rattle.runs.specs.Runs.{Side, other, Parcel, World, endAt, Lent, begin, Event, arrives}
 use Rattle.runs.specs.Carried.{Run, beginning, ending, Coding, Reception, codedBy, takenBy, calledAt}
 use Rattle.runs.specs.Carried.{FollowIn, UnitsAsSent, ByAL1, ByAL2, ByPlainAL2, ByAL1M}
 use Rattle.runs.specs.Packets.{Brings, fill, Packable, AllPackable, Stream, bodiesOf, streamOf, Reader, parcelAt, readAll, ParcelAlike}
-use Rattle.runs.specs.Hearing.{PacketEvent, does, hears, fills, packetStep, packetRun, PacketsPermitted, PacketDemand}
+use Rattle.runs.specs.Hearing.{PacketEvent, does, hears, fills, packetStep, packetRun, PacketPermitted, PacketsPermitted, PacketDemand}
 
 -- ---- a run over packets
 
@@ -148,6 +150,17 @@ WrittenBrings =
     (R : ℕ → ℕ → Type 0) → ((a : ℕ) → R a a) → (o : Bool) (c : ℕ) (m : Bool) (xs before after rest : List ℕ) (n : ℕ)
     → wrote o c m xs before ≡ leaving n after → Brings R (record { code = c; mark = m; octets = xs }) (take n after ++ rest)
 
+abbrev pub GoesOn : Type 1
+GoesOn =
+    (R : ℕ → ℕ → Type 0) → ((a : ℕ) → R a a) → (r : PacketRun R) (i : Side) (o : Bool) (q : Parcel) (behind output units : List ℕ) (rest : List Parcel)
+    → endAt (packetEnding r) i .coming ≡ q ∷ rest
+    → PacketPermitted R (packetEnding r) (hears i (packetOf o (q .code) (q .mark) (q .octets) ++ behind) output units)
+
+abbrev pub StreamIs : Type 0
+StreamIs =
+    (o : Bool) (q : Parcel) (qs : List Parcel)
+    → streamOf o (q ∷ qs) ≡ packetOf o (q .code) (q .mark) (q .octets) ++ drop 2 (streamOf (q .mark) qs)
+
 abbrev pub StreamBrings : Type 1
 StreamBrings =
     (R : ℕ → ℕ → Type 0) (o : Bool) (q : Parcel) (qs : List Parcel) (v : List ℕ) → Stream R (q ∷ qs) v
@@ -215,6 +228,8 @@ pub record OverPackets : Type 1 where
   pub fill : FillLeaves
   pub brings : BringsExactly
   pub written : WrittenBrings
+  pub goesOn : GoesOn
+  pub streamIs : StreamIs
   pub streamBrings : StreamBrings
   pub streamMade : StreamMade
   pub streamWritten : StreamWritten

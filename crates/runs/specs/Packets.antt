@@ -18,13 +18,13 @@ use mathlib.Core.Path.{_≡_}
 use mathlib.Core.Bool.{Bool, false}
 use mathlib.Core.List.{List, [], _∷_, _++_}
 use Prim.Native.Nat.{ℕ, zero, suc, _≤_}
-use lib.ListN.{length, take, drop}
+use lib.ListN.{length, drop}
 use Rattle.octets.specs.Each.{Each}
 use Rattle.calls.specs.Refusal.{Told}
 use Rattle.table.specs.Table.{highestCode}
 use Rattle.packets.specs.Flag.{flagOf}
 use Rattle.packets.specs.Header.{headerOf, wrongBits}
-use Rattle.packets.specs.Packet.{longest, Heading}
+use Rattle.packets.specs.Packet.{longest, Heading, payloadAt}
 use Rattle.runs.specs.Runs.{Parcel, added}
 
 pub record Body (R : ℕ → ℕ → Type 0) (q : Parcel) (v w : List ℕ) : Type 0 where
@@ -71,7 +71,7 @@ abbrev pub Reader : Type 0
 Reader = List ℕ → Told Heading
 
 abbrev pub parcelAt : Heading → List ℕ → Parcel
-parcelAt p u = record { code = p .code; mark = p .mark; octets = take (p .length) (drop 5 u) }
+parcelAt p u = record { code = p .code; mark = p .mark; octets = payloadAt (p .length) u }
 
 unfoldable pub readAll : Reader → (n : ℕ) → List ℕ → List Parcel
 readAll f zero u = []
