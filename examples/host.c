@@ -35,7 +35,7 @@ static const char *const badges[] = { "clean", "corrected", "out of reach", "che
 
 static const char *const refusals[] = {
     [KYTE_REFUSED_SETTING] = "width or e is none of the code's",
-    [KYTE_REFUSED_LENGTH] = "the unit is too short or too long",
+    [KYTE_REFUSED_LENGTH] = "the unit or the payload is too short or too long",
     [KYTE_REFUSED_ROOM] = "the buffer is too small",
     [KYTE_REFUSED_CODE] = "there is no such multiplex code",
     [KYTE_REFUSED_CHANNELS] = "there is a seventeenth channel",
@@ -197,12 +197,13 @@ static int is_lost_in_packet(const char *payload, uint32_t code, int wrong)
     printf("Packet of %d octets, wrong header bits %d: ", (int)n, wrong);
     if (answer < 0) {
         show_refusal(answer);
-        return 0;
+        return wrong <= 3;
     }
     const uint8_t *at = kyte_packet_payload(packet, answer);
     printf("code %d, '%.*s' at octet %d%s, the next packet at octet %zu\n", kyte_packet_code(answer), (int)kyte_packet_length(answer),
            (const char *)at, (int)(at - packet), kyte_packet_mark(answer) ? ", closing mark" : "", kyte_packet_next(answer));
-    return kyte_packet_code(answer) != (int)code || kyte_packet_length(answer) != length || memcmp(at, payload, length) != 0;
+    return kyte_packet_code(answer) != (int)code || !kyte_packet_mark(answer) || kyte_packet_length(answer) != length
+           || memcmp(at, payload, length) != 0;
 }
 
 int main(void)

@@ -1,6 +1,6 @@
 #!/usr/bin/env python3
-"""A second gateway, written from document 01, ticket 4 of document 02 and B.3.1 to B.3.3 of document 000, and from nothing else:
-gateway.py FILE answers FILE's calls.
+"""A second gateway, written from document 01, ticket 4 of document 02 and B.3.1 to B.3.3 of document 000, and from nothing else but the language
+and the hunting of `link`, which are those of docs/gateway.md: gateway.py FILE answers FILE's calls.
 
 It shares no code and no method with the crates. Products go by sums of exponents, the checks go bit by bit, the repair is Sugiyama's
 (Euclid's algorithm on x^2e and the syndromes) and a candidate counts only if it is a code word within e; an entry is a tree, its

@@ -14,7 +14,8 @@
 --   PacketWriteAnswered          so it is with kyte_packet_write; it is the number of octets that were written, and they are the packet
 --   PacketParts u p r            the header's functions give back from r what the packet says that u begins with, each part by itself, and where
 --                                its payload and the next packet lie
---   PacketReadAnswered           .. and with kyte_packet_read; it is what the packet says, in parts
+--   PacketReadAnswered           .. and with kyte_packet_read; it is what the packet says, in parts, wherever there is one; and what the header's
+--                                functions give of a refusal
 --   PacketBack                   what kyte_packet_write wrote, whatever stands behind it, kyte_packet_read tells, and the payload lies there
 --   CheckedExactly               kyte_trusted takes a width for one with a check exactly where the check has octets
 --
@@ -122,6 +123,7 @@ PacketReadAnswered =
     → Answered {X = Unit {0}} r (packetReadTests u) tt tt
     × (isBelow r ≡ false → (p : Heading) × Carries u p × PacketParts u p r)
     × ((p : Heading) → Carries u p → PacketParts u p r)
+    × (isBelow r ≡ true → (toldCode r ≡ negℤ (pos 1)) × (toldMark r ≡ 0) × (toldPayloadLength r ≡ 0) × (toldNext r ≡ 0))
 
 abbrev pub PacketBack : Type 0
 PacketBack =

@@ -48,6 +48,7 @@ packets = record {
   length-unused = length-unused;
   of-writing = of-writing;
   write-answered = write-answered;
+  says-so = λ c m n next k. (refl, refl);
   read-back = read-back;
   next-flag = next-flag;
 }

@@ -20,6 +20,7 @@
 --   LengthUnused     a header that says 255, to within three bits, behind a flag, is refused with 2
 --   OfWriting        when writing gives each refusal, and that nothing lent has changed then
 --   WriteAnswered    .. and what it leaves where it gives none
+--   SaysSo           what a value of `Reading` says: each of its parts under its name
 --   ReadBack         reading what was written, whatever stands behind it, tells what was handed in, and the payload lies there
 --   NextFlag         the next packet's flag lies where it is told, and is the closing flag
 --   Packets          all of these
@@ -38,7 +39,8 @@ use Rattle.golay.specs.Code.{codeWord, distance}
 use Rattle.golay.specs.Claims.{total, bitAt}
 use Rattle.packets.specs.Flag.{flagOf}
 use Rattle.packets.specs.Header.{dataOf, headerOf, headerWord, wrongBits}
-use Rattle.packets.specs.Packet.{packetOf, wrote, Heading, heading, read, payloadAt}
+use Rattle.packets.specs.Packet.{packetOf, wrote, Heading, heading, read, payloadAt, readSays}
+use Rattle.packets.specs.declared.Reading.the-variants as answered
 
 abbrev pub FlagsAre : Type 0
 FlagsAre = (flagOf false ≡ 225 ∷ 77 ∷ []) × (flagOf true ≡ 30 ∷ 178 ∷ []) × ((i : ℕ) → i < 2 → getD (flagOf false) i 0 + getD (flagOf true) i 0 ≡ 255)
@@ -132,6 +134,13 @@ WriteAnswered =
 
 -- ---- both
 
+abbrev pub SaysSo : Type 0
+SaysSo =
+    (c : ℕ) (m : Bool) (n next k : ℕ)
+    → (readSays (answered.Packet (record { code = record { 0 = c }; mark = m; length = n; next = next }))
+    ≡ told (record { code = c; mark = m; length = n; next = next }))
+    × (readSays (answered.Refused k) ≡ refused k)
+
 abbrev pub ReadBack : Type 0
 ReadBack =
     (o : Bool) (c : ℕ) (m : Bool) (xs before after rest : List ℕ) (n : ℕ) → wrote o c m xs before ≡ leaving n after
@@ -155,5 +164,6 @@ pub record Packets : Type 0 where
   pub length-unused : LengthUnused
   pub of-writing : (o : Bool) (c : ℕ) (m : Bool) (xs before : List ℕ) → OfWriting o c m xs before
   pub write-answered : WriteAnswered
+  pub says-so : SaysSo
   pub read-back : ReadBack
   pub next-flag : NextFlag

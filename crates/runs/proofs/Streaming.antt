@@ -46,7 +46,7 @@ stream-made R o q qs v w b e s =
     stream-more body s
 
 pub goes-on : GoesOn
-goes-on R r run i o q w output units rest e = (q, rest, e, packet-brings R r o q w)
+goes-on R r run i o q w output units rest e = ((q, rest, e, packet-brings R r o q w), λ c room payload h. h)
 
 pub stream-is : StreamIs
 unfolding bodiesOf

@@ -25,7 +25,6 @@
 --   UnitToUnit         all of these, and that the unit which a layer reads where it lies in the output is the one delivered (the multiplexer's
 --                      `LiesThere`)
 --
---
 -- Assumes nothing.
 use mathlib.Core.Path.{_≡_}
 use mathlib.Core.Bool.{Bool, true, false, cond, _&&_}

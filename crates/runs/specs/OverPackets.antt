@@ -17,7 +17,8 @@
 --   BringsExactly      octets bring a payload exactly where its packet is read, with the payload behind the header changed at most as R allows: so
 --                      what is permitted to be heard is no less than what ticket 4 says
 --   WrittenBrings      what `write` writes, with anything behind it, brings the payload that was handed in
---   GoesOn             so every run goes on: the packet of the payload that comes next, with anything behind it, may be heard
+--   GoesOn             so every run goes on: the packet of the payload that comes next, with anything behind it, may be heard; and a payload
+--                      may be made wherever the room is one that a packet has
 --   StreamIs           packets that were written one behind another: the first, and the others from behind the flag that they share
 --   StreamBrings       a stream brings its first payload; and from where the next packet's flag lies, which is its closing flag, the others
 --   StreamMade         .. and what does so is a stream
@@ -39,7 +40,7 @@ use mathlib.Core.Path.{_≡_}
 use mathlib.Core.Logic.{_↔_}
 use mathlib.Core.Bool.{Bool, true, false, cond, _&&_}
 use mathlib.Core.List.{List, [], _∷_, _++_}
-use Prim.Native.Nat.{ℕ}
+use Prim.Native.Nat.{ℕ, _≤_}
 use lib.Dec.{eqb}
 use lib.ListN.{length, take, drop}
 use Rattle.octets.specs.Same.{same}
@@ -50,7 +51,7 @@ use Rattle.packets.specs.Header.{headerOf}
 use Rattle.packets.specs.Packet.{packetOf, Heading, heading, wrote, read}
 use Rattle.multiplex.specs.Calls as call
 use Rattle.multiplex.specs.Calls.{Link, Call, Answer, finished, called}
-use Rattle.runs.specs.Runs.{Side, other, Parcel, World, endAt, Lent, begin, Event, arrives}
+use Rattle.runs.specs.Runs.{Side, other, Parcel, World, endAt, Lent, begin, Event, pays, arrives}
 use Rattle.runs.specs.Carried.{Run, beginning, ending, Coding, Reception, codedBy, takenBy, calledAt}
 use Rattle.runs.specs.Carried.{FollowIn, UnitsAsSent, ByAL1, ByAL2, ByPlainAL2, ByAL1M}
 use Rattle.runs.specs.Packets.{Brings, fill, Packable, AllPackable, Stream, bodiesOf, streamOf, Reader, parcelAt, readAll, ParcelAlike}
@@ -155,6 +156,7 @@ GoesOn =
     (R : ℕ → ℕ → Type 0) → ((a : ℕ) → R a a) → (r : PacketRun R) (i : Side) (o : Bool) (q : Parcel) (behind output units : List ℕ) (rest : List Parcel)
     → endAt (packetEnding r) i .coming ≡ q ∷ rest
     → PacketPermitted R (packetEnding r) (hears i (packetOf o (q .code) (q .mark) (q .octets) ++ behind) output units)
+    × ((c room : ℕ) (payload : List ℕ) → room ≤ 254 → PacketPermitted R (packetEnding r) (does (pays i c room payload)))
 
 abbrev pub StreamIs : Type 0
 StreamIs =
