@@ -1,8 +1,9 @@
--- Four readers that do not meet the demand. A unit of one octet is posted and sent on channel 0, and its packet is heard; or a fill packet is heard.
+-- Five readers that do not meet the demand. A unit of one octet is posted and sent on channel 0, and its packet is heard; or a fill packet is heard.
 --
 --   deaf-fails           the reader that refuses everything loses the packet
 --   exacting-fails       so does the one that reads no header of which a bit is wrong, where one bit is
 --   by-opening-fails     the one that takes the mark from the opening flag delivers no unit: the octet is held, as that of a longer unit would be
+--   dozing-fails         the one that tells of a fill packet whatever comes delivers nothing
 --   deaf-to-fill-fails   the one that refuses fill packets counts a refusal
 --
 -- Assumes nothing.
@@ -16,7 +17,7 @@ use lib.ListN.{length, take}
 use Rattle.octets.specs.Each.{Each, each-none, each-length, each-any}
 use Rattle.octets.specs.Same.{same}
 use Rattle.octets.specs.Written.{written}
-use Rattle.calls.specs.Refusal.{Told, refused, told, Ended}
+use Rattle.calls.specs.Refusal.{Told, refused, told, Ended, leaving}
 use Rattle.table.specs.Form.{inTurn, elementAs, listAs, treeOf}
 use Rattle.table.specs.Slots.{slots, cut, payloadSlots}
 use Rattle.table.specs.Table.{entryOf, isDefined}
@@ -29,14 +30,14 @@ use Rattle.packets.specs.Header.{headerOf, wrongBits}
 use Rattle.packets.specs.Packet.{Heading, heading, read}
 use Rattle.multiplex.specs.Pieces.{total}
 use Rattle.multiplex.specs.Multiplexer.{walked, gathered, multiplexed}
-use Rattle.multiplex.specs.Units.{unitsOn, enoughOutput, enoughUnits}
+use Rattle.multiplex.specs.Units.{unitsIn, unitsOn, enoughOutput, enoughUnits}
 use Rattle.multiplex.specs.Calls as call
-use Rattle.multiplex.specs.Calls.{Link, Answer, ours, calledBy, called, begun}
+use Rattle.multiplex.specs.Calls.{Link, Answer, finished, ours, calledBy, called, begun}
 use Rattle.runs.specs.Runs.{near, far, Parcel, End, World, Event, posts, pays, arrives, added, unitsTold, lacksRoom, taking, arriving, step, run}
 use Rattle.runs.specs.Demand.{PermittedAll, withoutLast, whollySent, Delivers}
 use Rattle.runs.specs.Packets.{Brings, fill, Reader, parcelAt}
 use Rattle.runs.specs.Hearing.{does, hears, fills, hearing, filling, packetStep, packetRun, PacketsPermitted, PacketsDeliver, PacketDemand}
-use Rattle.runs.specs.OverPackets.{deaf, marked, byOpening, spotless, exacting, unlessFill, deafToFill}
+use Rattle.runs.specs.OverPackets.{deaf, marked, byOpening, spotless, exacting, dozing, unlessFill, deafToFill}
 use Rattle.runs.proofs.Delivering.{demand-met}
 use Rattle.runs.proofs.Failing.{blank, enough, blanks, world, output, units}
 use Rattle.runs.proofs.Bringing.{said, brought-read}
@@ -213,20 +214,28 @@ got-none =
 unmarked : byOpening (packet sound) ≡ told (heading 0 false 1)
 unmarked = ap (marked false) (is-read sound sound-brings) ∙ ap₂ (λ (c n : ℕ). told (heading c false n)) (all .code) (all .many)
 
-pub by-opening-fails : PacketDemand byOpening → ⊥
+-- what becomes of the far end where the packet is read so that nothing is delivered
+undelivered : (f : Reader) → PacketDemand f → (r : Ended Answer Link)
+    → hearing (f (packet sound)) (way (1 ∷ []) .farEnd) (way (1 ∷ []) .farEnd .coming) (packet sound) output units ≡ taking (way (1 ∷ []) .farEnd) [] r
+    → length (unitsOn 0 (added (r .answer) unitsTold)) ≡ 0 → ⊥
 unfolding packetStep run step
-by-opening-fails d =
+undelivered f d r a none =
     let x = way (1 ∷ []) in
     let e = x .farEnd in
     let u = packet sound in
-    let a : hearing (byOpening u) e (e .coming) u output units ≡ taking e [] got =
-    ap (λ (t : Told Heading). hearing t e (e .coming) u output units) unmarked
+    let k : Each (Each Any) (whollySent (x .nearEnd) 0) (unitsOn 0 (hearing (f u) e (e .coming) u output units .delivered))
+    = tried f d u sound-brings .delivers .complete near 0 (ap (λ (z : End). z .coming) a) in
+    let one : 1 ≡ length (unitsOn 0 (added (r .answer) unitsTold)) = ap (λ (l : List (List ℕ)). length l) (sym (all .wholly)) ∙ each-length (rw a at k) in
+    omega (arith, none)
+
+pub by-opening-fails : PacketDemand byOpening → ⊥
+by-opening-fails d =
+    let e = way (1 ∷ []) .farEnd in
+    let u = packet sound in
+    undelivered byOpening d got
+    (ap (λ (t : Told Heading). hearing t e (e .coming) u output units) unmarked
     ∙ ap (λ (l : List Parcel). hearing (told (heading 0 false 1)) e l u output units) (all .is)
-    ∙ arrived e (parcelAt (heading 0 false 1) u) (all .fresh-still) refl refl in
-    let k : Each (Each Any) (whollySent (x .nearEnd) 0) (unitsOn 0 (hearing (byOpening u) e (e .coming) u output units .delivered))
-    = tried byOpening d u sound-brings .delivers .complete near 0 (ap (λ (z : End). z .coming) a) in
-    let one : 1 ≡ length (unitsOn 0 (added (got .answer) unitsTold)) = ap (λ (l : List (List ℕ)). length l) (sym (all .wholly)) ∙ each-length (rw a at k) in
-    omega (arith, got-none)
+    ∙ arrived e (parcelAt (heading 0 false 1) u) (all .fresh-still) refl refl) got-none
 
 -- ---- a fill packet
 
@@ -256,3 +265,11 @@ deaf-to-fill-fails k d =
     let t : deafToFill k fillPacket ≡ refused k = ap (unlessFill k) (fill-leaves Any fillPacket output units (e .link) is-fill .0) in
     let one : 0 + 1 ≡ 0 = rw t at z in
     omega arith
+
+pub dozing-fails : PacketDemand dozing → ⊥
+unfolding unitsIn unitsOn
+dozing-fails d =
+    let e = way (1 ∷ []) .farEnd in
+    undelivered dozing d (leaving (finished 0 output units) (e .link))
+    (ap (λ (l : List Parcel). hearing (told (heading 0 false 0)) e l (packet sound) output units) (all .is)
+    ∙ ap (λ (r : Ended Answer Link). cond (lacksRoom (r .answer)) e (taking e [] r)) (fill-leaves Any fillPacket output units (e .link) is-fill .1)) refl

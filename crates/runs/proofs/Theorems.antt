@@ -19,7 +19,7 @@ use Rattle.runs.proofs.Filling.{fill-leaves}
 use Rattle.runs.proofs.Hearing.{packet-demand}
 use Rattle.runs.proofs.Crossing.{parcel-run, on-way-packable, packets-as-sent, packet-numbers}
 use Rattle.runs.proofs.Crossing.{packets-by-AL1, packets-by-AL2, packets-by-plain-AL2, packets-by-AL1M}
-use Rattle.runs.proofs.Mishearing.{deaf-fails, by-opening-fails, exacting-fails, deaf-to-fill-fails}
+use Rattle.runs.proofs.Mishearing.{deaf-fails, by-opening-fails, exacting-fails, dozing-fails, deaf-to-fill-fails}
 
 pub demand-met : DemandMet
 demand-met = delivering.demand-met
@@ -59,5 +59,5 @@ over-packets = record {
   streamWritten = stream-written;
   streamRead = stream-read;
   streamReadBack = stream-read-back;
-  wrongReaders = record { deafFails = deaf-fails; byOpeningFails = by-opening-fails; exactingFails = exacting-fails; deafToFillFails = deaf-to-fill-fails };
+  wrongReaders = record { deafFails = deaf-fails; byOpeningFails = by-opening-fails; exactingFails = exacting-fails; dozingFails = dozing-fails; deafToFillFails = deaf-to-fill-fails };
 }

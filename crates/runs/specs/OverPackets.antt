@@ -30,6 +30,7 @@
 --   byOpening          a reader that takes the mark from the flag that opens the packet
 --   spotless h t       what was read of the header h, or refusal 17 where a bit of it is wrong
 --   exacting           a reader that reads no header of which a bit is wrong
+--   dozing             a reader that tells of a fill packet whatever comes
 --   unlessFill k t     what was read, or refusal k where it is a fill packet
 --   deafToFill k       a reader that refuses fill packets, with number k, and reads all others
 --   WrongReadersFail   none of these meets the demand
@@ -204,6 +205,9 @@ spotless h (told p) = cond (same h (headerOf (p .code) (p .length))) (told p) (r
 abbrev pub exacting : Reader
 exacting u = spotless (take 3 (drop 2 u)) (read u)
 
+abbrev pub dozing : Reader
+dozing u = told (heading 0 false 0)
+
 abbrev pub unlessFill : ℕ → Told Heading → Told Heading
 unlessFill k (refused j) = refused j
 unlessFill k (told p) = cond (eqb (p .code) 0 && eqb (p .length) 0) (refused k) (told p)
@@ -215,6 +219,7 @@ pub record WrongReadersFail : Type 1 where
   pub deafFails : (k : ℕ) → PacketDemand (deaf k) → ⊥
   pub byOpeningFails : PacketDemand byOpening → ⊥
   pub exactingFails : PacketDemand exacting → ⊥
+  pub dozingFails : PacketDemand dozing → ⊥
   pub deafToFillFails : (k : ℕ) → PacketDemand (deafToFill k) → ⊥
 
 pub record OverPackets : Type 1 where
