@@ -1,19 +1,22 @@
 -- From packets to units: what is claimed of runs, of runs over packets.
 --
 --   parcel-run         a run over packets as a run
+--   goes-on            every run goes on with whatever may come
 --   on-way-packable    what is on its way can be written
 --   packets-as-sent, packet-numbers, packets-by-AL1, packets-by-AL2, packets-by-plain-AL2, packets-by-AL1M   the claims
 --
 -- Assumes nothing.
 use mathlib.Core.Path.{_≡_, refl, subst}
-use mathlib.Core.List.{List}
+use mathlib.Core.List.{List, [], _∷_, _++_}
 use Prim.Native.Nat.{ℕ}
 use Rattle.multiplex.specs.Calls.{Call, Answer, ours}
+use Rattle.packets.specs.Packet.{read}
 use Rattle.runs.specs.Runs.{Side, other, World, run}
 use Rattle.runs.specs.Demand.{PermittedAll}
 use Rattle.runs.specs.Carried.{Run, ending, Coding, Reception, codedBy, takenBy, overRun, codings}
 use Rattle.runs.specs.Carried.{UnitsAsSent, FollowIn, ByAL1, ByAL2, ByPlainAL2, ByAL1M}
-use Rattle.runs.specs.OverPackets.{PacketRun, packetBeginning, packetEnding, parcelEvents, Simulated, OnWayPackable, overPackets}
+use Rattle.runs.specs.OverPackets.{PacketRun, packetBeginning, packetEnding, parcelEvents, Simulated, GoesOn, OnWayPackable, overPackets}
+use Rattle.runs.specs.Hearing.{PacketEvent, packetStep, packetRun, PacketPermitted, PacketsPermitted}
 use Rattle.runs.specs.OverPackets.{packetCodings, packetReceptions, PacketsAsSent, PacketNumbers}
 use Rattle.runs.specs.OverPackets.{PacketsByAL1, PacketsByAL2, PacketsByPlainAL2, PacketsByAL1M}
 use Rattle.runs.proofs.Handing.{as-sent, numbers-follow, carried-by-AL2}
@@ -43,6 +46,28 @@ module _ {R : ℕ → ℕ → Type 0} (r : PacketRun R) where
 
 pub parcel-run : Simulated
 parcel-run R r = record { run = whole r; events = refl; begins = refl; ends = all r .1 }
+
+-- a run with one event more
+more : (R : ℕ → ℕ → Type 0) (es : List PacketEvent) (x : World) (e : PacketEvent) → PacketsPermitted R read x es → PacketPermitted R (packetRun read x es) e
+    → PacketsPermitted R read x (es ++ e ∷ [])
+unfolding packetRun PacketsPermitted
+more R [] x e p h = (h, tt)
+more R (a ∷ es) x e p h = (p .0, more R es (packetStep read x a) e (p .1) h)
+
+pub goes-on : (R : ℕ → ℕ → Type 0) → GoesOn R
+unfolding PacketsPermitted
+goes-on R = record {
+  first = λ l. (record { lent = l; events = []; permitted = tt }, refl, refl);
+  next = λ r e h. (record { lent = r .lent; events = r .events ++ e ∷ []; permitted = more R (r .events) (packetBeginning r) e (r .permitted) h }, refl, refl);
+  may = λ x. record {
+    heard = λ i q rest u output units e b. (q, rest, e, b);
+    filled = λ i u output units b. b;
+    paid = λ i c room payload h. h;
+    bothCall = λ c h. h;
+    called = λ i c h. h;
+    posted = λ i n u h. h;
+  };
+}
 
 pub on-way-packable : OnWayPackable
 on-way-packable R r = all r .2

@@ -34,7 +34,7 @@ use Rattle.runs.specs.OverPackets.{FillLeaves}
 use Rattle.runs.proofs.Packing.{fill-packable}
 use Rattle.runs.proofs.Bringing.{brought-read}
 
-no-slots : payloadSlots fixedEntry 0 ≡ []
+pub no-slots : payloadSlots fixedEntry 0 ≡ []
 no-slots = slotsAre none fixedEntry 0 .1 ∙ cut-none (slots 0 (treeOf fixedEntry))
 
 never-less : (n : ℕ) → ltb n 0 ≡ false

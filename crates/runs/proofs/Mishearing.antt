@@ -1,10 +1,11 @@
--- Five readers that do not meet the demand. A unit of one octet is posted and sent on channel 0, and its packet is heard; or a fill packet is heard.
+-- Six readers that do not meet the demand. A unit of one octet is posted and sent on channel 0, and its packet is heard; or a fill packet is heard.
 --
 --   deaf-fails           the reader that refuses everything loses the packet
 --   exacting-fails       so does the one that reads no header of which a bit is wrong, where one bit is
 --   by-opening-fails     the one that takes the mark from the opening flag delivers no unit: the octet is held, as that of a longer unit would be
 --   dozing-fails         the one that tells of a fill packet whatever comes delivers nothing
 --   deaf-to-fill-fails   the one that refuses fill packets counts a refusal
+--   marks-fill-fails     .. and so does the one that tells of a mark behind them, since the demultiplexer refuses it
 --
 -- Assumes nothing.
 use mathlib.Core.Path.{_≡_, refl, sym, ap, ap₂, _∙_}
@@ -19,16 +20,17 @@ use Rattle.octets.specs.Same.{same}
 use Rattle.octets.specs.Written.{written}
 use Rattle.calls.specs.Refusal.{Told, refused, told, Ended, leaving}
 use Rattle.table.specs.Form.{inTurn, elementAs, listAs, treeOf}
-use Rattle.table.specs.Slots.{slots, cut, payloadSlots}
+use Rattle.table.specs.Slots.{slots, cut, payloadSlots, octetsOf}
 use Rattle.table.specs.Table.{entryOf, isDefined}
 use Rattle.golay.specs.Matrix.{matrix}
 use Rattle.golay.specs.Code.{product, parity}
 use Rattle.channels.specs.Search.{first}
-use Rattle.channels.specs.Channels.{start, placeOf, posted, allOctets}
+use Rattle.channels.specs.Channels.{start, placeOf, posted, allOctets, allOpen}
 use Rattle.packets.specs.Flag.{flagOf}
 use Rattle.packets.specs.Header.{headerOf, wrongBits}
 use Rattle.packets.specs.Packet.{Heading, heading, read}
-use Rattle.multiplex.specs.Pieces.{total}
+use Rattle.multiplex.specs.Pieces.{total, placed, lastPlace}
+use Rattle.multiplex.specs.Demultiplexer.{demultiplexed}
 use Rattle.multiplex.specs.Multiplexer.{walked, gathered, multiplexed}
 use Rattle.multiplex.specs.Units.{unitsIn, unitsOn, enoughOutput, enoughUnits}
 use Rattle.multiplex.specs.Calls as call
@@ -37,11 +39,11 @@ use Rattle.runs.specs.Runs.{near, far, Parcel, End, World, Event, posts,
 use Rattle.runs.specs.Demand.{PermittedAll, withoutLast, whollySent, Delivers}
 use Rattle.runs.specs.Packets.{Brings, fill, Reader, parcelAt}
 use Rattle.runs.specs.Hearing.{does, hears, fills, hearing, filling, packetStep, packetRun, PacketsPermitted, PacketsDeliver, PacketDemand}
-use Rattle.runs.specs.OverPackets.{deaf, marked, byOpening, spotless, exacting, dozing, unlessFill, deafToFill}
+use Rattle.runs.specs.OverPackets.{deaf, marked, byOpening, spotless, exacting, dozing, unlessFill, atFill}
 use Rattle.runs.proofs.Delivering.{demand-met}
 use Rattle.runs.proofs.Failing.{blank, enough, blanks, world, output, units}
 use Rattle.runs.proofs.Bringing.{said, brought-read}
-use Rattle.runs.proofs.Filling.{fill-leaves}
+use Rattle.runs.proofs.Filling.{no-slots, fill-leaves}
 use Rattle.runs.proofs.Hearing.{unrefused}
 
 -- any octet may have changed
@@ -256,14 +258,25 @@ is-fill = record {
   body = record { header = 0 ∷ 0 ∷ 0 ∷ []; payload = []; is = refl; three = refl; few = omega (arith, fill-wrong); changed = each-none };
 }
 
-pub deaf-to-fill-fails : (k : ℕ) → PacketDemand (deafToFill k) → ⊥
+-- what is told of it otherwise
+fill-told : (t : Told Heading) → PacketDemand (atFill t) → filling t (world .farEnd) fillPacket output units .refusals ≡ 0
 unfolding packetRun packetStep PacketsPermitted
-deaf-to-fill-fails k d =
+fill-told t d =
     let e = world .farEnd in
-    let z : filling (deafToFill k fillPacket) e fillPacket output units .refusals ≡ 0
-    = d Any blanks (fills far fillPacket output units ∷ []) (is-fill, tt) .delivers .unrefused far in
-    let t : deafToFill k fillPacket ≡ refused k = ap (unlessFill k) (fill-leaves Any fillPacket output units (e .link) is-fill .0) in
-    let one : 0 + 1 ≡ 0 = rw t at z in
+    let is : atFill t fillPacket ≡ t = ap (unlessFill t) (fill-leaves Any fillPacket output units (e .link) is-fill .0) in
+    rw is at (d Any blanks (fills far fillPacket output units ∷ []) (is-fill, tt) .delivers .unrefused far)
+
+pub deaf-to-fill-fails : (k : ℕ) → PacketDemand (atFill (refused k)) → ⊥
+deaf-to-fill-fails k d = let one : 0 + 1 ≡ 0 = fill-told (refused k) d in omega arith
+
+-- a mark behind no octet
+markedFill : called (begun (blank allOctets) (blank allOctets)) (call.demultiplexing 0 true [] output units) .answer ≡ refused 7
+unfolding calledBy demultiplexed entryOf isDefined octetsOf placed allOpen start lastPlace
+markedFill = rw no-slots
+
+pub marks-fill-fails : PacketDemand (atFill (told (heading 0 true 0))) → ⊥
+marks-fill-fails d =
+    let one : 0 + 1 ≡ 0 = rw markedFill at (fill-told (told (heading 0 true 0)) d) in
     omega arith
 
 pub dozing-fails : PacketDemand dozing → ⊥

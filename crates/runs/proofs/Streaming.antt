@@ -3,7 +3,6 @@
 --   stream-brings      a stream brings its first payload, and the others from where the next packet's flag lies
 --   same-behind        what is behind a flag
 --   stream-made        what does so is a stream
---   goes-on            the packet of the payload that comes next may be heard
 --   stream-is          packets in a stream, each from behind the flag of the one before
 --   stream-written     packets that were written one behind another are a stream
 --   stream-read        reading in turn reads each payload,
@@ -23,8 +22,8 @@ use Rattle.packets.specs.Header.{headerOf}
 use Rattle.packets.specs.Packet.{packetOf, Heading, read}
 use Rattle.runs.specs.Runs.{Parcel, added}
 use Rattle.runs.specs.Packets.{Body, Brings, stream-none, stream-more, bodiesOf, parcelAt, readAll, ParcelAlike}
-use Rattle.runs.specs.OverPackets.{GoesOn, StreamIs, StreamBrings, StreamMade, StreamWritten, StreamRead, StreamReadBack}
-use Rattle.runs.proofs.Bringing.{flag-two, brought-next, brought-read, brought-alike, body-written, packet-opened, packet-brings}
+use Rattle.runs.specs.OverPackets.{StreamIs, StreamBrings, StreamMade, StreamWritten, StreamRead, StreamReadBack}
+use Rattle.runs.proofs.Bringing.{flag-two, brought-next, brought-read, brought-alike, body-written, packet-opened}
 
 abbrev opened : {R : ℕ → ℕ → Type 0} {q : Parcel} {v w : List ℕ} → (o : Bool) → Body R q v w → Brings R q (flagOf o ++ v)
 opened {v = v} {w = w} o b = record { opens = o; behind = v; rest = w; is = refl; body = b }
@@ -44,9 +43,6 @@ stream-made R o q qs v w b e s =
     let behind = same-behind (q .mark) (q .mark) (b .rest) w (sym (brought-next b) ∙ e) in
     let body : Body R q v w = rw (there, ← behind) (b .body) in
     stream-more body s
-
-pub goes-on : GoesOn
-goes-on R r run i o q w output units rest e = ((q, rest, e, packet-brings R r o q w), λ c room payload h. h)
 
 pub stream-is : StreamIs
 unfolding bodiesOf

@@ -14,12 +14,12 @@ use Rattle.runs.proofs.Failing.{idle-fails, refuser-fails, mute-fails, 
 use Rattle.runs.proofs.Handing.{as-sent, numbers-follow, carried-by-AL2}
 use Rattle.runs.proofs.Passed.{carried-by-AL1, carried-by-plain-AL2, carried-by-AL1M}
 use Rattle.runs.proofs.Bringing.{brings-exactly, written-brings}
-use Rattle.runs.proofs.Streaming.{goes-on, stream-is, stream-brings, stream-made, stream-written, stream-read, stream-read-back}
+use Rattle.runs.proofs.Streaming.{stream-is, stream-brings, stream-made, stream-written, stream-read, stream-read-back}
 use Rattle.runs.proofs.Filling.{fill-leaves}
 use Rattle.runs.proofs.Hearing.{packet-demand}
-use Rattle.runs.proofs.Crossing.{parcel-run, on-way-packable, packets-as-sent, packet-numbers}
+use Rattle.runs.proofs.Crossing.{parcel-run, goes-on, on-way-packable, packets-as-sent, packet-numbers}
 use Rattle.runs.proofs.Crossing.{packets-by-AL1, packets-by-AL2, packets-by-plain-AL2, packets-by-AL1M}
-use Rattle.runs.proofs.Mishearing.{deaf-fails, by-opening-fails, exacting-fails, dozing-fails, deaf-to-fill-fails}
+use Rattle.runs.proofs.Mishearing.{deaf-fails, by-opening-fails, exacting-fails, dozing-fails, deaf-to-fill-fails, marks-fill-fails}
 
 pub demand-met : DemandMet
 demand-met = delivering.demand-met
@@ -59,5 +59,5 @@ over-packets = record {
   streamWritten = stream-written;
   streamRead = stream-read;
   streamReadBack = stream-read-back;
-  wrongReaders = record { deafFails = deaf-fails; byOpeningFails = by-opening-fails; exactingFails = exacting-fails; dozingFails = dozing-fails; deafToFillFails = deaf-to-fill-fails };
+  wrongReaders = record { deafFails = deaf-fails; byOpeningFails = by-opening-fails; exactingFails = exacting-fails; dozingFails = dozing-fails; deafToFillFails = deaf-to-fill-fails; marksFillFails = marks-fill-fails };
 }

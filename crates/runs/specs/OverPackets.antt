@@ -17,8 +17,9 @@
 --   BringsExactly      octets bring a payload exactly where its packet is read, with the payload behind the header changed at most as R allows: so
 --                      what is permitted to be heard is no less than what ticket 4 says
 --   WrittenBrings      what `write` writes, with anything behind it, brings the payload that was handed in
---   GoesOn             so every run goes on: the packet of the payload that comes next, with anything behind it, may be heard; and a payload
---                      may be made wherever the room is one that a packet has
+--   MayCome R x        what may come in x, and no less: any octets that bring the payload that comes next, any fill packet, a payload made with a
+--                      room that a packet has, and whatever else may come in a run
+--   GoesOn R           a run may have no events, and every run goes on with whatever may come
 --   StreamIs           packets that were written one behind another: the first, and the others from behind the flag that they share
 --   StreamBrings       a stream brings its first payload; and from where the next packet's flag lies, which is its closing flag, the others
 --   StreamMade         .. and what does so is a stream
@@ -31,8 +32,8 @@
 --   spotless h t       what was read of the header h, or refusal 17 where a bit of it is wrong
 --   exacting           a reader that reads no header of which a bit is wrong
 --   dozing             a reader that tells of a fill packet whatever comes
---   unlessFill k t     what was read, or refusal k where it is a fill packet
---   deafToFill k       a reader that refuses fill packets, with number k, and reads all others
+--   unlessFill t s     what was read, s, or t where it is a fill packet
+--   atFill t           a reader that is told t of fill packets, and reads all others
 --   WrongReadersFail   none of these meets the demand
 --   OverPackets        all of these
 --
@@ -52,7 +53,8 @@ use Rattle.packets.specs.Header.{headerOf}
 use Rattle.packets.specs.Packet.{packetOf, Heading, heading, wrote, read}
 use Rattle.multiplex.specs.Calls as call
 use Rattle.multiplex.specs.Calls.{Link, Call, Answer, finished, called}
-use Rattle.runs.specs.Runs.{Side, other, Parcel, World, endAt, Lent, begin, Event, pays, arrives}
+use Rattle.runs.specs.Runs.{Side, other, Parcel, World, endAt, Lent, begin, Event, both, calls, posts, pays, arrives}
+use Rattle.runs.specs.Demand.{Permitted}
 use Rattle.runs.specs.Carried.{Run, beginning, ending, Coding, Reception, codedBy, takenBy, calledAt}
 use Rattle.runs.specs.Carried.{FollowIn, UnitsAsSent, ByAL1, ByAL2, ByPlainAL2, ByAL1M}
 use Rattle.runs.specs.Packets.{Brings, fill, Packable, AllPackable, Stream, bodiesOf, streamOf, Reader, parcelAt, readAll, ParcelAlike}
@@ -152,12 +154,20 @@ WrittenBrings =
     (R : ℕ → ℕ → Type 0) → ((a : ℕ) → R a a) → (o : Bool) (c : ℕ) (m : Bool) (xs before after rest : List ℕ) (n : ℕ)
     → wrote o c m xs before ≡ leaving n after → Brings R (record { code = c; mark = m; octets = xs }) (take n after ++ rest)
 
-abbrev pub GoesOn : Type 1
-GoesOn =
-    (R : ℕ → ℕ → Type 0) → ((a : ℕ) → R a a) → (r : PacketRun R) (i : Side) (o : Bool) (q : Parcel) (behind output units : List ℕ) (rest : List Parcel)
-    → endAt (packetEnding r) i .coming ≡ q ∷ rest
-    → PacketPermitted R (packetEnding r) (hears i (packetOf o (q .code) (q .mark) (q .octets) ++ behind) output units)
-    × ((c room : ℕ) (payload : List ℕ) → room ≤ 254 → PacketPermitted R (packetEnding r) (does (pays i c room payload)))
+pub record MayCome (R : ℕ → ℕ → Type 0) (x : World) : Type 0 where
+  pub heard : (i : Side) (q : Parcel) (rest : List Parcel) (u output units : List ℕ) → endAt x i .coming ≡ q ∷ rest → Brings R q u
+      → PacketPermitted R x (hears i u output units)
+  pub filled : (i : Side) (u output units : List ℕ) → Brings R fill u → PacketPermitted R x (fills i u output units)
+  pub paid : (i : Side) (c room : ℕ) (payload : List ℕ) → room ≤ 254 → PacketPermitted R x (does (pays i c room payload))
+  pub bothCall : (c : Call) → Permitted R x (both c) → PacketPermitted R x (does (both c))
+  pub called : (i : Side) (c : Call) → Permitted R x (calls i c) → PacketPermitted R x (does (calls i c))
+  pub posted : (i : Side) (n : ℕ) (u : List ℕ) → Permitted R x (posts i n u) → PacketPermitted R x (does (posts i n u))
+
+pub record GoesOn (R : ℕ → ℕ → Type 0) : Type 0 where
+  pub first : (l : Lent) → (s : PacketRun R) × (s .lent ≡ l) × (s .events ≡ [])
+  pub next : (r : PacketRun R) (e : PacketEvent) → PacketPermitted R (packetEnding r) e
+      → (s : PacketRun R) × (s .lent ≡ r .lent) × (s .events ≡ r .events ++ e ∷ [])
+  pub may : (x : World) → MayCome R x
 
 abbrev pub StreamIs : Type 0
 StreamIs =
@@ -208,19 +218,20 @@ exacting u = spotless (take 3 (drop 2 u)) (read u)
 abbrev pub dozing : Reader
 dozing u = told (heading 0 false 0)
 
-abbrev pub unlessFill : ℕ → Told Heading → Told Heading
-unlessFill k (refused j) = refused j
-unlessFill k (told p) = cond (eqb (p .code) 0 && eqb (p .length) 0) (refused k) (told p)
+abbrev pub unlessFill : Told Heading → Told Heading → Told Heading
+unlessFill t (refused k) = refused k
+unlessFill t (told p) = cond (eqb (p .code) 0 && eqb (p .length) 0) t (told p)
 
-abbrev pub deafToFill : ℕ → Reader
-deafToFill k u = unlessFill k (read u)
+abbrev pub atFill : Told Heading → Reader
+atFill t u = unlessFill t (read u)
 
 pub record WrongReadersFail : Type 1 where
   pub deafFails : (k : ℕ) → PacketDemand (deaf k) → ⊥
   pub byOpeningFails : PacketDemand byOpening → ⊥
   pub exactingFails : PacketDemand exacting → ⊥
   pub dozingFails : PacketDemand dozing → ⊥
-  pub deafToFillFails : (k : ℕ) → PacketDemand (deafToFill k) → ⊥
+  pub deafToFillFails : (k : ℕ) → PacketDemand (atFill (refused k)) → ⊥
+  pub marksFillFails : PacketDemand (atFill (told (heading 0 true 0))) → ⊥
 
 pub record OverPackets : Type 1 where
   pub simulated : Simulated
@@ -235,7 +246,7 @@ pub record OverPackets : Type 1 where
   pub fill : FillLeaves
   pub brings : BringsExactly
   pub written : WrittenBrings
-  pub goesOn : GoesOn
+  pub goesOn : (R : ℕ → ℕ → Type 0) → GoesOn R
   pub streamIs : StreamIs
   pub streamBrings : StreamBrings
   pub streamMade : StreamMade
