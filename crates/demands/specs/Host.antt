@@ -72,9 +72,10 @@ pub record Host : Type 0 where
   pub receiving : ReceiveAnswered
   pub writing : RecordWriteAnswered
   pub reading : RecordReadAnswered
-  pub forms : FormsAre
   pub packing : PacketWriteAnswered
   pub unpacking : PacketReadAnswered
+  -- of packets: which form of flag a number names, and that what was written is read back
+  pub forms : FormsAre
   pub packetBack : PacketBack
   -- demand 3
   pub repairs : (b e : ℕ) (w : List ℕ) (before after : RepairLent) (r : ℤ) → ReceiveIs b e w before r after → isBelow r ≡ false

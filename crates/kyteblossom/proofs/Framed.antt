@@ -9,7 +9,7 @@
 use mathlib.Core.Path.{_≡_, refl, sym, ap, subst, _∙_}
 use mathlib.Core.Logic.{_⊎_, inl, inr}
 use mathlib.Core.Bool.{Bool, true, false, cond, true≢false}
-use mathlib.Core.List.{List, _++_}
+use mathlib.Core.List.{List, [], _++_}
 use Prim.Native.Nat.{ℕ, zero, suc, _+_, _/_, _≤_}
 use native.Mathlib.Omega.{arith}
 use borrow.Author.Tests.{ne-eqb}
@@ -21,7 +21,7 @@ use Rattle.packets.specs.Claims.{Carries}
 use Rattle.packets.specs.Packet.{wrote, writeTests, Heading, heading, readTests, read}
 use Rattle.packets.proofs.Laws.{packets, read-refuses, wrote-refuses, read-told-small, write-small}
 use Rattle.kyteblossom.specs.Answer.{answer, isComplemented, PacketWriteIs, packetNumber, packetSays}
-use Rattle.kyteblossom.specs.Header.{isBelow, toldCode, toldMark, toldPayloadLength, toldNext}
+use Rattle.kyteblossom.specs.Header.{isBelow, toldCode, toldMark, toldPayloadLength, toldPayload, toldNext}
 use Rattle.kyteblossom.specs.Claims.{FormsAre, PacketWriteAnswered, PacketParts, PacketReadAnswered, PacketBack}
 use Rattle.kyteblossom.proofs.Answering.{answered, told-so}
 
@@ -130,16 +130,16 @@ module _ (u : List ℕ) where
   read-so r is h (refused (suc k)) e =
       absurd (true≢false (sym (ap isBelow (is ∙ ap (λ (t : Told Heading). answer (packetSays t)) e)) ∙ h))
 
-refused-parts : (r : ℤ) → isBelow r ≡ true → (toldCode r ≡ negℤ (pos 1)) × (toldMark r ≡ 0) × (toldPayloadLength r ≡ 0) × (toldNext r ≡ 0)
-refused-parts (pos n) e = absurd (true≢false (sym e))
-refused-parts (negsuc k) e = (refl, refl, refl, refl)
+refused-parts : (u : List ℕ) (r : ℤ) → isBelow r ≡ true → (toldCode r ≡ negℤ (pos 1)) × (toldMark r ≡ 0) × (toldPayloadLength r ≡ 0) × (toldPayload u r ≡ []) × (toldNext r ≡ 0)
+refused-parts u (pos n) e = absurd (true≢false (sym e))
+refused-parts u (negsuc k) e = (refl, refl, refl, refl, refl)
 
 pub packetReadAnswered : PacketReadAnswered
 packetReadAnswered u r is = (
   answered (readTests u) (read-positive u) tt tt r (packetSays (read u)) is (number-refuses (read u) (readTests u) (read-refuses u)),
   λ h. read-so u r is h (read u) refl,
   λ p c. told-parts u r p (packets .read-exactly u p .1 c) is,
-  refused-parts r,
+  refused-parts u r,
 )
 
 pub packet-read-once : (u : List ℕ) (r q : ℤ) → r ≡ answer (packetSays (read u)) → q ≡ answer (packetSays (read u)) → r ≡ q

@@ -23,7 +23,7 @@
 use mathlib.Core.Path.{_≡_}
 use mathlib.Core.Logic.{_↔_}
 use mathlib.Core.Bool.{true, false, cond, not}
-use mathlib.Core.List.{List, _++_}
+use mathlib.Core.List.{List, [], _++_}
 use Prim.Native.Nat.{ℕ, suc, _+_, _*_, _^_, _≤_, _<_}
 use lib.Dec.{eqb}
 use lib.IntN.{ℤ, pos, negℤ}
@@ -123,7 +123,7 @@ PacketReadAnswered =
     → Answered {X = Unit {0}} r (packetReadTests u) tt tt
     × (isBelow r ≡ false → (p : Heading) × Carries u p × PacketParts u p r)
     × ((p : Heading) → Carries u p → PacketParts u p r)
-    × (isBelow r ≡ true → (toldCode r ≡ negℤ (pos 1)) × (toldMark r ≡ 0) × (toldPayloadLength r ≡ 0) × (toldNext r ≡ 0))
+    × (isBelow r ≡ true → (toldCode r ≡ negℤ (pos 1)) × (toldMark r ≡ 0) × (toldPayloadLength r ≡ 0) × (toldPayload u r ≡ []) × (toldNext r ≡ 0))
 
 abbrev pub PacketBack : Type 0
 PacketBack =

@@ -14,10 +14,9 @@
 --   PacketNumbers, PacketsByAL2, PacketsByPlainAL2, PacketsByAL1, PacketsByAL1M   what specs/Carried.antt claims of runs, of runs over packets.
 --                      The last is demand 3: unit j delivered, at most e octets of it changed, is handed up as it was sent
 --   FillLeaves         a fill packet is read as one, and what it carries finishes nothing and changes nothing
---   BringsExactly      octets bring a payload exactly where its packet is read, with the payload behind the header changed at most as R allows: so
---                      what is permitted to be heard is no less than what ticket 4 says
+--   BringsExactly      octets bring a payload exactly where its packet is read, with the payload behind the header changed at most as R allows
 --   WrittenBrings      what `write` writes, with anything behind it, brings the payload that was handed in
---   MayCome R x        what may come in x, and no less: any octets that bring the payload that comes next, any fill packet, a payload made with a
+--   MayCome R x        what may come in x, and no less, which with `BringsExactly` is what ticket 4 says: any octets that bring the payload that comes next, any fill packet, a payload made with a
 --                      room that a packet has, and whatever else may come in a run
 --   GoesOn R           a run may have no events, and every run goes on with whatever may come
 --   StreamIs           packets that were written one behind another: the first, and the others from behind the flag that they share

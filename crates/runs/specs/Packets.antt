@@ -3,7 +3,7 @@
 --   Body R q v w       v is the packet of the payload q behind its opening flag, and w stands behind its closing flag: at most three bits of the
 --                      header are wrong, and each octet of the payload has changed at most as R allows
 --   Brings R q u       u begins with the packet of q, opened by either form of the flag
---   fill               what a fill packet brings: no octets, under code 0, without the mark (B.3.2.3)
+--   fill               what a fill packet brings: no octets, under code 0 (B.3.2.3), without the mark (B.3.3)
 --   Packable q         a packet has room for q: a code of at most 15, and at most 254 octets
 --   AllPackable        .. for each of a list
 --   Stream R qs v      v has the packets of the payloads qs behind an opening flag, the closing flag of each being the next one's first
