@@ -1,6 +1,7 @@
 #!/usr/bin/env python3
 """The demonstration's call by the model of gateway.py: what crates/demo should print."""
 import gateway as model
+import packets
 
 ROUNDS, ROOM = 100, 90
 UNITS = {0: 12, 1: 20, 2: 30, 3: 100, 4: 10}
@@ -70,7 +71,7 @@ def call():
     def read(sent, wrong, packet):
         """What the far end demultiplexes of a packet."""
         try:
-            got = model.unpack(packet)[:3]
+            got = packets.unpack(packet)[:3]
         except model.Refused as refusal:
             became[refusal.args[0]] += 1
             return []
@@ -95,7 +96,7 @@ def call():
                     mark, payload = near.mux(code, ROOM, 255)
                 except model.Refused:
                     break
-                packet = model.pack(opens, code, mark, payload, 261)
+                packet = packets.pack(opens, code, mark, payload, 261)
                 opens = mark
                 wrong, hits = damage(packet, len(payload), noise)
                 octets += len(payload)

@@ -4,6 +4,7 @@ import random
 import sys
 
 import gateway as model
+import packets
 
 CHANNELS = [0, 1, 2, 3, 4, 7, 9, 65535]
 CODES = list(range(6)) + [15, 16]
@@ -60,7 +61,7 @@ def wrong_bits(source, octets, count):
 
 def noise(source):
     """Octets that nobody sent, flags among them."""
-    flags = source.choice(model.FLAGS) if source.random() < 0.3 else []
+    flags = source.choice(packets.FLAGS) if source.random() < 0.3 else []
     return list(source.randbytes(source.choice([1, 2, source.randint(0, 30)]))) + flags + list(source.randbytes(source.randint(0, 6)))
 
 
@@ -70,7 +71,7 @@ def payload(source):
     if kind < 0.15:
         return []
     if kind < 0.25:
-        return model.pack(0, source.randint(0, 5), source.randint(0, 1), list(source.randbytes(source.randint(0, 9))), 999)
+        return packets.pack(0, source.randint(0, 5), source.randint(0, 1), list(source.randbytes(source.randint(0, 9))), 999)
     return list(source.randbytes(source.randint(1, 12) if kind < 0.9 else source.choice([254, 255, 256, source.randint(13, 253)])))
 
 
@@ -80,20 +81,20 @@ def behind_flag(source):
     if source.random() < 0.1:
         octets, code = [], 0
     said = 255 if len(octets) > 254 or source.random() < 0.04 else len(octets)
-    header = wrong_bits(source, model.header(code, said), source.choice([0, 0, 0, 1, 2, 3, 3, 4, 5, 6]))
-    closing = source.choice(model.FLAGS)
+    header = wrong_bits(source, packets.header(code, said), source.choice([0, 0, 0, 1, 2, 3, 3, 4, 5, 6]))
+    closing = source.choice(packets.FLAGS)
     return header + octets + (wrong_bits(source, closing, source.randint(1, 3)) if source.random() < 0.07 else closing)
 
 
 def stream(source):
     """Packets one after another, with noise before, between and behind, and cut short."""
-    octets = (noise(source) if source.random() < 0.15 else []) + source.choice(model.FLAGS)
+    octets = (noise(source) if source.random() < 0.15 else []) + source.choice(packets.FLAGS)
     if source.random() < 0.05:
         octets = wrong_bits(source, octets, 1)
     for _ in range(source.choice([0, 1, 1, 2, 3, 6])):
         octets += behind_flag(source)
         if source.random() < 0.07:
-            octets += noise(source) + source.choice(model.FLAGS)
+            octets += noise(source) + source.choice(packets.FLAGS)
     if source.random() < 0.15:
         octets += noise(source)
     return octets[:source.randint(0, len(octets))] if source.random() < 0.1 else octets
