@@ -16,8 +16,8 @@
 --   FillLeaves         a fill packet is read as one, and what it carries finishes nothing and changes nothing
 --   BringsExactly      octets bring a payload exactly where its packet is read, with the payload behind the header changed at most as R allows
 --   WrittenBrings      what `write` writes, with anything behind it, brings the payload that was handed in
---   MayCome R x        what may come in x, and no less, which with `BringsExactly` is what ticket 4 says: any octets that bring the payload that comes next, any fill packet, a payload made with a
---                      room that a packet has, and whatever else may come in a run
+--   MayCome R x        what may come in x, and no less, which with `BringsExactly` is what ticket 4 says: any octets that bring the payload that
+--                      comes next, any fill packet, a payload made with a room that a packet has, and whatever else may come in a run
 --   GoesOn R           a run may have no events, and every run goes on with whatever may come
 --   StreamIs           packets that were written one behind another: the first, and the others from behind the flag that they share
 --   StreamBrings       a stream brings its first payload; and from where the next packet's flag lies, which is its closing flag, the others
