@@ -5,7 +5,8 @@
 --   payload-lies      where its payload lies
 --   cut-short         a packet whose end is missing
 --   length-unused     a length of 255
---   own-near          a header is near itself
+--   none-wrong        no bit of a header is wrong beside itself,
+--   own-near          so that it is near itself
 --   packet-read       a packet, whatever stands behind it, is told
 --
 -- Assumes nothing.
@@ -66,8 +67,11 @@ front-says o h r c n three hc hn near =
       (rw length-append (omega arith), rw (header-at o h three r) (header-near h c n hc hn near)),
     )
 
+pub none-wrong : (h : List ℕ) → wrongBits h h ≡ 0
+none-wrong h = rw (xor-self (headerWord h)) (omega (arith, ones-le 0 0 (lit< tt)))
+
 pub own-near : (h : List ℕ) → wrongBits h h ≤ 3
-own-near h = rw (xor-self (headerWord h)) (omega (arith, ones-le 0 0 (lit< tt)))
+own-near h = omega (arith, none-wrong h)
 
 pub packet-read : (o : Bool) (h xs : List ℕ) (m : Bool) (rest : List ℕ) (c : ℕ) → length h ≡ 3 → c ≤ 15 → length xs ≤ 254
     → wrongBits h (headerOf c (length xs)) ≤ 3 → read (flagOf o ++ h ++ xs ++ flagOf m ++ rest) ≡ told (heading c m (length xs))

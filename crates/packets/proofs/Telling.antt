@@ -5,9 +5,8 @@
 --   read-within  .. so that it lies within the octets
 --
 -- Assumes nothing.
-use mathlib.Core.Path.{_≡_, refl, sym, ap, _∙_}
+use mathlib.Core.Path.{_≡_, sym, ap, _∙_}
 use mathlib.Core.Logic.{_⊎_, inl, inr, ⊎-elim}
-use mathlib.Core.Bool.{Bool, true, false}
 use mathlib.Core.List.{List}
 use Prim.Native.Nat.{ℕ, _+_, _/_, _%_, _≤_, _<_}
 use native.Mathlib.Omega.{arith}
@@ -19,6 +18,7 @@ use Rattle.packets.specs.Packet.{Heading, read}
 use Rattle.packets.specs.Header.{dataOf}
 use Rattle.packets.specs.Claims.{BeginsWithFlag, HeaderStands, Says, OfReading, NextFlag}
 use Rattle.packets.proofs.Fields.{length-of, says-data, data-says}
+use Rattle.packets.proofs.Laying.{flag-length}
 use Rattle.packets.proofs.Ends.{DataStand, NoWord, Unused, Broken, Why, Ends, refuses, tells, ends, flagless-ends, short-ends, wordless-ends, unused-ends, unclosed-ends}
 
 module _ (u : List ℕ) where
@@ -77,8 +77,4 @@ next-flag u p e = by (ends u)
     by (tells d m s l f r) = rw (← told-same _ p (sym r ∙ e)) f
 
 pub read-within : (u : List ℕ) (p : Heading) → read u ≡ told p → p .next + 2 ≤ length u
-read-within u p e = let two = rw (length-take, length-drop) at (ap length (next-flag u p e)) in omega (arith, two, flag-long (p .mark))
-  where
-    flag-long : (m : Bool) → length (flagOf m) ≡ 2
-    flag-long false = refl
-    flag-long true = refl
+read-within u p e = let two = rw (length-take, length-drop) at (ap length (next-flag u p e)) in omega (arith, two, flag-length (p .mark))

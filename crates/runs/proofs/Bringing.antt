@@ -1,43 +1,36 @@
 -- What is read of octets that bring a payload: its code and its mark, with its payload where it lies and the next packet's flag behind it.
 --
---   flag-two           a flag has two octets
 --   said               what the packet of a payload says
 --   brought-parts      the octets: flag and header, the payload, the closing flag and what is behind it
 --   brought-payload    the payload lies there,
 --   brought-next       and the closing flag where the next packet begins
 --   brought-read       so it is read
 --   brought-alike      .. as the payload was sent, but for what R allows
+--   apart              a packet with its opening flag apart
 --   read-brings        what is read so brings the payload
 --   brings-exactly     both
 --   body-written       a packet as it was written, behind its opening flag
---   packet-opened      .. and with it
 --   packet-brings      a packet brings its payload
 --   written-brings     what `write` writes brings the payload
 --
 -- Assumes nothing.
 use mathlib.Core.Path.{_≡_, refl, sym, ap, subst, _∙_}
-use mathlib.Core.Bool.{Bool, true, false}
+use mathlib.Core.Bool.{Bool}
 use mathlib.Core.List.{List, _++_, append-assoc}
-use Prim.Native.Nat.{ℕ, _≤_}
+use Prim.Native.Nat.{ℕ}
 use native.Mathlib.Omega.{arith}
-use lib.Bits.{xor-self}
-use lib.Count.{ones}
 use lib.ListN.{length, take, drop, length-append}
 use lib.Seq.{take-at, drop-at, drop-drop}
 use Rattle.octets.specs.Each.{Each, each-length, each-any, each-self}
 use Rattle.calls.specs.Refusal.{told}
 use Rattle.packets.specs.Flag.{flagOf}
-use Rattle.packets.specs.Header.{headerOf, headerWord, wrongBits}
+use Rattle.packets.specs.Header.{headerOf}
 use Rattle.packets.specs.Packet.{packetOf, Heading, heading, read}
 use Rattle.packets.specs.Claims.{Carries}
-use Rattle.packets.proofs.Laws.{packets}
+use Rattle.packets.proofs.Laws.{packets, flag-length, none-wrong}
 use Rattle.runs.specs.Runs.{Parcel}
 use Rattle.runs.specs.Packets.{Body, Brings, Packable, parcelAt, ParcelAlike}
 use Rattle.runs.specs.OverPackets.{BringsExactly, WrittenBrings}
-
-pub flag-two : (m : Bool) → length (flagOf m) ≡ 2
-flag-two true = refl
-flag-two false = refl
 
 abbrev pub said : Parcel → Heading
 said q = heading (q .code) (q .mark) (length (q .octets))
@@ -50,7 +43,7 @@ module _ {R : ℕ → ℕ → Type 0} {q : Parcel} {u : List ℕ} (b : Brings R 
   behind = flagOf (q .mark) ++ b .rest
 
   five : length front ≡ 5
-  five = length-append (flagOf (b .opens)) (b .body .header) ∙ rw (flag-two (b .opens), b .body .three)
+  five = length-append (flagOf (b .opens)) (b .body .header) ∙ rw (flag-length (b .opens), b .body .three)
 
   many : length (b .body .payload) ≡ length (q .octets)
   many = sym (each-length (b .body .changed))
@@ -84,7 +77,7 @@ module _ {R : ℕ → ℕ → Type 0} {q : Parcel} {u : List ℕ} (b : Brings R 
       rest = b .rest;
       is = brought-parts ∙ sym (append-assoc front (b .body .payload) behind) ∙ sym (append-assoc (front ++ b .body .payload) (flagOf (q .mark)) (b .rest));
       three = b .body .three;
-      near = b .body .few;
+      near = omega (arith, b .body .few);
       code = h .0;
       long = many;
       fits = h .1;
@@ -99,6 +92,11 @@ module _ {R : ℕ → ℕ → Type 0} {q : Parcel} {u : List ℕ} (b : Brings R 
 
 -- ---- .. and nothing else
 
+-- the first of five lists apart
+pub apart : (f h p g w : List ℕ) → f ++ h ++ p ++ g ++ w ≡ f ++ (h ++ p ++ g ++ w)
+apart f h p g w =
+    ap (λ (v : List ℕ). v ++ g ++ w) (append-assoc f h p) ∙ ap (λ (v : List ℕ). v ++ w) (append-assoc f (h ++ p) g) ∙ append-assoc f (h ++ p ++ g) w
+
 abbrev carried-brings : (R : ℕ → ℕ → Type 0) (q : Parcel) (u : List ℕ) (c : Carries u (said q)) → Each R (q .octets) (c .payload) → Brings R q u
 carried-brings R q u c changed =
     let o = flagOf (c .opens) in
@@ -109,10 +107,7 @@ carried-brings R q u c changed =
       opens = c .opens;
       behind = h ++ p ++ f ++ c .rest;
       rest = c .rest;
-      is = c .is
-          ∙ ap (λ (v : List ℕ). v ++ f ++ c .rest) (append-assoc o h p)
-          ∙ ap (λ (v : List ℕ). v ++ c .rest) (append-assoc o (h ++ p) f)
-          ∙ append-assoc o (h ++ p ++ f) (c .rest);
+      is = c .is ∙ apart o h p f (c .rest);
       body = record { header = h; payload = p; is = refl; three = c .three; few = c .near; changed = changed };
     }
 
@@ -126,10 +121,6 @@ brings-exactly R q u h = (λ b. (brought-read b h, brought-alike b .octets), λ 
 
 -- ---- writing
 
-none-wrong : (h : List ℕ) → wrongBits h h ≤ 3
-unfolding ones
-none-wrong h = rw (xor-self (headerWord h)) (omega arith)
-
 pub body-written : (R : ℕ → ℕ → Type 0) → ((a : ℕ) → R a a) → (q : Parcel) (w : List ℕ)
     → Body R q (headerOf (q .code) (length (q .octets)) ++ q .octets ++ flagOf (q .mark) ++ w) w
 body-written R r q w = record {
@@ -137,18 +128,9 @@ body-written R r q w = record {
   payload = q .octets;
   is = refl;
   three = refl;
-  few = none-wrong (headerOf (q .code) (length (q .octets)));
+  few = omega (arith, none-wrong (headerOf (q .code) (length (q .octets))));
   changed = each-self R r (q .octets);
 }
-
-pub packet-opened : (o : Bool) (q : Parcel) (w : List ℕ)
-    → packetOf o (q .code) (q .mark) (q .octets) ++ w ≡ flagOf o ++ (headerOf (q .code) (length (q .octets)) ++ q .octets ++ flagOf (q .mark) ++ w)
-packet-opened o q w =
-    let f = flagOf o in
-    let h = headerOf (q .code) (length (q .octets)) in
-    let g = flagOf (q .mark) in
-    ap (λ (v : List ℕ). v ++ g ++ w) (append-assoc f h (q .octets)) ∙ ap (λ (v : List ℕ). v ++ w) (append-assoc f (h ++ q .octets) g)
-    ∙ append-assoc f (h ++ q .octets ++ g) w
 
 pub packet-brings : (R : ℕ → ℕ → Type 0) → ((a : ℕ) → R a a) → (o : Bool) (q : Parcel) (w : List ℕ)
     → Brings R q (packetOf o (q .code) (q .mark) (q .octets) ++ w)
@@ -156,7 +138,7 @@ packet-brings R r o q w = record {
   opens = o;
   behind = headerOf (q .code) (length (q .octets)) ++ q .octets ++ flagOf (q .mark) ++ w;
   rest = w;
-  is = packet-opened o q w;
+  is = apart (flagOf o) (headerOf (q .code) (length (q .octets))) (q .octets) (flagOf (q .mark)) w;
   body = body-written R r q w;
 }
 

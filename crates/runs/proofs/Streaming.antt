@@ -19,11 +19,12 @@ use Rattle.octets.specs.Each.{Each, each-none, each-more, each-map, each-same}
 use Rattle.calls.specs.Refusal.{Told}
 use Rattle.packets.specs.Flag.{flagOf}
 use Rattle.packets.specs.Header.{headerOf}
+use Rattle.packets.proofs.Laws.{flag-length}
 use Rattle.packets.specs.Packet.{packetOf, Heading, read}
 use Rattle.runs.specs.Runs.{Parcel, added}
 use Rattle.runs.specs.Packets.{Body, Brings, stream-none, stream-more, bodiesOf, parcelAt, readAll, ParcelAlike}
 use Rattle.runs.specs.OverPackets.{StreamIs, StreamBrings, StreamMade, StreamWritten, StreamRead, StreamReadBack}
-use Rattle.runs.proofs.Bringing.{flag-two, brought-next, brought-read, brought-alike, body-written, packet-opened}
+use Rattle.runs.proofs.Bringing.{brought-next, brought-read, brought-alike, body-written, apart}
 
 abbrev opened : {R : ℕ → ℕ → Type 0} {q : Parcel} {v w : List ℕ} → (o : Bool) → Body R q v w → Brings R q (flagOf o ++ v)
 opened {v = v} {w = w} o b = record { opens = o; behind = v; rest = w; is = refl; body = b }
@@ -48,7 +49,7 @@ pub stream-is : StreamIs
 unfolding bodiesOf
 stream-is o q qs =
     let p = packetOf o (q .code) (q .mark) (q .octets) in
-    sym (packet-opened o q (bodiesOf qs)) ∙ ap (λ (v : List ℕ). p ++ v) (sym (drop-at (flagOf (q .mark)) (bodiesOf qs) 2 (flag-two (q .mark))))
+    sym (apart (flagOf o) (headerOf (q .code) (length (q .octets))) (q .octets) (flagOf (q .mark)) (bodiesOf qs)) ∙ ap (λ (v : List ℕ). p ++ v) (sym (drop-at (flagOf (q .mark)) (bodiesOf qs) 2 (flag-length (q .mark))))
 
 pub stream-written : StreamWritten
 unfolding bodiesOf
