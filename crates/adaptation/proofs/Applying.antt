@@ -8,16 +8,16 @@
 --   passes              .. what AL1 passes, and how
 --   whole-is            .. what AL2 sends a unit as
 --   unchecked           .. when there is neither check nor code
---   failed              .. what becomes of a unit of AL2 whose check disagrees
+--   settled-failed, failed   .. what becomes of a unit of AL2 whose check disagrees
 --
 -- It takes nothing from the other proofs: a definition that fails a claim is refused here, before a lemma that it breaks besides.
 --
 -- Assumes nothing.
-use mathlib.Core.Path.{_≡_, refl, ap, _∙_}
-use mathlib.Core.Logic.{_↔_, _⊎_, ⊎-elim}
+use mathlib.Core.Path.{_≡_, refl, sym, ap, _∙_}
+use mathlib.Core.Logic.{_↔_, _⊎_, inl, inr, ⊎-elim}
 use mathlib.Core.Bool.{Bool, true, false, not, and-true, and-false}
 use mathlib.Core.List.{List, [], _∷_, _++_}
-use Prim.Native.Nat.{ℕ, _+_, _-_, _*_, _≤_}
+use Prim.Native.Nat.{ℕ, _+_, _-_, _*_, _≤_, min}
 use native.Mathlib.Nat.{zero-add}
 use native.Mathlib.Omega.{arith}
 use borrow.Author.Tests.{le-leb, leb-true}
@@ -38,7 +38,8 @@ use Rattle.adaptation.specs.Receiving.{isWord, receiveTests, isBare}
 use Rattle.adaptation.specs.Handed.{isUnit}
 use Rattle.adaptation.specs.AL1.{passTests, passed}
 use Rattle.adaptation.specs.AL2 as al2
-use Rattle.adaptation.specs.AL2Claims.{isNumbered}
+use Rattle.adaptation.specs.AL2Claims.{isNumbered, asFailed, Counted}
+use Rattle.adaptation.specs.declared.al2.Due.{Due}
 use Rattle.adaptation.specs.declared.al2.Number.{Number}
 use Rattle.adaptation.specs.declared.al2.Number.the-variants.{Numbered, Plain}
 use Rattle.adaptation.specs.Limits.{AdaptationLimits}
@@ -168,14 +169,33 @@ enough : (n : Number) (u : List ℕ) (c : ℕ) → 1 ≤ length u → al2.fieldL
 enough (Numbered m) u c h = omega (arith, length-append u (c ∷ []))
 enough Plain u c h = omega (arith, length-append u (c ∷ []))
 
-pub failed : (n : Number) (u : List ℕ) (c e : ℕ) → 1 ≤ length u → length (al2.field n ++ u) + 1 ≤ 1024 → (c ∷ [] ≡ checkOf eight (al2.field n ++ u) → ⊥)
-    → al2.received (isNumbered n) ((al2.field n ++ u) ++ c ∷ []) e ≡ told (al2.handedUp (record { badge = 3; changed = 0; unit = u }) 0 e)
+headed : (n : Number) (u : List ℕ) (c : ℕ) → al2.numberOf (isNumbered n) ((al2.field n ++ u) ++ c ∷ []) ≡ n
+headed (Numbered m) u c = refl
+headed Plain u c = refl
+
+counted-as : (u : List ℕ) (e : Due) {j k : ℕ} → j ≡ k
+    → al2.handedUp (asFailed u) 0 (record { expected = e .expected; failed = j }) ≡ al2.handedUp (asFailed u) 0 (record { expected = e .expected; failed = k })
+counted-as u e q = ap (λ (j : ℕ). al2.handedUp (asFailed u) 0 (record { expected = e .expected; failed = j })) q
+
+capped : (c k : ℕ) → Counted true c k → min (c + 1) al2.mostFailed ≡ k
+capped c k (inl (l, q)) = omega arith
+capped c k (inr (l, q)) = omega arith
+
+pub settled-failed : (n : Number) (u : List ℕ) (e : Due) (k : ℕ) → Counted (isNumbered n) (e .failed) k
+    → al2.settled n false u e ≡ al2.handedUp (asFailed u) 0 (record { expected = e .expected; failed = k })
+settled-failed (Numbered n) u e k q = counted-as u e (capped (e .failed) k q)
+settled-failed Plain u e k q = counted-as u e (sym q)
+
+pub failed : (n : Number) (u : List ℕ) (c k : ℕ) (e : Due) → 1 ≤ length u → length (al2.field n ++ u) + 1 ≤ 1024
+    → (c ∷ [] ≡ checkOf eight (al2.field n ++ u) → ⊥) → Counted (isNumbered n) (e .failed) k
+    → al2.received (isNumbered n) ((al2.field n ++ u) ++ c ∷ []) e
+    ≡ told (al2.handedUp (record { badge = 3; changed = 0; unit = u }) 0 (record { expected = e .expected; failed = k }))
 unfolding eight al2.received
-failed n u c e h l f =
+failed n u c k e h l f q =
     let w = (al2.field n ++ u) ++ c ∷ [] in
     let long : length w ≤ 1024 = omega (arith, length-append (al2.field n ++ u) (c ∷ [])) in
-    rw (le-leb (al2.fieldLength (isNumbered n) + 1 + 1) (length w) (enough n u c h), le-leb (length w) 1024 long, by (agrees eight w) refl)
-    (ap (λ (v : List ℕ). told (al2.handedUp (record { badge = 3; changed = 0; unit = v }) 0 e)) (parted n u c))
+    rw (le-leb (al2.fieldLength (isNumbered n) + 1 + 1) (length w) (enough n u c h), le-leb (length w) 1024 long, by (agrees eight w) refl, headed n u c, parted n u c)
+    (ap told (settled-failed n u e k q))
   where
     by : (b : Bool) → agrees eight ((al2.field n ++ u) ++ c ∷ []) ≡ b → agrees eight ((al2.field n ++ u) ++ c ∷ []) ≡ false
     by true q = absurd (f (checks-exactly .agreeing eight (al2.field n ++ u) (c ∷ []) refl .0 q))

@@ -1,17 +1,20 @@
 -- AL2's sending and receiving undo each other: the claims of specs/AL2Claims.antt.
 --
 --   sentIsWhole, readBack, readIsWhole                  sending and reading
---   missingTold, nextInOrder, lateDiscarded, plainReceived, failedStays   what becomes of a unit
+--   numbersRise                                         a channel's numbers
+--   missingTold, nextInOrder, lateDiscarded, plainReceived, failedCounted   what becomes of a unit
 --   inStep                                              .. and of units that follow one another
 --   wholesFrom-append, numberAfter-append               .. and of more units behind them
---   expectedAfter-append
+--   dueAfter-append
 --   numberAfter-lt                                      the number that is sent next is an octet
+--   sendable                                            a unit that may be sent with a number may with any
 --
 -- Assumes nothing.
 use mathlib.Core.Path.{_≡_, refl, sym, ap, ap₂, _∙_, subst}
+use mathlib.Core.Logic.{inl, inr}
 use mathlib.Core.Bool.{Bool, true, false, not}
 use mathlib.Core.List.{List, [], _∷_, _++_}
-use Prim.Native.Nat.{ℕ, suc, _+_, _-_, _%_, _≤_, _<_}
+use Prim.Native.Nat.{ℕ, zero, suc, _+_, _-_, _%_, _≤_, _<_}
 use native.Mathlib.Omega.{arith}
 use borrow.Author.Tests.{le-leb, leb-true, ltb-false, not-false}
 use lib.Dec.{T, leb}
@@ -24,16 +27,20 @@ use Rattle.calls.proofs.Laws.{told-refused, told-same, leaving-same, by-tests}
 use Rattle.checks.specs.Check.{checkOf, agrees, eight}
 use Rattle.adaptation.specs.Handed.{longestUnit, isUnit}
 use Rattle.adaptation.specs.AL2.{field, whole, isSendable, sendTests, sent, fieldLength, isWhole, numberOf, unitOf, Parts, readTests, partsOf}
-use Rattle.adaptation.specs.AL2.{apart, arrival, Receipt, delivered, received}
-use Rattle.adaptation.specs.AL2Claims.{isNumbered, SentIsWhole, ReadBack, ReadIsWhole, MissingTold, NextInOrder, LateDiscarded}
-use Rattle.adaptation.specs.AL2Claims.{PlainReceived, FailedStays, wholesFrom, numberAfter, expectedNext, receipts, expectedAfter, areSendable, InStep}
+use Rattle.adaptation.specs.AL2.{apart, accepting, arrival, Receipt, delivered, received}
+use Rattle.adaptation.specs.AL2Claims.{isNumbered, NumbersRise, Less, SentIsWhole, ReadBack, ReadIsWhole, MissingTold, NextInOrder, LateDiscarded}
+use Rattle.adaptation.specs.AL2Claims.{PlainReceived, FailedCounted, wholesFrom, numberAfter, dueNext, receipts, dueAfter, areSendable, InStep}
+use Rattle.adaptation.specs.declared.al2.Due.{Due}
 use Rattle.adaptation.specs.declared.al2.Number.{Number}
 use Rattle.adaptation.specs.declared.al2.Number.the-variants.{Numbered, Plain}
 use Rattle.adaptation.specs.declared.al2.Arrival.{Arrival}
 use Rattle.adaptation.specs.declared.al2.Arrival.the-variants.{Taken, Misdelivered}
-use Rattle.adaptation.proofs.Applying.{whole-length}
-use Rattle.adaptation.proofs.Arrivals.{arrival-taken, arrival-late, arrival-next}
+use Rattle.adaptation.proofs.Applying.{whole-length, settled-failed}
+use Rattle.adaptation.proofs.Arrivals.{arrival-taken, arrival-late}
 use Rattle.adaptation.proofs.Wholes.{whole-apart, whole-received}
+
+pub numbersRise : NumbersRise
+numbersRise = record { first = refl; number = λ m. (refl, refl); rises = λ m. refl; stays = λ m. refl }
 
 -- ---- a unit that may be sent
 
@@ -111,17 +118,20 @@ readIsWhole s w p =
 -- ---- what becomes of a unit
 
 -- by what becomes of its number
-module _ (u : List ℕ) (e n : ℕ) (h : isSendable (Numbered n) u ≡ true) where
+module _ (u : List ℕ) (e : Due) (n : ℕ) (h : isSendable (Numbered n) u ≡ true) where
   arrived : (a : Arrival) → arrival n e ≡ a → received true (whole (Numbered n) u) e ≡ told (delivered a u e)
   arrived a q = whole-received (Numbered n) u e (sizes (Numbered n) u h .0) (sizes (Numbered n) u h .1) ∙ ap (λ (x : Arrival). told (delivered x u e)) q
 
 pub missingTold : MissingTold
-missingTold u e d n (he, hd, is) l h =
-    let next : (e + d + 1) % 256 ≡ (n + 1) % 256 = omega arith in
-    arrived u e n h (Taken d ((n + 1) % 256)) (rw (← next, is) (arrival-taken e d he hd l))
+missingTold u e d n k (he, hd, is) l less h = arrived u e n h (Taken k (accepting n)) (rw is (arrival-taken e d he hd k less l))
+
+-- none is missing before the number expected, whatever failed
+none-less : (c : ℕ) → Less 0 c 0
+none-less zero = inl refl
+none-less (suc c) = inr (omega arith, refl)
 
 pub nextInOrder : NextInOrder
-nextInOrder u e he h = arrived u e e h (Taken 0 ((e + 1) % 256)) (arrival-next e he)
+nextInOrder u e he h = missingTold u e 0 (e .expected) 0 (he, omega arith, omega arith) (omega arith) (none-less (e .failed)) h
 
 pub lateDiscarded : LateDiscarded
 lateDiscarded u e d n (he, hd, is) l h = arrived u e n h Misdelivered (rw is (arrival-late e d he hd (omega arith)))
@@ -129,13 +139,14 @@ lateDiscarded u e d n (he, hd, is) l h = arrived u e n h Misdelivered (rw is (ar
 pub plainReceived : PlainReceived
 plainReceived u e h = whole-received Plain u e (sizes Plain u h .0) (sizes Plain u h .1)
 
-pub failedStays : FailedStays
+pub failedCounted : FailedCounted
 unfolding received
-failedStays s w e h a = rw (h, a)
+failedCounted true w e k q h a = rw (h, a) (ap told (settled-failed (numberOf true w) (unitOf true w) e k q))
+failedCounted false w e k q h a = rw (h, a) (ap told (settled-failed (numberOf false w) (unitOf false w) e k q))
 
 -- ---- one after another
 
-sendable : (i : ℕ) (u : List ℕ) → isUnit (longestUnit - 2) u ≡ true → isSendable (Numbered i) u ≡ true
+pub sendable : (i : ℕ) (u : List ℕ) → isUnit (longestUnit - 2) u ≡ true → isSendable (Numbered i) u ≡ true
 sendable i u h =
     let b = both-true (leb 1 (length u)) (leb (length u) (longestUnit - 2)) h in
     let l = whole-length (Numbered i) u 1 refl in
@@ -153,19 +164,21 @@ pub numberAfter-lt : (i : ℕ) (l : List (List ℕ)) → i < 256 → numberAfter
 numberAfter-lt i [] h = h
 numberAfter-lt i (u ∷ l) h = numberAfter-lt ((i + 1) % 256) l (omega arith)
 
-pub expectedAfter-append : (l m : List (List ℕ)) (e : ℕ) → expectedAfter (l ++ m) e ≡ expectedAfter m (expectedAfter l e)
-unfolding expectedAfter
-expectedAfter-append [] m e = refl
-expectedAfter-append (w ∷ l) m e = expectedAfter-append l m (expectedNext (received true w e) e)
+pub dueAfter-append : (l m : List (List ℕ)) (e : Due) → dueAfter (l ++ m) e ≡ dueAfter m (dueAfter l e)
+unfolding dueAfter
+dueAfter-append [] m e = refl
+dueAfter-append (w ∷ l) m e = dueAfter-append l m (dueNext (received true w e) e)
 
 pub inStep : InStep
-unfolding receipts expectedAfter
-inStep i [] hi all = (refl, refl)
-inStep i (u ∷ l) hi all =
+unfolding receipts dueAfter
+inStep i c [] hi all = (refl, refl)
+inStep i c (u ∷ l) hi all =
     let b = both-true (isUnit (longestUnit - 2) u) (areSendable l) all in
-    let first = nextInOrder u i hi (sendable i u (b .0)) in
-    let next : expectedNext (received true (whole (Numbered i) u) i) i ≡ (i + 1) % 256 = ap (λ (t : Told Receipt). expectedNext t i) first in
-    let rest = inStep ((i + 1) % 256) l (omega arith) (b .1) in (
+    let e : Due = record { expected = i; failed = c } in
+    let w = whole (Numbered i) u in
+    let first = nextInOrder u e hi (sendable i u (b .0)) in
+    let next : dueNext (received true w e) e ≡ accepting i = ap (λ (t : Told Receipt). dueNext t e) first in
+    let rest = inStep ((i + 1) % 256) 0 l (omega arith) (b .1) in (
       ap₂ (λ (t : Told Receipt) (x : List (Told Receipt)). t ∷ x) first (ap (receipts (wholesFrom ((i + 1) % 256) l)) next ∙ rest .0),
-      ap (expectedAfter (wholesFrom ((i + 1) % 256) l)) next ∙ rest .1,
+      ap (λ (x : Due). dueAfter (wholesFrom ((i + 1) % 256) l) x .expected) next ∙ rest .1,
     )

@@ -13,7 +13,7 @@
 --   badge-exactly, outOfReachExactly, outOfReachLeaves, faultlessIsCodeWord   what each badge of AL1M is given for (Badges)
 --   encodedUnique, receivedUnique        one answer of AL1M (Theorems)
 --   sentIsWhole, readBack, readIsWhole, nextInOrder, plainReceived   AL2's sending and receiving undo each other (InStep)
---   inStep, wholesFrom-append, numberAfter-append, expectedAfter-append, numberAfter-lt
+--   inStep, wholesFrom-append, numberAfter-append, dueAfter-append, numberAfter-lt
 --                                        .. and so do units that follow one another, and their numbers (InStep)
 --   badge-most                           the badges' numbers go to 4 (Unique)
 --   says-once, passed-once, read-once, received-once   one answer of AL1 and AL2 (Unique)
@@ -26,5 +26,5 @@ pub use Rattle.adaptation.proofs.Coding.{coding-all}
 pub use Rattle.adaptation.proofs.Badges.{foundIsShown, badge-exactly, outOfReachExactly, outOfReachLeaves, faultlessIsCodeWord}
 pub use Rattle.adaptation.proofs.Theorems.{sent-small, handed-small, sentIsHandedUp, encodedUnique, receivedUnique}
 pub use Rattle.adaptation.proofs.InStep.{sentIsWhole, readBack, readIsWhole, nextInOrder, plainReceived, inStep}
-pub use Rattle.adaptation.proofs.InStep.{wholesFrom-append, numberAfter-append, expectedAfter-append, numberAfter-lt}
+pub use Rattle.adaptation.proofs.InStep.{wholesFrom-append, numberAfter-append, dueAfter-append, numberAfter-lt}
 pub use Rattle.adaptation.proofs.Unique.{badge-most, says-once, passed-once, read-once, received-once}

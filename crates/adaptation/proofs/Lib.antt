@@ -7,6 +7,7 @@ pub mod Sendable
 pub mod Arrivals
 pub mod Wholes
 pub mod InStep
+pub mod Missing
 pub mod Unique
 pub mod Refusals
 pub mod Badges

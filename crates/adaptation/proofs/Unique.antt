@@ -4,7 +4,7 @@
 --   badge-most       their numbers go to 4
 --   passed-once      AL1's answers
 --   read-once        .. to reading
---   says-once        .. to receiving, by what they say of a unit where a number is expected
+--   says-once        .. to receiving, by what they say of a unit and what is due
 --   received-once    .. so there is one
 --
 -- The other promises are equations `r ≡ ..`, for which `p ∙ sym q` is the proof. Assumes nothing.
@@ -19,6 +19,7 @@ use Rattle.calls.proofs.Laws.{once}
 use Rattle.adaptation.specs.Handed.{badgeNumber, Handed}
 use Rattle.adaptation.specs.AL1 as al1
 use Rattle.adaptation.specs.AL2.{Parts, Receipt, handedUp, discarded, unitOf, apart, received, apartSays, receivedSays}
+use Rattle.adaptation.specs.declared.al2.Due.{Due}
 use Rattle.adaptation.specs.declared.Badge.{Badge}
 use Rattle.adaptation.specs.declared.Badge.the-variants.{Clean, Corrected, OutOfReach, CheckFailed, Unchecked}
 use Rattle.adaptation.specs.declared.al1.Passed.{Passed}
@@ -85,15 +86,15 @@ receivedBack (told (handedUp h d x)) = receive.Unit (badgeAt (h .badge)) d x
 receivedBack (told (discarded d e)) = receive.Discarded
 receivedBack (refused k) = receive.Refused k
 
-received-back : (u : List ℕ) (e : ℕ) (r : Received) → receivedBack (receivedSays r u e) ≡ r
+received-back : (u : List ℕ) (e : Due) (r : Received) → receivedBack (receivedSays r u e) ≡ r
 unfolding receivedBack
 received-back u e (receive.Unit b d x) = ap (λ (c : Badge). receive.Unit c d x) (badge-back b)
 received-back u e receive.Discarded = refl
 received-back u e (receive.Refused k) = refl
 
-pub says-once : (u : List ℕ) (e : ℕ) (a b : Received) → receivedSays a u e ≡ receivedSays b u e → a ≡ b
+pub says-once : (u : List ℕ) (e : Due) (a b : Received) → receivedSays a u e ≡ receivedSays b u e → a ≡ b
 says-once u e a b h = once (λ (r : Received). receivedSays r u e) receivedBack (received-back u e) a b (receivedSays b u e) h refl
 
-pub received-once : (s : Bool) (w : List ℕ) (e : ℕ) (a b : Received)
+pub received-once : (s : Bool) (w : List ℕ) (e : Due) (a b : Received)
     → receivedSays a (unitOf s w) e ≡ received s w e → receivedSays b (unitOf s w) e ≡ received s w e → a ≡ b
 received-once s w e a b p q = says-once (unitOf s w) e a b (p ∙ sym q)

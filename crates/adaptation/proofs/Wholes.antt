@@ -29,6 +29,7 @@ use Rattle.adaptation.specs.Handed.{longestUnit}
 use Rattle.adaptation.specs.AL2.{field, whole, isSendable, sent, fieldLength, numberOf, unitOf, Parts, readTests, partsOf, apart, Receipt}
 use Rattle.adaptation.specs.AL2.{settled, received}
 use Rattle.adaptation.specs.AL2Claims.{isNumbered}
+use Rattle.adaptation.specs.declared.al2.Due.{Due}
 use Rattle.adaptation.specs.declared.al2.Number.{Number}
 use Rattle.adaptation.specs.declared.al2.Number.the-variants.{Numbered, Plain}
 use Rattle.adaptation.proofs.Applying.{whole-length}
@@ -99,11 +100,11 @@ module _ (s : Bool) (w : List ℕ) where
   apart-read n t l m e a = rw (le-leb (fieldLength s + 1 + 1) (length w) l, le-leb (length w) longestUnit m, e, a)
 
 -- receiving, by what reading told
-abbrev pub byParts : Told Parts → ℕ → Told Receipt
+abbrev pub byParts : Told Parts → Due → Told Receipt
 byParts (refused k) e = refused k
 byParts (told p) e = told (settled (p .number) (p .agreeing) (p .unit) e)
 
-pub received-apart : (s : Bool) (w : List ℕ) (e : ℕ) → received s w e ≡ byParts (apart s w) e
+pub received-apart : (s : Bool) (w : List ℕ) (e : Due) → received s w e ≡ byParts (apart s w) e
 unfolding received apart
 received-apart s w e = sym (checked-through (λ (t : Told Parts). byParts t e) refused (readTests s w) (told (partsOf s w)))
 
@@ -132,7 +133,7 @@ whole-apart n u p l =
     (agrees-own eight (field n ++ u))
     ∙ ap (λ (v : List ℕ). told (record { number = n; agreeing = true; unit = v })) (unit-whole n u)
 
-pub whole-received : (n : Number) (u : List ℕ) (e : ℕ) → 0 < length u → length (whole n u) ≤ longestUnit
+pub whole-received : (n : Number) (u : List ℕ) (e : Due) → 0 < length u → length (whole n u) ≤ longestUnit
     → received (isNumbered n) (whole n u) e ≡ told (settled n true u e)
 unfolding received
 whole-received n u e p l = received-apart (isNumbered n) (whole n u) e ∙ ap (λ (t : Told Parts). byParts t e) (whole-apart n u p l)

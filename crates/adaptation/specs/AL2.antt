@@ -1,5 +1,10 @@
--- AL2 (000, 7.3; document 01, "AL1 and AL2"), but for the numbers that a channel keeps.
+-- AL2 (000, 7.3; document 01, "AL1 and AL2"; document 02, ticket 5). What a channel keeps of it between two calls is one record, `Numbers`:
+-- the number that is sent next and what is due, which is the number that is expected next and the count of failed units. Receiving takes
+-- and answers what is due, and nothing of what is sent.
 --
+--   firstNumbers    a channel's numbers at first: all are 0
+--   numberAs s m    the number of a unit: the one of m that is sent next, or none, by whether units have numbers
+--   risen s m       the numbers once a unit was sent: if it had one, the one sent rises modulo 256
 --   field n         a number as it is sent: one octet, or none where units have no number (7.3.3.2.1)
 --   fieldLength s   how many octets that is, by whether units have numbers
 --   whole n u       a unit u with its number, and the check of 8 bits over both (7.3.3.2.3)
@@ -15,21 +20,23 @@
 --   apart s w       how reading w ends
 --   distance n e    n - e modulo 256
 --   mostMissing     the largest that counts as missing units, and not as a misdelivered one
---   arrival n e     what becomes of number n where e is expected (house): up to 127 past it, that many are missing and the one
---                   after n is expected next; else the unit is misdelivered
---   Receipt         what becomes of a unit: it is handed up or discarded, with how many are missing before it, and the number that
---                   is expected next
---   expectedBy r    that number
+--   mostFailed      the most failed units that are counted
+--   accepting n     what is due once number n was accepted: the one after it, and no unit failed since
+--   failing e       what is due once a unit with a number failed: one failed unit more than e has
+--   arrival n e     what becomes of number n where e is due (house): up to 127 past the number expected, it is accepted, and as many are
+--                   missing as that, less the units that failed since the last accepted one, and never below 0; else it is misdelivered
+--   Receipt         what becomes of a unit: it is handed up or discarded, with how many are missing before it, and what is due next
+--   dueBy r         .. that
 --   delivered       .. by what becomes of its number, where its check agrees; on a discard none is missing
 --   settled         .. by its parts: the check first, then the number if there is one
---   receiptOf s w e .. by the octets w, where e is expected
---   received s w e  how receiving w ends, where e is expected
+--   receiptOf s w e .. by the octets w, where e is due
+--   received s w e  how receiving w ends, where e is due
 --   apartSays, receivedSays   what each answer of the functions says
 --
 -- Assumes nothing.
 use mathlib.Core.Bool.{Bool, true, false, cond, not, _&&_}
 use mathlib.Core.List.{List, [], _∷_, _++_}
-use Prim.Native.Nat.{ℕ, _+_, _-_, _%_}
+use Prim.Native.Nat.{ℕ, _+_, _-_, _%_, min}
 use lib.Dec.{leb, ltb}
 use lib.ListN.{length, getD, take, drop}
 use Rattle.octets.specs.Written.{written}
@@ -37,6 +44,8 @@ use Rattle.calls.specs.Refusal.{Told, refused, told, Ended, leaving, refusing, 
 use Rattle.checks.specs.Check.{checkOf, agrees, eight}
 use Rattle.adaptation.specs.Handed.{longestUnit, Handed, handed}
 use Rattle.adaptation.specs.declared.Badge.the-variants.{Clean, CheckFailed}
+use Rattle.adaptation.specs.declared.al2.Due.{Due}
+use Rattle.adaptation.specs.declared.al2.Numbers.{Numbers}
 use Rattle.adaptation.specs.declared.al2.Number.{Number}
 use Rattle.adaptation.specs.declared.al2.Number.the-variants.{Numbered, Plain}
 use Rattle.adaptation.specs.declared.al2.Apart.{Apart}
@@ -45,6 +54,17 @@ use Rattle.adaptation.specs.declared.al2.Arrival.{Arrival}
 use Rattle.adaptation.specs.declared.al2.Arrival.the-variants.{Taken, Misdelivered}
 use Rattle.adaptation.specs.declared.al2.Received.{Received}
 use Rattle.adaptation.specs.declared.al2.Received.the-variants.{Unit, Discarded, Refused}
+
+-- ---- a channel's numbers
+
+abbrev pub firstNumbers : Numbers
+firstNumbers = record { sent = 0; due = record { expected = 0; failed = 0 } }
+
+abbrev pub numberAs : Bool → Numbers → Number
+numberAs s m = cond s (Numbered (m .sent)) Plain
+
+abbrev pub risen : Bool → Numbers → Numbers
+risen s m = cond s (record { sent = (m .sent + 1) % 256; due = m .due }) m
 
 -- ---- sending
 
@@ -100,30 +120,43 @@ distance n e = (n + 256 - e) % 256
 abbrev pub mostMissing : ℕ
 mostMissing = 127
 
-unfoldable pub arrival : ℕ → ℕ → Arrival
-arrival n e = cond (leb (distance n e) mostMissing) (Taken (distance n e) ((n + 1) % 256)) Misdelivered
+abbrev pub mostFailed : ℕ
+mostFailed = 127
+
+abbrev pub accepting : ℕ → Due
+accepting n = record { expected = (n + 1) % 256; failed = 0 }
+
+abbrev pub failing : Due → Due
+failing e = record { expected = e .expected; failed = min (e .failed + 1) mostFailed }
+
+-- a difference of natural numbers is never below 0
+unfoldable pub arrival : ℕ → Due → Arrival
+arrival n e =
+    let d = distance n (e .expected) in
+    cond (leb d mostMissing) (Taken (d - e .failed) (accepting n)) Misdelivered
 
 pub data Receipt : Type 0 where
-  handedUp : Handed → (missing expected : ℕ) → Receipt
-  discarded : (missing expected : ℕ) → Receipt
+  handedUp : Handed → (missing : ℕ) → Due → Receipt
+  discarded : (missing : ℕ) → Due → Receipt
 
-abbrev pub expectedBy : Receipt → ℕ
-expectedBy (handedUp u missing expected) = expected
-expectedBy (discarded missing expected) = expected
+abbrev pub dueBy : Receipt → Due
+dueBy (handedUp u missing e) = e
+dueBy (discarded missing e) = e
 
-abbrev pub delivered : Arrival → List ℕ → ℕ → Receipt
-delivered (Taken d x) u e = handedUp (handed Clean u) d x
+abbrev pub delivered : Arrival → List ℕ → Due → Receipt
+delivered (Taken k x) u e = handedUp (handed Clean u) k x
 delivered Misdelivered u e = discarded 0 e
 
-abbrev pub settled : Number → Bool → List ℕ → ℕ → Receipt
-settled n false u e = handedUp (handed CheckFailed u) 0 e
+abbrev pub settled : Number → Bool → List ℕ → Due → Receipt
+settled (Numbered n) false u e = handedUp (handed CheckFailed u) 0 (failing e)
 settled (Numbered n) true u e = delivered (arrival n e) u e
+settled Plain false u e = handedUp (handed CheckFailed u) 0 e
 settled Plain true u e = handedUp (handed Clean u) 0 e
 
-abbrev pub receiptOf : Bool → List ℕ → ℕ → Receipt
+abbrev pub receiptOf : Bool → List ℕ → Due → Receipt
 receiptOf s w e = settled (numberOf s w) (agrees eight w) (unitOf s w) e
 
-unfoldable pub received : Bool → List ℕ → ℕ → Told Receipt
+unfoldable pub received : Bool → List ℕ → Due → Told Receipt
 received s w e = checked refused (readTests s w) (told (receiptOf s w e))
 
 -- ---- what each answer says
@@ -132,8 +165,8 @@ abbrev pub apartSays : Apart → List ℕ → Told Parts
 apartSays (read.Parts n t) u = told (record { number = n; agreeing = t; unit = u })
 apartSays (read.Refused k) u = refused k
 
--- u is the unit, and e the number that was expected
-abbrev pub receivedSays : Received → List ℕ → ℕ → Told Receipt
-receivedSays (Unit b d x) u e = told (handedUp (handed b u) d x)
+-- u is the unit, and e what was due
+abbrev pub receivedSays : Received → List ℕ → Due → Told Receipt
+receivedSays (Unit b k x) u e = told (handedUp (handed b u) k x)
 receivedSays Discarded u e = told (discarded 0 e)
 receivedSays (Refused k) u e = refused k

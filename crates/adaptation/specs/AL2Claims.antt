@@ -1,29 +1,36 @@
--- What is claimed of AL2's sending and receiving, each the inverse of the other, over every number, unit and expected number (000, 7.3;
--- document 01, "AL1 and AL2"); proofs/InStep.antt proves each claim.
+-- What is claimed of AL2's sending and receiving, each the inverse of the other, over every number, every unit and whatever is due (000, 7.3;
+-- document 01, "AL1 and AL2"; document 02, ticket 5); proofs/InStep.antt proves each claim.
 --
+--   NumbersRise       a channel starts with its numbers and its count 0; a unit is sent with the number that is sent next, which then rises
+--                     modulo 256, or with none, and then nothing changes
 --   isNumbered n      there is a number
 --   asSent u          u is handed up with badge 0 and nothing changed
+--   asFailed u        .. with badge 3
 --   SentIsWhole       what sending writes is number, unit and check, and the rest of the output stays
 --   ReadBack          that is read as the number, an agreeing check and the unit
 --   ReadIsWhole       .. and what is read with an agreeing check is what sending its parts writes
 --   Past e d n        number n is d past e, modulo 256
---   MissingTold       up to 127 past the expected number: the unit is handed up as sent, d are missing, the number behind n is next
+--   Less d c k        k is d less c, and 0 if that is below zero
+--   Counted s c k     k is the count c once a unit failed: with a number one more and at most 127, without one c
+--   MissingTold       up to 127 past the expected number: the unit is handed up as sent, d less the count of failed units are missing, the
+--                     number behind n is expected next, and the count is 0
 --   NextInOrder       .. so with the expected number none is missing
---   LateDiscarded     from 128 past it: the unit is discarded, none is missing, and the expected number stays
---   PlainReceived     without a number the unit is handed up as sent, none is missing, and the expected number stays
---   FailedStays       where the check disagrees: badge 3, none is missing, and the expected number stays
+--   LateDiscarded     from 128 past it: the unit is discarded, none is missing, and the expected number and the count stay
+--   PlainReceived     without a number the unit is handed up as sent, none is missing, and the expected number and the count stay
+--   FailedCounted     where the check disagrees: badge 3, none is missing, the expected number stays, and the unit is counted if it has a number
 --   wholesFrom i l    what sending makes of the units l, one after another, from number i on
 --   numberAfter i l   the number that is then sent next
---   expectedNext t e  the number that is expected once a whole was received, where e was
---   receipts l e      what becomes of the wholes l, one after another, where e is expected at first
---   expectedAfter l e the number that is then expected
+--   dueNext t e       what is due once a whole was received, where e was
+--   receipts l e      what becomes of the wholes l, one after another, where e is due at first
+--   dueAfter l e      what is then due
 --   inOrder i l       each of the units l is handed up as sent with none missing, from number i on
 --   areSendable l     each of the units l may be sent with a number: with it and the check it is no longer than the longest unit
---   InStep            units sent and received one after another, from the same number: each is handed up as sent with none missing, and the
---                     numbers are the same again
+--   InStep            units sent and received one after another, from the same number, whatever the count: each is handed up as sent with none
+--                     missing, and the numbers are the same again
 --
 -- Assumes nothing.
 use mathlib.Core.Path.{_≡_}
+use mathlib.Core.Logic.{_⊎_}
 use mathlib.Core.Bool.{Bool, true, false, _&&_}
 use mathlib.Core.List.{List, [], _∷_}
 use Prim.Native.Nat.{ℕ, _+_, _-_, _%_, _≤_, _<_}
@@ -31,7 +38,10 @@ use lib.ListN.{take, drop}
 use Rattle.calls.specs.Refusal.{Told, refused, told, leaving}
 use Rattle.checks.specs.Check.{agrees, eight}
 use Rattle.adaptation.specs.Handed.{longestUnit, isUnit, Handed}
-use Rattle.adaptation.specs.AL2.{whole, isSendable, sent, isWhole, unitOf, Parts, apart, Receipt, handedUp, discarded, expectedBy, received}
+use Rattle.adaptation.specs.AL2.{firstNumbers, numberAs, risen, whole, isSendable, sent, isWhole, unitOf, Parts, apart}
+use Rattle.adaptation.specs.AL2.{Receipt, handedUp, discarded, dueBy, received}
+use Rattle.adaptation.specs.declared.al2.Due.{Due}
+use Rattle.adaptation.specs.declared.al2.Numbers.{Numbers}
 use Rattle.adaptation.specs.declared.al2.Number.{Number}
 use Rattle.adaptation.specs.declared.al2.Number.the-variants.{Numbered, Plain}
 
@@ -41,6 +51,17 @@ isNumbered Plain = false
 
 abbrev pub asSent : List ℕ → Handed
 asSent u = record { badge = 0; changed = 0; unit = u }
+
+abbrev pub asFailed : List ℕ → Handed
+asFailed u = record { badge = 3; changed = 0; unit = u }
+
+-- ---- a channel's numbers
+
+pub record NumbersRise : Type 0 where
+  pub first : firstNumbers ≡ record { sent = 0; due = record { expected = 0; failed = 0 } }
+  pub number : (m : Numbers) → (numberAs true m ≡ Numbered (m .sent)) × (numberAs false m ≡ Plain)
+  pub rises : (m : Numbers) → risen true m ≡ record { sent = (m .sent + 1) % 256; due = m .due }
+  pub stays : (m : Numbers) → risen false m ≡ m
 
 -- ---- sending and reading
 
@@ -64,26 +85,35 @@ ReadIsWhole =
 abbrev pub Past : (e d n : ℕ) → Type 0
 Past e d n = (e < 256) × (d < 256) × (n ≡ (e + d) % 256)
 
+abbrev pub Less : (d c k : ℕ) → Type 0
+Less d c k = (d ≡ c + k) ⊎ ((d < c) × (k ≡ 0))
+
+abbrev pub Counted : (numbered : Bool) → (c k : ℕ) → Type 0
+Counted true c k = ((c < 127) × (k ≡ c + 1)) ⊎ ((127 ≤ c) × (k ≡ 127))
+Counted false c k = k ≡ c
+
 abbrev pub MissingTold : Type 0
 MissingTold =
-    (u : List ℕ) (e d n : ℕ) → Past e d n → d ≤ 127 → isSendable (Numbered n) u ≡ true
-    → received true (whole (Numbered n) u) e ≡ told (handedUp (asSent u) d ((n + 1) % 256))
+    (u : List ℕ) (e : Due) (d n k : ℕ) → Past (e .expected) d n → d ≤ 127 → Less d (e .failed) k → isSendable (Numbered n) u ≡ true
+    → received true (whole (Numbered n) u) e ≡ told (handedUp (asSent u) k (record { expected = (n + 1) % 256; failed = 0 }))
 
 abbrev pub NextInOrder : Type 0
 NextInOrder =
-    (u : List ℕ) (e : ℕ) → e < 256 → isSendable (Numbered e) u ≡ true → received true (whole (Numbered e) u) e ≡ told (handedUp (asSent u) 0 ((e + 1) % 256))
+    (u : List ℕ) (e : Due) → e .expected < 256 → isSendable (Numbered (e .expected)) u ≡ true
+    → received true (whole (Numbered (e .expected)) u) e ≡ told (handedUp (asSent u) 0 (record { expected = (e .expected + 1) % 256; failed = 0 }))
 
 abbrev pub LateDiscarded : Type 0
 LateDiscarded =
-    (u : List ℕ) (e d n : ℕ) → Past e d n → 128 ≤ d → isSendable (Numbered n) u ≡ true → received true (whole (Numbered n) u) e ≡ told (discarded 0 e)
+    (u : List ℕ) (e : Due) (d n : ℕ) → Past (e .expected) d n → 128 ≤ d → isSendable (Numbered n) u ≡ true
+    → received true (whole (Numbered n) u) e ≡ told (discarded 0 e)
 
 abbrev pub PlainReceived : Type 0
-PlainReceived = (u : List ℕ) (e : ℕ) → isSendable Plain u ≡ true → received false (whole Plain u) e ≡ told (handedUp (asSent u) 0 e)
+PlainReceived = (u : List ℕ) (e : Due) → isSendable Plain u ≡ true → received false (whole Plain u) e ≡ told (handedUp (asSent u) 0 e)
 
-abbrev pub FailedStays : Type 0
-FailedStays =
-    (s : Bool) (w : List ℕ) (e : ℕ) → isWhole s w ≡ true → agrees eight w ≡ false
-    → received s w e ≡ told (handedUp (record { badge = 3; changed = 0; unit = unitOf s w }) 0 e)
+abbrev pub FailedCounted : Type 0
+FailedCounted =
+    (s : Bool) (w : List ℕ) (e : Due) (k : ℕ) → Counted s (e .failed) k → isWhole s w ≡ true → agrees eight w ≡ false
+    → received s w e ≡ told (handedUp (asFailed (unitOf s w)) 0 (record { expected = e .expected; failed = k }))
 
 -- ---- one after another
 
@@ -95,21 +125,21 @@ abbrev pub numberAfter : ℕ → List (List ℕ) → ℕ
 numberAfter i [] = i
 numberAfter i (u ∷ l) = numberAfter ((i + 1) % 256) l
 
-abbrev pub expectedNext : Told Receipt → ℕ → ℕ
-expectedNext (refused k) e = e
-expectedNext (told r) e = expectedBy r
+abbrev pub dueNext : Told Receipt → Due → Due
+dueNext (refused k) e = e
+dueNext (told r) e = dueBy r
 
-unfoldable pub receipts : List (List ℕ) → ℕ → List (Told Receipt)
+unfoldable pub receipts : List (List ℕ) → Due → List (Told Receipt)
 receipts [] e = []
-receipts (w ∷ l) e = received true w e ∷ receipts l (expectedNext (received true w e) e)
+receipts (w ∷ l) e = received true w e ∷ receipts l (dueNext (received true w e) e)
 
-unfoldable pub expectedAfter : List (List ℕ) → ℕ → ℕ
-expectedAfter [] e = e
-expectedAfter (w ∷ l) e = expectedAfter l (expectedNext (received true w e) e)
+unfoldable pub dueAfter : List (List ℕ) → Due → Due
+dueAfter [] e = e
+dueAfter (w ∷ l) e = dueAfter l (dueNext (received true w e) e)
 
 abbrev pub inOrder : ℕ → List (List ℕ) → List (Told Receipt)
 inOrder i [] = []
-inOrder i (u ∷ l) = told (handedUp (asSent u) 0 ((i + 1) % 256)) ∷ inOrder ((i + 1) % 256) l
+inOrder i (u ∷ l) = told (handedUp (asSent u) 0 (record { expected = (i + 1) % 256; failed = 0 })) ∷ inOrder ((i + 1) % 256) l
 
 abbrev pub areSendable : List (List ℕ) → Bool
 areSendable [] = true
@@ -117,5 +147,6 @@ areSendable (u ∷ l) = isUnit (longestUnit - 2) u && areSendable l
 
 abbrev pub InStep : Type 0
 InStep =
-    (i : ℕ) (l : List (List ℕ)) → i < 256 → areSendable l ≡ true
-    → (receipts (wholesFrom i l) i ≡ inOrder i l) × (expectedAfter (wholesFrom i l) i ≡ numberAfter i l)
+    (i c : ℕ) (l : List (List ℕ)) → i < 256 → areSendable l ≡ true
+    → (receipts (wholesFrom i l) (record { expected = i; failed = c }) ≡ inOrder i l)
+    × (dueAfter (wholesFrom i l) (record { expected = i; failed = c }) .expected ≡ numberAfter i l)

@@ -31,7 +31,8 @@ use Rattle.adaptation.specs.Sending.{encodeTests, Sends}
 use Rattle.adaptation.specs.Receiving.{isWord, receiveTests, isBare}
 use Rattle.adaptation.specs.AL1.{passTests, passed}
 use Rattle.adaptation.specs.AL2 as al2
-use Rattle.adaptation.specs.AL2Claims.{isNumbered}
+use Rattle.adaptation.specs.AL2Claims.{isNumbered, Counted}
+use Rattle.adaptation.specs.declared.al2.Due.{Due}
 use Rattle.adaptation.specs.declared.al2.Number.{Number}
 use Rattle.adaptation.specs.declared.al2.Number.the-variants.{Numbered, Plain}
 
@@ -85,7 +86,10 @@ pub record AdaptationExactly : Type 0 where
   -- badge 4, "for AL1M exactly when e = 0 and l = 0"
   pub unchecked : (e : ℕ) → (isBare none e ≡ true ↔ (e ≡ 0)) × ((isBare eight e ≡ false) × (isBare sixteen e ≡ false))
   -- "if it disagrees, the unit is handed up with badge 3 and the expected number stays": the unit u, whole, behind a number or none and
-  -- before an octet c that is not their check; none of its octets is changed, and no unit is missing
-  pub failed : (n : Number) (u : List ℕ) (c e : ℕ) → 1 ≤ length u → length (al2.field n ++ u) + 1 ≤ 1024 → (c ∷ [] ≡ checkOf eight (al2.field n ++ u) → ⊥)
-      → al2.received (isNumbered n) ((al2.field n ++ u) ++ c ∷ []) e ≡ told (al2.handedUp (record { badge = 3; changed = 0; unit = u }) 0 e)
+  -- before an octet c that is not their check; none of its octets is changed, and no unit is missing. With a number it is counted, without
+  -- one it is not (document 02, ticket 5)
+  pub failed : (n : Number) (u : List ℕ) (c k : ℕ) (e : Due) → 1 ≤ length u → length (al2.field n ++ u) + 1 ≤ 1024
+      → (c ∷ [] ≡ checkOf eight (al2.field n ++ u) → ⊥) → Counted (isNumbered n) (e .failed) k
+      → al2.received (isNumbered n) ((al2.field n ++ u) ++ c ∷ []) e
+      ≡ told (al2.handedUp (record { badge = 3; changed = 0; unit = u }) 0 (record { expected = e .expected; failed = k }))
   pub sends : (b e m : ℕ) (u before after : List ℕ) → Sends b e u before (Octets m) after → SentLeaves b e u before m after

@@ -2,6 +2,7 @@ pub mod Handed
 pub mod AL1
 pub mod AL2
 pub mod AL2Claims
+pub mod AL2Missing
 pub mod AL1M
 pub mod Sending
 pub mod Receiving

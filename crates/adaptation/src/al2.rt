@@ -1,4 +1,4 @@
-// AL2 (000, 7.3), but for the numbers that a channel keeps: its units are put together, read apart and judged.
+// AL2 (000, 7.3): its units are put together, read apart and judged. What a channel keeps of it between two calls is taken and returned.
 use crate::Badge;
 use crate::LONGEST_UNIT;
 use calls::Length;
@@ -6,14 +6,32 @@ use checks::Width;
 use checks::seals;
 ghost use mathlib.Core.Path.{_≡_};
 ghost use mathlib.Core.List.{List};
-ghost use Prim.Native.Nat.{ℕ, _≤_};
+ghost use mathlib.Core.Bool.{false};
+ghost use Prim.Native.Nat.{ℕ, _-_, _≤_};
 ghost use lib.ListN.{length};
 ghost use Rattle.octets.specs.Written.{written};
 ghost use Rattle.calls.specs.Refusal.{told, ended, lengthSays};
-ghost use Rattle.adaptation.specs.AL2.{field, fieldLength, sent, apart, unitOf, arrival, settled, received, apartSays, receivedSays};
+ghost use Rattle.adaptation.specs.AL2.{firstNumbers, numberAs, risen, field, fieldLength, sent, apart, unitOf};
+ghost use Rattle.adaptation.specs.AL2.{accepting, failing, arrival, settled, received, apartSays, receivedSays};
 
 // How far past the number expected a number counts as one after missing units, and not as misdelivered (house).
 const MOST_MISSING: u16 = 127;
+
+// The most failed units that are counted (document 02, ticket 5).
+const MOST_FAILED: u8 = 127;
+
+// What a receiver keeps of a channel between two units: the number that is expected next, and how many failed units were handed up
+// since the last accepted one.
+pub struct Due {
+    pub expected: u8,
+    pub failed: u8,
+}
+
+// A channel's numbers: the one that is sent next, and what is due.
+pub struct Numbers {
+    pub sent: u8,
+    pub due: Due,
+}
 
 // The optional number of a unit (7.3.3.2.1).
 pub enum Number {
@@ -27,22 +45,52 @@ pub enum Apart {
     Refused(u8),
 }
 
-// What becomes of a number: it is taken, and so many are missing before it; or it is misdelivered.
+// What becomes of a number: it is taken, so many are missing before it, and that is due next; or it is misdelivered.
 pub enum Arrival {
-    Taken { missing: u8, expected: u8 },
+    Taken { missing: u8, due: Due },
     Misdelivered,
 }
 
-// What receiving a unit answers: it is handed up, with how many are missing before it and the number that is expected next; it is
-// discarded as misdelivered; or document 01's refusal number.
+// What receiving a unit answers: it is handed up, with how many are missing before it and what is due next; it is discarded as
+// misdelivered, and what was due stays; or document 01's refusal number.
 pub enum Received {
-    Unit {
-        badge: Badge,
-        missing: u8,
-        expected: u8,
-    },
+    Unit { badge: Badge, missing: u8, due: Due },
     Discarded,
     Refused(u8),
+}
+
+// A channel's numbers at first.
+pub fn first_numbers() -> Numbers
+    ensures { λ r. ⌜ r ≡ firstNumbers ⌝ }
+{
+    let due = Due {
+        expected: 0,
+        failed: 0,
+    };
+    Numbers { sent: 0, due }
+}
+
+// The number that a unit is sent with, where units have one.
+pub fn number_as(numbered: bool, numbers: Numbers) -> Number
+    ensures { λ r. ⌜ r ≡ numberAs numbered numbers ⌝ }
+{
+    if numbered {
+        let n = numbers.sent;
+        return Number::Numbered(n);
+    }
+    Number::Plain
+}
+
+// The numbers once a unit was sent: the one sent rises modulo 256.
+pub fn rise(numbered: bool, numbers: Numbers) -> Numbers
+    ensures { λ r. ⌜ r ≡ risen numbered numbers ⌝ }
+{
+    if numbered {
+        let mut next = numbers;
+        next.sent = ((numbers.sent as u16 + 1) % 256) as u8;
+        return next;
+    }
+    numbers
 }
 
 // Writes the number to the front of out, if there is one.
@@ -128,57 +176,100 @@ pub fn unit(whole: &[u8], numbered: bool) -> &[u8]
     &whole[from..end]
 }
 
-// What becomes of a number, where another is expected.
-pub fn arrive(number: u8, expected: u8) -> Arrival
-    ensures { λ r. ⌜ r ≡ arrival number expected ⌝ }
+// How many are missing before a number that is so far past the one expected, where so many units failed: never below 0.
+fn missing_of(past: u8, failed: u8) -> u8
+    ensures { λ r. ⌜ r ≡ past - failed ⌝ }
 {
-    let missing = (number as u16 + 256 - expected as u16) % 256;
-    if MOST_MISSING < missing {
+    if past < failed {
+        return 0;
+    }
+    past - failed
+}
+
+// What is due once a number was accepted.
+fn accept(number: u8) -> Due
+    ensures { λ r. ⌜ r ≡ accepting number ⌝ }
+{
+    Due {
+        expected: ((number as u16 + 1) % 256) as u8,
+        failed: 0,
+    }
+}
+
+// What is due once a unit with a number failed: one failed unit more, up to the most that are counted.
+fn fail(due: Due) -> Due
+    ensures { λ r. ⌜ r ≡ failing due ⌝ }
+{
+    let mut next = due;
+    if due.failed < MOST_FAILED {
+        next.failed = due.failed + 1;
+        return next;
+    }
+    next.failed = MOST_FAILED;
+    next
+}
+
+// What becomes of a number, by what is due.
+pub fn arrive(number: u8, due: Due) -> Arrival
+    ensures { λ r. ⌜ r ≡ arrival number due ⌝ }
+{
+    let past = (number as u16 + 256 - due.expected as u16) % 256;
+    if MOST_MISSING < past {
         return Arrival::Misdelivered;
     }
-    Arrival::Taken {
-        missing: missing as u8,
-        expected: ((number as u16 + 1) % 256) as u8,
+    let missing = missing_of(past as u8, due.failed);
+    let next = accept(number);
+    Arrival::Taken { missing, due: next }
+}
+
+// A unit whose check disagrees is handed up, and counted if units have numbers.
+fn settle_failed(number: Number, due: Due) -> Received
+    ensures { λ r. ⌜ ((u : List ℕ) → receivedSays r u due ≡ told (settled number false u due)) ⌝ }
+{
+    match number {
+        Number::Plain => Received::Unit {
+            badge: Badge::CheckFailed,
+            missing: 0,
+            due,
+        },
+        Number::Numbered(_) => Received::Unit {
+            badge: Badge::CheckFailed,
+            missing: 0,
+            due: fail(due),
+        },
     }
 }
 
 // The check is looked at first, then the number, if there is one.
-fn settle(number: Number, agrees: bool, expected: u8) -> Received
-    ensures { λ r. ⌜ ((u : List ℕ) → receivedSays r u expected ≡ told (settled number agrees u expected)) ⌝ }
+fn settle(number: Number, agrees: bool, due: Due) -> Received
+    ensures { λ r. ⌜ ((u : List ℕ) → receivedSays r u due ≡ told (settled number agrees u due)) ⌝ }
 {
     if !agrees {
-        return Received::Unit {
-            badge: Badge::CheckFailed,
-            missing: 0,
-            expected,
-        };
+        return settle_failed(number, due);
     }
     match number {
         Number::Plain => Received::Unit {
             badge: Badge::Clean,
             missing: 0,
-            expected,
+            due,
         },
-        Number::Numbered(n) => match arrive(n, expected) {
+        Number::Numbered(n) => match arrive(n, due) {
             Arrival::Misdelivered => Received::Discarded,
-            Arrival::Taken {
-                missing,
-                expected: next,
-            } => Received::Unit {
+            Arrival::Taken { missing, due: next } => Received::Unit {
                 badge: Badge::Clean,
                 missing,
-                expected: next,
+                due: next,
             },
         },
     }
 }
 
-// Receives a unit where a number is expected: refusal 2. The unit that is handed up is what `unit` returns.
-pub fn receive(whole: &[u8], numbered: bool, expected: u8) -> Received
-    ensures { λ r. ⌜ receivedSays r (unitOf numbered (now (whole .entry))) expected ≡ received numbered (now (whole .entry)) expected ⌝ }
+// Receives a unit, by what is due: refusal 2. The unit that is handed up is what `unit` returns.
+pub fn receive(whole: &[u8], numbered: bool, due: Due) -> Received
+    ensures { λ r. ⌜ receivedSays r (unitOf numbered (now (whole .entry))) due ≡ received numbered (now (whole .entry)) due ⌝ }
 {
     match read(whole, numbered) {
-        Apart::Parts { number, agrees } => settle(number, agrees, expected),
+        Apart::Parts { number, agrees } => settle(number, agrees, due),
         Apart::Refused(k) => Received::Refused(k),
     }
 }

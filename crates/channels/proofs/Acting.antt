@@ -19,11 +19,12 @@ use Rattle.octets.specs.Parts.{apart, part-elsewhere}
 use Rattle.calls.specs.Refusal.{told, Ended, leaving, refusing}
 use Rattle.calls.proofs.Laws.{told-refused, leaving-same, by-tests}
 use Rattle.adaptation.specs.Handed.{isUnit}
-use Rattle.adaptation.specs.AL2.{Receipt, expectedBy, received, receiptOf, isWhole}
+use Rattle.adaptation.specs.AL2.{risen, Receipt, dueBy, received, receiptOf, isWhole}
+use Rattle.adaptation.specs.declared.al2.Numbers.{Numbers}
 use Rattle.channels.specs.declared.Channel.{Channel}
 use Rattle.channels.specs.declared.Channels.{Channels}
 use Rattle.channels.specs.Channels.{placeCount, placeOctets, allOctets, start, placeOf, isIn, channelAt, put, waiting, numbering, waits, waitingFrom, waitingOf, Post, postTests, posted}
-use Rattle.channels.specs.Layers.{risen, takingTests, taking}
+use Rattle.channels.specs.Layers.{expecting, takingTests, taking}
 use Rattle.channels.specs.Search.{first}
 use Rattle.channels.specs.Claims.{channelOf}
 use Rattle.channels.specs.Effects.{OthersStay, StartIs, PostedIs, SendingIs, TakingIs}
@@ -100,21 +101,16 @@ postedIs s w n u y full size =
 
 -- ---- AL2
 
-risen-seat : (numbered : Bool) (c : Channel) → seat (risen numbered c) ≡ seat c
-risen-seat true c = refl
-risen-seat false c = refl
-
-risen-is : (numbered : Bool) (c : Channel) → risen numbered c ≡ numbering c (cond numbered ((c .sent + 1) % 256) (c .sent)) (c .expected)
-risen-is true c = refl
-risen-is false c = refl
+risen-is : (numbered : Bool) (m : Numbers) → risen numbered m ≡ record { sent = cond numbered ((m .sent + 1) % 256) (m .sent); due = m .due }
+risen-is true m = refl
+risen-is false m = refl
 
 pub sendingIs : SendingIs
 sendingIs s t n k numbered u out after full e =
     let a = sent-is s n numbered u out t after k e in
-    let c = risen numbered (channelOf s n) in
-    let q = put-back s n c full (a .inside) (risen-seat numbered (channelOf s n)) in
-    subst (λ (v : Channels). (channelOf v n ≡ numbering (channelOf s n) (cond numbered ((channelOf s n .sent + 1) % 256) (channelOf s n .sent)) (channelOf s n .expected)) × OthersStay s v n)
-    (sym (a .channels)) (q .0 ∙ risen-is numbered (channelOf s n), q .1)
+    let c = channelOf s n in
+    let q = put-back s n (numbering c (risen numbered (c .numbers))) full (a .inside) refl in
+    rw (a .channels) (q .0 ∙ ap (numbering c) (risen-is numbered (c .numbers)), q .1)
 
 pub takingIs : TakingIs
 unfolding taking received
@@ -122,15 +118,15 @@ takingIs s t n numbered w r full =
     by-tests (λ (q : Ended Receipt Channels). q ≡ leaving r t → Done r t) (refusing s) (takingTests s n numbered w) _
     (λ k e. told-refused (ap (λ (q : Ended Receipt Channels). q .answer) e) refl)
     (λ none e.
-    let x = receiptOf numbered w (channelOf s n .expected) in
-    let c = numbering (channelOf s n) (channelOf s n .sent) (expectedBy x) in
+    let x = receiptOf numbered w (channelOf s n .numbers .due) in
+    let c = expecting (channelOf s n) (dueBy x) in
     let inside = ltb-true (placeOf s n) placeCount (not-false (isIn s n) (none .0)) in
     let q = put-back s n c full inside refl in
     let same = leaving-same x r (put s (placeOf s n) c) t e in
-    let said : received numbered w (channelOf s n .expected) ≡ told x = rw (none .1 .0) in
+    let said : received numbered w (channelOf s n .numbers .due) ≡ told x = rw (none .1 .0) in
     subst (λ (v : Channels). Done r v) (same .1) (subst (λ (v : Receipt). Done v (put s (placeOf s n) c)) (same .0) (said, q .0, q .1)))
   where
     Done : Receipt → Channels → Type 0
     Done x v =
-        (received numbered w (channelOf s n .expected) ≡ told x)
-        × (channelOf v n ≡ numbering (channelOf s n) (channelOf s n .sent) (expectedBy x)) × OthersStay s v n
+        (received numbered w (channelOf s n .numbers .due) ≡ told x)
+        × (channelOf v n ≡ expecting (channelOf s n) (dueBy x)) × OthersStay s v n

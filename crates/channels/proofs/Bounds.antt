@@ -19,6 +19,7 @@ use Rattle.octets.specs.Written.{written, written-length}
 use Rattle.calls.specs.Refusal.{leaving}
 use Rattle.calls.proofs.Laws.{checked-keeps}
 use Rattle.adaptation.specs.Handed.{isUnit}
+use Rattle.adaptation.specs.AL2.{firstNumbers}
 use Rattle.channels.specs.declared.Channel.{Channel}
 use Rattle.channels.specs.declared.Channels.{Channels}
 use Rattle.channels.specs.Channels.{placeCount, placeOctets, vacant, fresh, start, placeOf, freePlace, isIn, channelAt, put, holding, waiting}
@@ -73,7 +74,7 @@ module _ (s : Channels) (h w : List ℕ) (b : Bounded s h w) where
   resetting : (n : ℕ) → Bounded (reset s n .left) h w
   unfolding reset
   resetting n =
-      let c = numbering (holding (channelAt s (placeOf s n)) 0) 0 0 in
+      let c = numbering (holding (channelAt s (placeOf s n)) 0) firstNumbers in
       checked-keeps s (resetTests s n) (λ r. Bounded r h w) (leaving tt (put s (placeOf s n) c)) b
       λ e. bounded-put (placeOf s n) c (inside n (e .0)) (omega arith) (λ q. refl) (b .waits (placeOf s n))
       (seated-put s (b .orderly .full) (b .seated) n c (inside n (e .0)) refl)
@@ -102,11 +103,7 @@ module _ (s : Channels) (h w : List ℕ) (b : Bounded s h w) where
   unfolding layers.sending
   sending n numbered u out =
       checked-keeps (record { channels = s; output = out }) (layers.sendingTests (record { channels = s; output = out }) n numbered u)
-      (λ (r : layers.SendLent). Bounded (r .channels) h w) _ b λ e. by numbered (inside n (e .0))
-    where
-      by : (g : Bool) → placeOf s n < placeCount → Bounded (put s (placeOf s n) (layers.risen g (channelAt s (placeOf s n)))) h w
-      by true i = like n _ i refl refl refl
-      by false i = like n _ i refl refl refl
+      (λ (r : layers.SendLent). Bounded (r .channels) h w) _ b λ e. like n _ (inside n (e .0)) refl refl refl
 
   taking : (n : ℕ) (numbered : Bool) (x : List ℕ) → Bounded (layers.taking s n numbered x .left) h w
   unfolding layers.taking

@@ -15,6 +15,7 @@ use lib.ListN.{length, length-set}
 use Rattle.octets.specs.Tests.{never}
 use Rattle.calls.specs.Refusal.{Ended, leaving, refusing}
 use Rattle.calls.proofs.Laws.{told-refused, leaving-same, by-tests}
+use Rattle.adaptation.specs.AL2.{firstNumbers}
 use Rattle.channels.specs.declared.Channel.{Channel}
 use Rattle.channels.specs.declared.Channels.{Channels}
 use Rattle.channels.specs.Channels.{placeCount, vacant, fresh, isChannel, placeOf, freePlace, isIn, channelAt, put, holding, numbering}
@@ -49,7 +50,7 @@ openedIs s t n g full =
 pub resetIs : ResetIs
 unfolding reset
 resetIs s t n full =
-    let c = numbering (holding (channelOf s n) 0) 0 0 in
+    let c = numbering (holding (channelOf s n) 0) firstNumbers in
     by-tests (λ (r : Ended (Unit {0}) Channels). r ≡ leaving tt t → (channelOf t n ≡ c) × OthersStay s t n) (refusing s) (resetTests s n) _
     (λ k. refused-none k)
     (λ none.

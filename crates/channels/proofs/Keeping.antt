@@ -4,29 +4,32 @@
 --   channel-else    .. and changes no other
 --   IsSent          what a sending that is not refused leaves
 --   sent-is         .. it does
---   taken-is        what a taking that is not refused answers, and expects next
+--   taken-is        what a taking that is not refused answers, and what is due next
 --   sendingLeaves   .. so that it leaves the whole in front, and the rest as it was
 --   taken-as-sent   a unit that is taken where its number is expected is handed up as sent, and the numbers are in step again
 --
 -- Assumes nothing.
-use mathlib.Core.Path.{_≡_, refl, sym, ap, _∙_}
+use mathlib.Core.Path.{_≡_, refl, sym, ap, subst, _∙_}
 use mathlib.Core.Logic.{_≢_}
-use mathlib.Core.Bool.{Bool, true, false}
+use mathlib.Core.Bool.{Bool, true, false, cond}
 use mathlib.Core.List.{List}
-use Prim.Native.Nat.{ℕ, _+_, _≤_, _<_}
+use Prim.Native.Nat.{ℕ, _+_, _%_, _≤_, _<_}
 use borrow.Author.Tests.{ltb-true, ltb-false, not-false}
 use lib.ListN.{length, take, drop}
 use Rattle.octets.specs.Written.{written, written-front, written-behind}
 use native.Mathlib.Omega.{arith}
 use Rattle.calls.specs.Refusal.{told, Ended, leaving, refusing, None}
 use Rattle.calls.proofs.Laws.{told-refused, leaving-same, by-tests}
-use Rattle.adaptation.specs.AL2.{whole, isSendable, Receipt, handedUp, expectedBy, received}
+use Rattle.adaptation.specs.AL2.{numberAs, risen, whole, isSendable, Receipt, handedUp, dueBy, received}
+use Rattle.adaptation.specs.declared.al2.Due.{Due}
+use Rattle.adaptation.specs.declared.al2.Numbers.{Numbers}
+use Rattle.adaptation.specs.declared.al2.Number.the-variants.{Numbered}
 use Rattle.adaptation.specs.AL2Claims.{asSent}
 use Rattle.adaptation.proofs.Laws.{nextInOrder, plainReceived}
 use Rattle.channels.specs.declared.Channel.{Channel}
 use Rattle.channels.specs.declared.Channels.{Channels}
 use Rattle.channels.specs.Channels.{placeCount, placeOf, isIn, channelAt, put, numbering}
-use Rattle.channels.specs.Layers.{SendLent, numberAs, risen, sendingTests, sending, taking}
+use Rattle.channels.specs.Layers.{SendLent, expecting, sendingTests, sending, taking}
 use Rattle.channels.specs.Claims.{channelOf, TakenAsSent, SendingLeaves}
 use Rattle.channels.proofs.Seats.{seat, place-seats, seats-put, place-unique, put-there, put-elsewhere}
 use Rattle.channels.proofs.Layering.{taking-by}
@@ -44,14 +47,13 @@ channel-else s m n c full inside e f =
     ∙ put-elsewhere s (placeOf s m) (placeOf s n) c (λ q. f (place-unique s full m n (placeOf s m) inside refl q))
 
 -- what becomes of a whole, with a number that is expected or with none
-in-order : (numbered : Bool) (c : Channel) (u : List ℕ) → c .sent < 256 → isSendable (numberAs numbered c) u ≡ true
-    → received numbered (whole (numberAs numbered c) u) (c .sent) ≡ told (handedUp (asSent u) 0 (risen numbered c .sent))
-in-order true c u l h = nextInOrder u (c .sent) l h
-in-order false c u l h = plainReceived u (c .sent) h
-
-risen-seat : (numbered : Bool) (c : Channel) → seat (risen numbered c) ≡ seat c
-risen-seat true c = refl
-risen-seat false c = refl
+in-order : (numbered : Bool) (m : Numbers) (e : Due) (u : List ℕ) → m .sent < 256 → e .expected ≡ m .sent → isSendable (numberAs numbered m) u ≡ true
+    → received numbered (whole (numberAs numbered m) u) e
+    ≡ told (handedUp (asSent u) 0 (record { expected = risen numbered m .sent; failed = cond numbered 0 (e .failed) }))
+in-order true m e u l q h =
+    subst (λ (i : ℕ). received true (whole (Numbered i) u) e ≡ told (handedUp (asSent u) 0 (record { expected = (i + 1) % 256; failed = 0 }))) q
+    (nextInOrder u e (rw q l) (rw q h))
+in-order false m e u l q h = plainReceived u e h ∙ ap (λ (i : ℕ). told (handedUp (asSent u) 0 (record { expected = i; failed = e .failed }))) q
 
 written-rest : (d s : List ℕ) → length s ≤ length d → drop (length s) (written d 0 s) ≡ drop (length s) d
 written-rest d s h = let e : 0 + length s ≡ length s = omega arith in ap (λ (m : ℕ). drop m (written d 0 s)) (sym e) ∙ written-behind d 0 s (omega arith) ∙ ap (λ (m : ℕ). drop m d) e
@@ -62,12 +64,12 @@ module _ (s : Channels) (n : ℕ) (numbered : Bool) (u out : List ℕ) where
   c = channelOf s n
 
   abbrev w : List ℕ
-  w = whole (numberAs numbered c) u
+  w = whole (numberAs numbered (c .numbers)) u
 
   pub record IsSent (t : Channels) (after : List ℕ) (k : ℕ) : Type 0 where
     pub inside : placeOf s n < placeCount
-    pub may : isSendable (numberAs numbered c) u ≡ true
-    pub channels : t ≡ put s (placeOf s n) (risen numbered c)
+    pub may : isSendable (numberAs numbered (c .numbers)) u ≡ true
+    pub channels : t ≡ put s (placeOf s n) (numbering c (risen numbered (c .numbers)))
     pub octets : take k after ≡ w
     pub rest : drop k after ≡ drop k out
 
@@ -82,14 +84,14 @@ module _ (s : Channels) (n : ℕ) (numbered : Bool) (u out : List ℕ) where
       lent = record { channels = s; output = out }
 
       left : SendLent
-      left = record { channels = put s (placeOf s n) (risen numbered c); output = written out 0 w }
+      left = record { channels = put s (placeOf s n) (numbering c (risen numbered (c .numbers))); output = written out 0 w }
 
       is : None (sendingTests lent n numbered u) → leaving (length w) left ≡ leaving k (record { channels = t; output = after }) → IsSent t after k
       is (a, (b, (d, x))) e =
           let both = leaving-same (length w) k left (record { channels = t; output = after }) e in
           record {
             inside = ltb-true (placeOf s n) placeCount (not-false (isIn s n) a);
-            may = not-false (isSendable (numberAs numbered c) u) b;
+            may = not-false (isSendable (numberAs numbered (c .numbers)) u) b;
             channels = sym (ap (λ (y : SendLent). y .channels) (both .1));
             rest = rw (← both .0, ← (ap (λ (y : SendLent). y .output) (both .1))) (written-rest out w (ltb-false (length out) (length w) d));
             octets = rw (← both .0, ← (ap (λ (y : SendLent). y .output) (both .1))) (written-front out w (ltb-false (length out) (length w) d));
@@ -97,14 +99,14 @@ module _ (s : Channels) (n : ℕ) (numbered : Bool) (u out : List ℕ) where
 
 -- .. and taken
 module _ (r : Channels) (m : ℕ) (numbered : Bool) (full : length (r .at) ≡ placeCount) (here : isIn r m ≡ true) where
-  pub taken-is : (w : List ℕ) (x : Receipt) → received numbered w (channelOf r m .expected) ≡ told x
-      → (taking r m numbered w .answer ≡ told x) × (channelOf (taking r m numbered w .left) m .expected ≡ expectedBy x)
+  pub taken-is : (w : List ℕ) (x : Receipt) → received numbered w (channelOf r m .numbers .due) ≡ told x
+      → (taking r m numbered w .answer ≡ told x) × (channelOf (taking r m numbered w .left) m .numbers .due ≡ dueBy x)
   taken-is w x q =
       let inside = ltb-true (placeOf r m) placeCount here in
       let e = taking-by r m numbered w (placeOf r m) refl inside (told x) (sym q) in (
         sym (ap (λ (y : Ended Receipt Channels). y .answer) e),
-        ap (λ (y : Ended Receipt Channels). channelOf (y .left) m .expected) (sym e)
-            ∙ ap (λ (y : Channel). y .expected) (channel-put r m (numbering (channelOf r m) (channelOf r m .sent) (expectedBy x)) full inside refl),
+        ap (λ (y : Ended Receipt Channels). channelOf (y .left) m .numbers .due) (sym e)
+            ∙ ap (λ (y : Channel). y .numbers .due) (channel-put r m (expecting (channelOf r m) (dueBy x)) full inside refl),
       )
 
 pub sendingLeaves : SendingLeaves
@@ -113,8 +115,8 @@ sendingLeaves s t n k numbered u out after e = let a = sent-is s n numbered u ou
 pub taken-as-sent : TakenAsSent
 taken-as-sent s r t n m k numbered u out after fs fr here l e q =
     let a = sent-is s n numbered u out t after k q in
-    let next : channelOf t n .sent ≡ risen numbered (channelOf s n) .sent =
-    ap (λ (y : Channels). channelOf y n .sent) (a .channels)
-    ∙ ap (λ (y : Channel). y .sent) (channel-put s n (risen numbered (channelOf s n)) fs (a .inside) (risen-seat numbered (channelOf s n))) in
-    rw (next, a .octets)
-    (taken-is r m numbered fr here _ (handedUp (asSent u) 0 (risen numbered (channelOf s n) .sent)) (rw e (in-order numbered (channelOf s n) u l (a .may))))
+    let c = channelOf s n in
+    let next : channelOf t n .numbers .sent ≡ risen numbered (c .numbers) .sent =
+    ap (λ (y : Channels). channelOf y n .numbers .sent) (a .channels)
+    ∙ ap (λ (y : Channel). y .numbers .sent) (channel-put s n (numbering c (risen numbered (c .numbers))) fs (a .inside) refl) in
+    rw (next, a .octets) (taken-is r m numbered fr here _ _ (in-order numbered (c .numbers) (channelOf r m .numbers .due) u l e (a .may)))

@@ -19,12 +19,12 @@ use borrow.Author.Tests.{lt-ltb, le-ltb, le-leb, lt-leb}
 use lib.ListN.{length, take, drop}
 use Rattle.calls.specs.Refusal.{Told, refused, told, Ended, ended, leaving, refusing}
 use Rattle.calls.proofs.Laws.{checked-through}
-use Rattle.adaptation.specs.AL2.{sendTests, readTests, sent, received, Receipt, expectedBy}
+use Rattle.adaptation.specs.AL2.{numberAs, risen, sendTests, readTests, sent, received, Receipt, dueBy}
 use Rattle.adaptation.proofs.Laws.{sent-leaves}
 use Rattle.channels.specs.declared.Channel.{Channel}
 use Rattle.channels.specs.declared.Channels.{Channels}
 use Rattle.channels.specs.Channels.{placeCount, placeOf, channelAt, put, numbering}
-use Rattle.channels.specs.Layers.{SendLent, numberAs, risen, sending, taking}
+use Rattle.channels.specs.Layers.{SendLent, expecting, sending, taking}
 use Rattle.channels.specs.Parts.{partAt}
 
 -- what AL2's own end leads to, at place p
@@ -37,7 +37,7 @@ sentBy x p c r = by (r .answer)
 
 abbrev pub takenBy : Channels → (p : ℕ) → Channel → Told Receipt → Ended Receipt Channels
 takenBy s p c (refused k) = refusing s k
-takenBy s p c (told r) = leaving r (put s p (numbering c (c .sent) (expectedBy r)))
+takenBy s p c (told r) = leaving r (put s p (expecting c (dueBy r)))
 
 module _ (x : SendLent) (n : ℕ) (numbered : Bool) (u : List ℕ) (p : ℕ) (e : p ≡ placeOf (x .channels) n) where
   pub sending-closed : placeCount ≤ p → refusing x 5 ≡ sending x n numbered u
@@ -48,22 +48,22 @@ module _ (x : SendLent) (n : ℕ) (numbered : Bool) (u : List ℕ) (p : ℕ) (e 
     abbrev c : Channel
     c = channelAt (x .channels) p
 
-    by : (r : Ended ℕ (List ℕ)) → r ≡ sent (numberAs numbered c) u (x .output) → sentBy x p (risen numbered c) r ≡ sending x n numbered u
+    by : (r : Ended ℕ (List ℕ)) → r ≡ sent (numberAs numbered (c .numbers)) u (x .output) → sentBy x p (numbering c (risen numbered (c .numbers))) r ≡ sending x n numbered u
     unfolding sending sent sentBy
     by r f =
-        ap (sentBy x p (risen numbered c)) f
-        ∙ checked-through (sentBy x p (risen numbered c)) (refusing (x .output)) (sendTests (numberAs numbered c) u (x .output)) _
+        ap (sentBy x p (numbering c (risen numbered (c .numbers)))) f
+        ∙ checked-through (sentBy x p (numbering c (risen numbered (c .numbers)))) (refusing (x .output)) (sendTests (numberAs numbered (c .numbers)) u (x .output)) _
         ∙ rw (← e, lt-ltb _ _ h)
 
-    pub sending-refused : (k : ℕ) → ended (refused k) out ≡ sent (numberAs numbered c) u (x .output)
+    pub sending-refused : (k : ℕ) → ended (refused k) out ≡ sent (numberAs numbered (c .numbers)) u (x .output)
         → refusing (record { channels = x .channels; output = out }) k ≡ sending x n numbered u
     unfolding sentBy
     sending-refused k f =
-        ap (λ (o : List ℕ). refusing (record { channels = x .channels; output = o }) k) (sent-leaves (numberAs numbered c) u (x .output) k out f)
+        ap (λ (o : List ℕ). refusing (record { channels = x .channels; output = o }) k) (sent-leaves (numberAs numbered (c .numbers)) u (x .output) k out f)
         ∙ by (ended (refused k) out) f
 
-    pub sending-sent : (k : ℕ) → ended (told k) out ≡ sent (numberAs numbered c) u (x .output)
-        → leaving k (record { channels = put (x .channels) p (risen numbered c); output = out }) ≡ sending x n numbered u
+    pub sending-sent : (k : ℕ) → ended (told k) out ≡ sent (numberAs numbered (c .numbers)) u (x .output)
+        → leaving k (record { channels = put (x .channels) p (numbering c (risen numbered (c .numbers))); output = out }) ≡ sending x n numbered u
     unfolding sentBy
     sending-sent k f = by (ended (told k) out) f
 
@@ -72,7 +72,7 @@ module _ (s : Channels) (n : ℕ) (numbered : Bool) (w : List ℕ) (p : ℕ) (e 
   unfolding taking
   taking-closed h = rw (← e, le-ltb _ _ h)
 
-  pub taking-by : p < placeCount → (r : Told Receipt) → r ≡ received numbered w (channelAt s p .expected) → takenBy s p (channelAt s p) r
+  pub taking-by : p < placeCount → (r : Told Receipt) → r ≡ received numbered w (channelAt s p .numbers .due) → takenBy s p (channelAt s p) r
       ≡ taking s n numbered w
   unfolding taking received
   taking-by h r f =

@@ -58,5 +58,5 @@ pub takeUnique : TakeUnique
 takeUnique s n numbered w a b p q =
     let e = p ∙ sym q in
     ap₂ (λ (r : Received) (y : Channels). record { received = r; channels = y })
-    (says-once (unitOf numbered w) (channelAt s (placeOf s n) .expected) (a .received) (b .received) (ap (λ (r : Ended Receipt Channels). r .answer) e))
+    (says-once (unitOf numbered w) (channelAt s (placeOf s n) .numbers .due) (a .received) (b .received) (ap (λ (r : Ended Receipt Channels). r .answer) e))
     (ap (λ (r : Ended Receipt Channels). r .left) e)

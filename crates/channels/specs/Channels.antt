@@ -16,7 +16,7 @@
 --   put s p c         the channels with c at place p
 --   holding c k       c with k octets held
 --   waiting c k       .. with k waiting
---   numbering c i j   .. with these AL2 numbers, sent and expected
+--   numbering c m     .. with the AL2 numbers m
 --   heldOf s h p      the octets that place p holds; they stand at the front of its octets
 --   waits c           how many octets wait at c
 --   waitingFrom c p   where they stand: at the end of its octets, so that what is sent leaves at the front
@@ -37,6 +37,8 @@ use lib.ListN.{length, getD, set, take, drop, replicate}
 use Rattle.octets.specs.Written.{written}
 use Rattle.calls.specs.Refusal.{Ended, ended, leaving, refusing, Test, _when_, checked, outcomeSays}
 use Rattle.adaptation.specs.Handed.{isUnit}
+use Rattle.adaptation.specs.AL2.{firstNumbers}
+use Rattle.adaptation.specs.declared.al2.Numbers.{Numbers}
 use Rattle.channels.specs.declared.After.{After}
 use Rattle.channels.specs.declared.Channel.{Channel}
 use Rattle.channels.specs.declared.Channels.{Channels}
@@ -52,10 +54,10 @@ abbrev pub allOctets : ℕ
 allOctets = placeCount * placeOctets
 
 abbrev pub vacant : Channel
-vacant = record { «open» = false; segmentable = false; number = record { 0 = 0 }; held = 0; waiting = 0; sent = 0; expected = 0 }
+vacant = record { «open» = false; segmentable = false; number = record { 0 = 0 }; held = 0; waiting = 0; numbers = firstNumbers }
 
 abbrev pub fresh : ℕ → Bool → Channel
-fresh n g = record { «open» = true; segmentable = g; number = record { 0 = n }; held = 0; waiting = 0; sent = 0; expected = 0 }
+fresh n g = record { «open» = true; segmentable = g; number = record { 0 = n }; held = 0; waiting = 0; numbers = firstNumbers }
 
 unfoldable pub start : Channels
 start = record { at = fresh 0 true ∷ replicate (placeCount - 1) vacant }
@@ -91,14 +93,14 @@ put s p c = record { at = set (s .at) p c }
 
 abbrev pub holding : Channel → ℕ → Channel
 holding c k =
-    record { «open» = c .«open»; segmentable = c .segmentable; number = c .number; held = k; waiting = c .waiting; sent = c .sent; expected = c .expected }
+    record { «open» = c .«open»; segmentable = c .segmentable; number = c .number; held = k; waiting = c .waiting; numbers = c .numbers }
 
 abbrev pub waiting : Channel → ℕ → Channel
 waiting c k =
-    record { «open» = c .«open»; segmentable = c .segmentable; number = c .number; held = c .held; waiting = k; sent = c .sent; expected = c .expected }
+    record { «open» = c .«open»; segmentable = c .segmentable; number = c .number; held = c .held; waiting = k; numbers = c .numbers }
 
-abbrev pub numbering : Channel → (sent expected : ℕ) → Channel
-numbering c i j = record { «open» = c .«open»; segmentable = c .segmentable; number = c .number; held = c .held; waiting = c .waiting; sent = i; expected = j }
+abbrev pub numbering : Channel → Numbers → Channel
+numbering c m = record { «open» = c .«open»; segmentable = c .segmentable; number = c .number; held = c .held; waiting = c .waiting; numbers = m }
 
 abbrev pub heldOf : Channels → List ℕ → ℕ → List ℕ
 heldOf s h p = take (channelAt s p .held) (drop (placeOctets * p) h)
@@ -131,7 +133,7 @@ abbrev pub resetTests : Channels → ℕ → List Test
 resetTests s n = 5 when not (isIn s n) ∷ []
 
 unfoldable pub reset : Channels → ℕ → Ended (Unit {0}) Channels
-reset s n = checked (refusing s) (resetTests s n) (leaving tt (put s (placeOf s n) (numbering (holding (channelAt s (placeOf s n)) 0) 0 0)))
+reset s n = checked (refusing s) (resetTests s n) (leaving tt (put s (placeOf s n) (numbering (holding (channelAt s (placeOf s n)) 0) firstNumbers)))
 
 pub record Post : Type 0 where
   pub channels : Channels

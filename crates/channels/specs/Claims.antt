@@ -8,8 +8,8 @@
 --   CallsKeepBounds   .. so every call keeps the bounds
 --   channelOf s n     the channel n of s
 --   TakenAsSent       a unit that AL2 sent on a channel, with a number or none, and that is taken on one that expects the number which the
---                     first sends next, is handed up as sent: badge 0, nothing changed, none missing; and again the second expects the
---                     number that the first sends next
+--                     first sends next, is handed up as sent: badge 0, nothing changed, none missing, whatever failed before; and again the
+--                     second expects the number that the first sends next, and with a number its count of failed units is 0
 --   SendingLeaves     AL2's sending leaves the whole at the front of the output, and what stands behind it as it was
 --   AfterUnique       any two answers that the promise of opening, closing or resetting allows are equal, the channels included
 --   PostUnique        .. of posting, with the octets that wait
@@ -18,12 +18,13 @@
 --
 -- Assumes nothing.
 use mathlib.Core.Path.{_≡_}
-use mathlib.Core.Bool.{Bool, true, false}
+use mathlib.Core.Bool.{Bool, true, false, cond}
 use mathlib.Core.List.{List}
 use Prim.Native.Nat.{ℕ, _≤_, _<_}
 use lib.ListN.{length, take, drop}
 use Rattle.calls.specs.Refusal.{told, Ended, ended, leaving, outcomeSays}
-use Rattle.adaptation.specs.AL2.{handedUp, whole}
+use Rattle.adaptation.specs.AL2.{numberAs, handedUp, whole}
+use Rattle.adaptation.specs.declared.al2.Due.{Due}
 use Rattle.adaptation.specs.AL2Claims.{asSent}
 use Rattle.channels.specs.declared.Channel.{Channel}
 use Rattle.channels.specs.declared.Channels.{Channels}
@@ -31,7 +32,7 @@ use Rattle.channels.specs.declared.After.{After}
 use Rattle.channels.specs.declared.layers.Sent.{Sent}
 use Rattle.channels.specs.declared.layers.Taken.{Taken}
 use Rattle.channels.specs.Channels.{placeCount, placeOctets, allOctets, vacant, start, placeOf, isIn, channelAt, opened, closed, reset, posted, Posts}
-use Rattle.channels.specs.Layers.{numberAs, sending, SendsOn, taking, TakesOn}
+use Rattle.channels.specs.Layers.{sending, SendsOn, taking, TakesOn}
 
 pub record Orderly (s : Channels) (h : List ℕ) : Type 0 where
   pub full : length (s .at) ≡ placeCount
@@ -76,16 +77,16 @@ abbrev pub TakenAsSent : Type 0
 TakenAsSent =
     (s r t : Channels) (n m k : ℕ) (numbered : Bool) (u out after : List ℕ)
     → length (s .at) ≡ placeCount → length (r .at) ≡ placeCount → isIn r m ≡ true
-    → channelOf s n .sent < 256 → channelOf r m .expected ≡ channelOf s n .sent
+    → channelOf s n .numbers .sent < 256 → channelOf r m .numbers .due .expected ≡ channelOf s n .numbers .sent
     → sending (record { channels = s; output = out }) n numbered u ≡ leaving k (record { channels = t; output = after })
-    → (taking r m numbered (take k after) .answer ≡ told (handedUp (asSent u) 0 (channelOf t n .sent)))
-    × (channelOf (taking r m numbered (take k after) .left) m .expected ≡ channelOf t n .sent)
+    → let e : Due = record { expected = channelOf t n .numbers .sent; failed = cond numbered 0 (channelOf r m .numbers .due .failed) } in
+    (taking r m numbered (take k after) .answer ≡ told (handedUp (asSent u) 0 e)) × (channelOf (taking r m numbered (take k after) .left) m .numbers .due ≡ e)
 
 abbrev pub SendingLeaves : Type 0
 SendingLeaves =
     (s t : Channels) (n k : ℕ) (numbered : Bool) (u out after : List ℕ)
     → sending (record { channels = s; output = out }) n numbered u ≡ leaving k (record { channels = t; output = after })
-    → (take k after ≡ whole (numberAs numbered (channelOf s n)) u) × (drop k after ≡ drop k out)
+    → (take k after ≡ whole (numberAs numbered (channelOf s n .numbers)) u) × (drop k after ≡ drop k out)
 
 -- ---- any two answers are equal
 

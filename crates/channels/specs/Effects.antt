@@ -2,14 +2,13 @@
 -- opening, closing and a reset, and proofs/Acting.antt the others.
 --
 --   OthersStay s t n   every other channel than n is in t as it was in s
---   OpenedIs           opening starts the channel empty, with AL2 numbers 0, segmentable or not as it was given
+--   OpenedIs           opening starts the channel empty, with AL2 numbers 0 and no failed unit counted, segmentable or not as it was given
 --   ClosedIs           a channel that was closed is not open
 --   StartIs            at first channel 0 is open, segmentable and empty, and no other is
 --   PostedIs           the unit that was posted waits on its channel, and all else is as it was: what waits elsewhere, and the channels
 --   SendingIs          AL2's sending raises the channel's number modulo 256 if units have one, and leaves all else
---   TakingIs           AL2's taking answers what AL2 says of the whole where the channel's number is expected, keeps the number expected next,
---                      and leaves all else
---   ResetIs            a reset empties what the channel holds and sets both its AL2 numbers to 0; what waits stays
+--   TakingIs           AL2's taking answers what AL2 says of the whole by what is due on the channel, keeps what is due next, and leaves all else
+--   ResetIs            a reset empties what the channel holds and sets both its AL2 numbers and the count of failed units to 0; what waits stays
 --
 -- Assumes nothing.
 use mathlib.Core.Path.{_≡_}
@@ -19,7 +18,7 @@ use Prim.Native.Nat.{ℕ, _+_, _%_}
 use lib.Dec.{eqb}
 use lib.ListN.{length}
 use Rattle.calls.specs.Refusal.{told, leaving}
-use Rattle.adaptation.specs.AL2.{Receipt, expectedBy, received}
+use Rattle.adaptation.specs.AL2.{Receipt, dueBy, received}
 use Rattle.channels.specs.declared.Channels.{Channels}
 use Rattle.channels.specs.Channels.{placeCount, allOctets, start, placeOf, isIn, waitingOf, opened, closed, reset, Post, posted}
 use Rattle.channels.specs.Layers.{sending, taking}
@@ -32,7 +31,7 @@ abbrev pub OpenedIs : Type 0
 OpenedIs =
     (s t : Channels) (n : ℕ) (g : Bool) → length (s .at) ≡ placeCount → opened s n g ≡ leaving tt t
     → (channelOf t n
-    ≡ record { «open» = true; segmentable = g; number = record { 0 = n }; held = 0; waiting = 0; sent = 0; expected = 0 })
+    ≡ record { «open» = true; segmentable = g; number = record { 0 = n }; held = 0; waiting = 0; numbers = record { sent = 0; due = record { expected = 0; failed = 0 } } })
     × OthersStay s t n
 
 abbrev pub ClosedIs : Type 0
@@ -49,15 +48,14 @@ ResetIs =
       number = channelOf s n .number;
       held = 0;
       waiting = channelOf s n .waiting;
-      sent = 0;
-      expected = 0;
+      numbers = record { sent = 0; due = record { expected = 0; failed = 0 } };
     })
     × OthersStay s t n
 
 abbrev pub StartIs : Type 0
 StartIs =
     (n : ℕ) → (isIn start n ≡ eqb n 0)
-    × (channelOf start 0 ≡ record { «open» = true; segmentable = true; number = record { 0 = 0 }; held = 0; waiting = 0; sent = 0; expected = 0 })
+    × (channelOf start 0 ≡ record { «open» = true; segmentable = true; number = record { 0 = 0 }; held = 0; waiting = 0; numbers = record { sent = 0; due = record { expected = 0; failed = 0 } } })
 
 abbrev pub PostedIs : Type 0
 PostedIs =
@@ -71,8 +69,7 @@ PostedIs =
       number = channelOf s n .number;
       held = channelOf s n .held;
       waiting = length u;
-      sent = channelOf s n .sent;
-      expected = channelOf s n .expected;
+      numbers = channelOf s n .numbers;
     })
     × OthersStay s (y .channels) n
 
@@ -89,15 +86,17 @@ SendingIs =
       number = channelOf s n .number;
       held = channelOf s n .held;
       waiting = channelOf s n .waiting;
-      sent = cond numbered ((channelOf s n .sent + 1) % 256) (channelOf s n .sent);
-      expected = channelOf s n .expected;
+      numbers = record {
+        sent = cond numbered ((channelOf s n .numbers .sent + 1) % 256) (channelOf s n .numbers .sent);
+        due = channelOf s n .numbers .due;
+      };
     })
     × OthersStay s t n
 
 abbrev pub TakingIs : Type 0
 TakingIs =
     (s t : Channels) (n : ℕ) (numbered : Bool) (w : List ℕ) (r : Receipt) → length (s .at) ≡ placeCount → taking s n numbered w ≡ leaving r t
-    → (received numbered w (channelOf s n .expected) ≡ told r)
+    → (received numbered w (channelOf s n .numbers .due) ≡ told r)
     × (channelOf t n
     ≡ record {
       «open» = channelOf s n .«open»;
@@ -105,7 +104,6 @@ TakingIs =
       number = channelOf s n .number;
       held = channelOf s n .held;
       waiting = channelOf s n .waiting;
-      sent = channelOf s n .sent;
-      expected = expectedBy r;
+      numbers = record { sent = channelOf s n .numbers .sent; due = dueBy r };
     })
     × OthersStay s t n

@@ -15,10 +15,10 @@ use mathlib.Core.List.{List}
 use Prim.Native.Nat.{ℕ, _≤_, _<_}
 use lib.ListN.{length, getD}
 use Rattle.calls.specs.Refusal.{Gives}
-use Rattle.adaptation.specs.AL2.{isSendable, whole, isWhole}
+use Rattle.adaptation.specs.AL2.{numberAs, isSendable, whole, isWhole}
 use Rattle.channels.specs.declared.Channels.{Channels}
 use Rattle.channels.specs.Channels.{isIn, allOpen, channelAt, openTests, closeTests, resetTests, postTests}
-use Rattle.channels.specs.Layers.{SendLent, numberAs, sendingTests, takingTests}
+use Rattle.channels.specs.Layers.{SendLent, sendingTests, takingTests}
 use Rattle.channels.specs.Claims.{channelOf}
 
 -- every state has 16 places
@@ -42,8 +42,8 @@ pub record OfChannels (s : Channels) (n : ℕ) (u : List ℕ) : Type 0 where
 pub record OfLayers (x : SendLent) (n : ℕ) (numbered : Bool) (u : List ℕ) : Type 0 where
   pub send5 : Gives (sendingTests x n numbered u) 5 ↔ (isIn (x .channels) n ≡ false)
   pub send2 : Gives (sendingTests x n numbered u) 2
-      ↔ ((isIn (x .channels) n ≡ true) × (isSendable (numberAs numbered (channelOf (x .channels) n)) u ≡ false))
-  pub send3 : let number = numberAs numbered (channelOf (x .channels) n) in
+      ↔ ((isIn (x .channels) n ≡ true) × (isSendable (numberAs numbered (channelOf (x .channels) n .numbers)) u ≡ false))
+  pub send3 : let number = numberAs numbered (channelOf (x .channels) n .numbers) in
       Gives (sendingTests x n numbered u) 3
       ↔ ((isIn (x .channels) n ≡ true) × ((isSendable number u ≡ true) × (length (x .output) < length (whole number u))))
   pub take5 : Gives (takingTests (x .channels) n numbered u) 5 ↔ (isIn (x .channels) n ≡ false)

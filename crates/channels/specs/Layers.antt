@@ -1,7 +1,6 @@
--- AL2 by channel (document 01, "AL1 and AL2"): a channel's numbers, sent and expected, are used and kept.
+-- AL2 by channel (document 01, "AL1 and AL2"; document 02, ticket 5): a channel's numbers are used and kept.
 --
---   numberAs          the number of a unit: the channel's, or none
---   risen             the channel once a unit was sent: its number rises modulo 256
+--   expecting c e     the channel c where e is due next
 --   SendLent          what sending is lent to write to: the channels and the output
 --   sendingTests      what refuses to send a unit on a channel, in this order
 --   sending           how that ends: with its octets written, or a refusal
@@ -12,26 +11,22 @@
 --
 -- Assumes nothing.
 use mathlib.Core.Path.{_≡_}
-use mathlib.Core.Bool.{Bool, cond, not}
+use mathlib.Core.Bool.{Bool, not}
 use mathlib.Core.List.{List, _∷_}
-use Prim.Native.Nat.{ℕ, _+_, _%_}
+use Prim.Native.Nat.{ℕ}
 use lib.ListN.{length}
 use Rattle.octets.specs.Written.{written}
 use Rattle.calls.specs.Refusal.{Ended, ended, leaving, refusing, Test, _when_, checked, lengthSays}
-use Rattle.adaptation.specs.AL2.{whole, sendTests, unitOf, readTests, Receipt, expectedBy, receiptOf, receivedSays}
-use Rattle.adaptation.specs.declared.al2.Number.{Number}
-use Rattle.adaptation.specs.declared.al2.Number.the-variants.{Numbered, Plain}
+use Rattle.adaptation.specs.AL2.{numberAs, risen, whole, sendTests, unitOf, readTests, Receipt, dueBy, receiptOf, receivedSays}
+use Rattle.adaptation.specs.declared.al2.Due.{Due}
 use Rattle.channels.specs.declared.Channel.{Channel}
 use Rattle.channels.specs.declared.Channels.{Channels}
 use Rattle.channels.specs.declared.layers.Sent.{Sent}
 use Rattle.channels.specs.declared.layers.Taken.{Taken}
 use Rattle.channels.specs.Channels.{channelAt, placeOf, isIn, put, numbering}
 
-abbrev pub numberAs : Bool → Channel → Number
-numberAs numbered c = cond numbered (Numbered (c .sent)) Plain
-
-abbrev pub risen : Bool → Channel → Channel
-risen numbered c = cond numbered (numbering c ((c .sent + 1) % 256) (c .expected)) c
+abbrev pub expecting : Channel → Due → Channel
+expecting c e = numbering c (record { sent = c .numbers .sent; due = e })
 
 pub record SendLent : Type 0 where
   pub channels : Channels
@@ -39,15 +34,15 @@ pub record SendLent : Type 0 where
 
 abbrev pub sendingTests : SendLent → (n : ℕ) → (numbered : Bool) → List ℕ → List Test
 sendingTests x n numbered u =
-    5 when not (isIn (x .channels) n) ∷ sendTests (numberAs numbered (channelAt (x .channels) (placeOf (x .channels) n))) u (x .output)
+    5 when not (isIn (x .channels) n) ∷ sendTests (numberAs numbered (channelAt (x .channels) (placeOf (x .channels) n) .numbers)) u (x .output)
 
 unfoldable pub sending : SendLent → (n : ℕ) → (numbered : Bool) → List ℕ → Ended ℕ SendLent
 sending x n numbered u =
     let p = placeOf (x .channels) n in
     let c = channelAt (x .channels) p in
-    let w = whole (numberAs numbered c) u in
+    let w = whole (numberAs numbered (c .numbers)) u in
     checked (refusing x) (sendingTests x n numbered u)
-    (leaving (length w) (record { channels = put (x .channels) p (risen numbered c); output = written (x .output) 0 w }))
+    (leaving (length w) (record { channels = put (x .channels) p (numbering c (risen numbered (c .numbers))); output = written (x .output) 0 w }))
 
 abbrev pub SendsOn : Channels → (n : ℕ) → (numbered : Bool) → (unit output : List ℕ) → Sent → List ℕ → Type 0
 SendsOn s n numbered u out r v =
@@ -60,10 +55,10 @@ unfoldable pub taking : Channels → (n : ℕ) → (numbered : Bool) → List �
 taking s n numbered w =
     let p = placeOf s n in
     let c = channelAt s p in
-    let r = receiptOf numbered w (c .expected) in
-    checked (refusing s) (takingTests s n numbered w) (leaving r (put s p (numbering c (c .sent) (expectedBy r))))
+    let r = receiptOf numbered w (c .numbers .due) in
+    checked (refusing s) (takingTests s n numbered w) (leaving r (put s p (expecting c (dueBy r))))
 
 -- the unit that is handed up is a part of the whole w
 abbrev pub TakesOn : Channels → (n : ℕ) → (numbered : Bool) → (w : List ℕ) → Taken → Type 0
 TakesOn s n numbered w r =
-    ended (receivedSays (r .received) (unitOf numbered w) (channelAt s (placeOf s n) .expected)) (r .channels) ≡ taking s n numbered w
+    ended (receivedSays (r .received) (unitOf numbered w) (channelAt s (placeOf s n) .numbers .due)) (r .channels) ≡ taking s n numbered w

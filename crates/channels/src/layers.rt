@@ -1,5 +1,4 @@
 // AL2 by channel, and a finished unit read by its adaptation layer where it lies.
-use crate::Channel;
 use crate::ChannelNumber;
 use crate::Channels;
 use crate::PLACES;
@@ -7,7 +6,7 @@ use crate::places::place_of;
 use adaptation::al1;
 use adaptation::al1m;
 use adaptation::al2;
-use adaptation::al2::Number;
+use adaptation::al2::Due;
 use adaptation::al2::Received;
 use calls::Length;
 ghost use mathlib.Core.Path.{_≡_};
@@ -16,7 +15,7 @@ ghost use Rattle.adaptation.specs.AL1 as passing;
 ghost use Rattle.adaptation.specs.Receiving.{Receives};
 ghost use Rattle.channels.specs.Channels as the;
 ghost use Rattle.channels.specs.Channels.{channelAt, put};
-ghost use Rattle.channels.specs.Layers.{numberAs, risen, SendsOn, TakesOn};
+ghost use Rattle.channels.specs.Layers.{expecting, SendsOn, TakesOn};
 ghost use Rattle.channels.specs.Parts.{partAt};
 
 // How many octets an AL2 unit was sent in, or document 01's refusal number; and the channels as the call leaves them.
@@ -29,29 +28,6 @@ pub struct Sent {
 pub struct Taken {
     pub received: al2::Received,
     pub channels: Channels,
-}
-
-// The number that a unit is sent with, where units have one.
-fn number_of(numbered: bool, c: Channel) -> Number
-    ensures { λ r. ⌜ r ≡ numberAs numbered c ⌝ }
-{
-    if numbered {
-        let n = c.sent;
-        return Number::Numbered(n);
-    }
-    Number::Plain
-}
-
-// The channel once a unit was sent: the number rises modulo 256.
-fn rise(numbered: bool, c: Channel) -> Channel
-    ensures { λ r. ⌜ r ≡ risen numbered c ⌝ }
-{
-    if numbered {
-        let mut next = c;
-        next.sent = ((c.sent as u16 + 1) % 256) as u8;
-        return next;
-    }
-    c
 }
 
 fn unsent(s: Channels, k: u8) -> Sent
@@ -72,12 +48,14 @@ pub fn send(s: Channels, number: ChannelNumber, numbered: bool, unit: &[u8], out
     if PLACES <= p {
         return unsent(s, 5);
     }
-    let c = s.at[p];
-    match al2::send(number_of(numbered, c), unit, out) {
+    let mut c = s.at[p];
+    let numbers = c.numbers;
+    match al2::send(al2::number_as(numbered, numbers), unit, out) {
         Length::Refused(k) => unsent(s, k),
         Length::Octets(octets) => {
+            c.numbers = al2::rise(numbered, numbers);
             let mut next = s;
-            next.at[p] = rise(numbered, c);
+            next.at[p] = c;
             let length = Length::Octets(octets);
             Sent {
                 length,
@@ -87,13 +65,15 @@ pub fn send(s: Channels, number: ChannelNumber, numbered: bool, unit: &[u8], out
     }
 }
 
-// The channels where the channel at place p expects the number e next.
-fn expect(s: Channels, p: usize, e: u8) -> Channels
+// The channels where e is due next at place p.
+fn expect(s: Channels, p: usize, e: Due) -> Channels
     requires { ⌜ p < the.placeCount ⌝ }
-    ensures { λ r. ⌜ r ≡ put s p (the.numbering (channelAt s p) (channelAt s p .sent) e) ⌝ }
+    ensures { λ r. ⌜ r ≡ put s p (expecting (channelAt s p) e) ⌝ }
 {
     let mut c = s.at[p];
-    c.expected = e;
+    let mut numbers = c.numbers;
+    numbers.due = e;
+    c.numbers = numbers;
     let mut next = s;
     next.at[p] = c;
     next
@@ -118,18 +98,19 @@ pub fn take(s: Channels, number: ChannelNumber, numbered: bool, whole: &[u8]) ->
         return untaken(s, 5);
     }
     let c = s.at[p];
-    let expected = c.expected;
-    let received = al2::receive(whole, numbered, expected);
+    let numbers = c.numbers;
+    let due = numbers.due;
+    let received = al2::receive(whole, numbered, due);
     match received {
         Received::Refused(k) => untaken(s, k),
         Received::Discarded => Taken {
             received,
-            channels: expect(s, p, expected),
+            channels: expect(s, p, due),
         },
         Received::Unit {
             badge: _,
             missing: _,
-            expected: next,
+            due: next,
         } => Taken {
             received,
             channels: expect(s, p, next),

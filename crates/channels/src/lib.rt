@@ -3,6 +3,8 @@ pub mod layers; // layers.rt: AL2 by channel, and a finished unit read where it 
 pub mod places; // places.rt: where channels are
 
 use crate::places::place_of;
+use adaptation::al2;
+use adaptation::al2::Numbers;
 use calls::Outcome;
 ghost use mathlib.Core.Path.{_≡_};
 ghost use Rattle.calls.specs.Refusal.{ended, outcomeSays};
@@ -28,8 +30,7 @@ pub struct Channel {
     pub number: ChannelNumber,
     pub held: u16,
     pub waiting: u16,
-    pub sent: u8,
-    pub expected: u8,
+    pub numbers: Numbers,
 }
 
 pub struct Channels {
@@ -52,8 +53,7 @@ fn vacant() -> Channel
         number: ChannelNumber(0),
         held: 0,
         waiting: 0,
-        sent: 0,
-        expected: 0,
+        numbers: al2::first_numbers(),
     }
 }
 
@@ -67,8 +67,7 @@ fn fresh(number: ChannelNumber, segmentable: bool) -> Channel
         number,
         held: 0,
         waiting: 0,
-        sent: 0,
-        expected: 0,
+        numbers: al2::first_numbers(),
     }
 }
 
@@ -150,7 +149,7 @@ pub fn close(s: Channels, number: ChannelNumber) -> After
     done(next)
 }
 
-// Drops what a channel holds and starts its AL2 numbers again; what waits stays: refusal 5.
+// Drops what a channel holds and starts its AL2 numbers again, the count of failed units among them; what waits stays: refusal 5.
 pub fn restart(s: Channels, number: ChannelNumber) -> After
     ensures { λ r. ⌜ ended (outcomeSays (r .outcome)) (r .channels) ≡ reset s (number .0) ⌝ }
 {
@@ -160,8 +159,7 @@ pub fn restart(s: Channels, number: ChannelNumber) -> After
     }
     let mut c = s.at[p];
     c.held = 0;
-    c.sent = 0;
-    c.expected = 0;
+    c.numbers = al2::first_numbers();
     let mut next = s;
     next.at[p] = c;
     done(next)

@@ -64,7 +64,7 @@ fn by_al2(
         al2::Received::Unit {
             badge,
             missing: _,
-            expected: _,
+            due: _,
         } => {
             let unit = al2::unit(layers::unit_at(output, start, length), true);
             Verdict {

@@ -32,7 +32,7 @@ fn taken(received: al2::Received, whole: &[u8], numbered: bool) {
         al2::Received::Unit {
             badge,
             missing,
-            expected: _,
+            due: _,
         } => answer::unit(
             badge,
             b" missing",

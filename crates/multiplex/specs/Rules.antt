@@ -113,8 +113,7 @@ DemuxKeeps =
       number = a .number;
       held = b .held;
       waiting = a .waiting;
-      sent = a .sent;
-      expected = a .expected;
+      numbers = a .numbers;
     }
 
 -- ---- the multiplexer
@@ -131,8 +130,7 @@ MuxKeeps =
       number = a .number;
       held = a .held;
       waiting = b .waiting;
-      sent = a .sent;
-      expected = a .expected;
+      numbers = a .numbers;
     }
 
 pub record WalkParts (s : Channels) (q : Piece) (r : Walk) (b : Bool) : Type 0 where

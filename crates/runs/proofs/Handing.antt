@@ -17,6 +17,7 @@ use Rattle.octets.specs.Each.{each-map, each-same}
 use Rattle.calls.specs.Refusal.{Told, refused, told}
 use Rattle.adaptation.specs.AL2.{whole, isSendable, Receipt, handedUp}
 use Rattle.adaptation.specs.AL2Claims.{asSent, wholesFrom, receipts, inOrder}
+use Rattle.adaptation.specs.declared.al2.Due.{Due}
 use Rattle.adaptation.specs.declared.al2.Number.the-variants.{Numbered}
 use Rattle.adaptation.proofs.Laws.{nextInOrder}
 use Rattle.channels.specs.declared.Channel.{Channel}
@@ -30,9 +31,9 @@ use Rattle.runs.specs.Demand.{withoutLast, isWaiting}
 use Rattle.runs.specs.Carried as carried
 use Rattle.runs.specs.Carried.{Run, beginning, ending, Coding, Reception, codedBy, takenBy, overRun, codings, receptions, unitsCoded, wholesTaken, receiptsTold}
 use Rattle.runs.proofs.Permitting.{by-layer}
-use Rattle.runs.proofs.Opening.{start-zero}
+use Rattle.runs.proofs.Opening.{start-alike}
 use Rattle.runs.proofs.Numbering.{onChannel}
-use Rattle.runs.proofs.Following.{sentOf, expectedOf, SentOne, sent-none, sent-one, sending-one, TakenOne, taken-none, taken-one, taking-one, other-sending, other-taking}
+use Rattle.runs.proofs.Following.{sentOf, dueOf, SentOne, sent-none, sent-one, sending-one, TakenOne, taken-none, taken-one, taking-one, other-sending, other-taking}
 use Rattle.runs.proofs.Unbroken.{Many, many-none, many-more, Follows, run-follows}
 use Rattle.runs.proofs.Stepping.{Kept}
 use Rattle.runs.proofs.Delivering.{begin-kept, demand-met}
@@ -62,7 +63,7 @@ codes n = record {
   blindH = λ c k. refl;
   new = λ m b. refl;
   layer = λ x c full. by-layer
-      (λ c. SentOne (channelOf (x .channels) n .sent) (added (called x c .answer) (codedBy n c)) (channelOf (called x c .left .channels) n .sent))
+      (λ c. SentOne (channelOf (x .channels) n .numbers .sent) (added (called x c .answer) (codedBy n c)) (channelOf (called x c .left .channels) n .numbers .sent))
       (λ m numbered u out.
       let r = layers.sending (record { channels = x .channels; output = out }) m numbered u in
       rw (told-coded n m numbered u out (r .left .output) (r .answer)) (sending-one (x .channels) full m u out n numbered))
@@ -70,7 +71,7 @@ codes n = record {
       rw (other-taking (x .channels) m numbered w n, added-none {B = Coding} (layers.taking (x .channels) m numbered w .answer) taken) sent-none) c;
 }
 
-takes : (n : ℕ) → Follows expectedOf n (takenBy n) TakenOne
+takes : (n : ℕ) → Follows dueOf n (takenBy n) TakenOne
 unfolding calledBy
 takes n = record {
   none = λ a. taken-none;
@@ -78,7 +79,7 @@ takes n = record {
   blindH = λ c k. refl;
   new = λ m b. refl;
   layer = λ x c full. by-layer
-      (λ c. TakenOne (channelOf (x .channels) n .expected) (added (called x c .answer) (takenBy n c)) (channelOf (called x c .left .channels) n .expected))
+      (λ c. TakenOne (channelOf (x .channels) n .numbers .due) (added (called x c .answer) (takenBy n c)) (channelOf (called x c .left .channels) n .numbers .due))
       (λ m numbered u out.
       let r = layers.sending (record { channels = x .channels; output = out }) m numbered u in
       rw (other-sending (x .channels) m numbered u out n, added-none {B = Reception} (r .answer) (λ k. sent k (r .left .output))) taken-none)
@@ -104,41 +105,45 @@ many-coded (many-more (sent-one u w h e) m) =
     let k = many-coded m in
     record { wholes = ap₂ (λ (a : List ℕ) (b : List (List ℕ)). a ∷ b) e (k .wholes); may = (h, k .may) }
 
-many-taken : {i j : ℕ} {l : List Reception} → Many TakenOne i l j
+many-taken : {i j : Due} {l : List Reception} → Many TakenOne i l j
     → map (λ (c : Reception). told (c .receipt)) l ≡ receipts (map (λ (c : Reception). c .octets) l) i
 unfolding receipts
 many-taken many-none = refl
 many-taken (many-more taken-none m) = many-taken m
 many-taken (many-more (taken-one w r e) m) = rw e (ap (λ (l : List (Told Receipt)). told r ∷ l) (many-taken m))
 
+-- what is due at first
+abbrev firstDue : Due
+firstDue = record { expected = 0; failed = 0 }
+
 module _ {R : ℕ → ℕ → Type 0} (r : Run R) (i : Side) (n : ℕ) where
   kept : Kept R (beginning r)
   kept = begin-kept R (r .lent)
 
-  at-first : (f : Channel → ℕ) → f vacant ≡ 0 → f (fresh 0 true) ≡ 0 → onChannel f (endAt (beginning r) i) n ≡ 0
-  at-first f v e = by i
+  at-first : {A : Type 0} (f : Channel → A) (a : A) → f vacant ≡ a → f (fresh 0 true) ≡ a → onChannel f (endAt (beginning r) i) n ≡ a
+  at-first f a v e = by i
     where
-      by : (i : Side) → onChannel f (endAt (beginning r) i) n ≡ 0
-      by near = start-zero f v e (placeOf start n)
-      by far = start-zero f v e (placeOf start n)
+      by : (i : Side) → onChannel f (endAt (beginning r) i) n ≡ a
+      by near = start-alike f a v e (placeOf start n)
+      by far = start-alike f a v e (placeOf start n)
 
   coded : Coded 0 (overRun (codedBy n) (beginning r) i (r .events))
-  coded = many-coded (rw (at-first sentOf refl refl) at (run-follows (codes n) (r .events) (beginning r) i kept (r .permitted)))
+  coded = many-coded (rw (at-first sentOf 0 refl refl) at (run-follows (codes n) (r .events) (beginning r) i kept (r .permitted)))
 
-  told-receipts : receiptsTold (receptions r i n) ≡ receipts (wholesTaken (receptions r i n)) 0
-  told-receipts = many-taken (rw (at-first expectedOf refl refl) at (run-follows (takes n) (r .events) (beginning r) i kept (r .permitted)))
+  told-receipts : receiptsTold (receptions r i n) ≡ receipts (wholesTaken (receptions r i n)) firstDue
+  told-receipts = many-taken (rw (at-first dueOf firstDue refl refl) at (run-follows (takes n) (r .events) (beginning r) i kept (r .permitted)))
 
 pub numbers-follow : carried.NumbersFollow
 numbers-follow R r i n = (coded r i n .wholes, told-receipts r i n)
 
 -- ---- what is handed up
 
-receipts-in-order : (i : ℕ) (us : List (List ℕ)) → i < 256 → MayFrom i us → receipts (wholesFrom i us) i ≡ inOrder i us
+receipts-in-order : (i : ℕ) (us : List (List ℕ)) → i < 256 → MayFrom i us → receipts (wholesFrom i us) (record { expected = i; failed = 0 }) ≡ inOrder i us
 unfolding receipts
 receipts-in-order i [] l m = refl
 receipts-in-order i (u ∷ us) l m =
-    rw (nextInOrder u i l (m .0))
-    (ap (λ (t : List (Told Receipt)). told (handedUp (asSent u) 0 ((i + 1) % 256)) ∷ t) (receipts-in-order ((i + 1) % 256) us (mod-lt (i + 1) (omega arith)) (m .1)))
+    rw (nextInOrder u (record { expected = i; failed = 0 }) l (m .0))
+    (ap (λ (t : List (Told Receipt)). told (handedUp (asSent u) 0 (record { expected = (i + 1) % 256; failed = 0 })) ∷ t) (receipts-in-order ((i + 1) % 256) us (mod-lt (i + 1) (omega arith)) (m .1)))
 
 wholes-without : (i : ℕ) (us : List (List ℕ)) → withoutLast (wholesFrom i us) ≡ wholesFrom i (withoutLast us)
 unfolding withoutLast
@@ -153,8 +158,8 @@ may-without i (u ∷ []) m = tt
 may-without i (u ∷ v ∷ us) m = (m .0, may-without ((i + 1) % 256) (v ∷ us) (m .1))
 
 in-order-by : (b : Bool) (us : List (List ℕ)) → MayFrom 0 us
-    → receipts (cond b (withoutLast (wholesFrom 0 us)) (wholesFrom 0 us)) 0 ≡ inOrder 0 (cond b (withoutLast us) us)
-in-order-by true us m = ap (λ (l : List (List ℕ)). receipts l 0) (wholes-without 0 us) ∙ receipts-in-order 0 (withoutLast us) (omega arith) (may-without 0 us m)
+    → receipts (cond b (withoutLast (wholesFrom 0 us)) (wholesFrom 0 us)) firstDue ≡ inOrder 0 (cond b (withoutLast us) us)
+in-order-by true us m = ap (λ (l : List (List ℕ)). receipts l firstDue) (wholes-without 0 us) ∙ receipts-in-order 0 (withoutLast us) (omega arith) (may-without 0 us m)
 in-order-by false us m = receipts-in-order 0 us (omega arith) m
 
 pub as-sent : carried.AsSent
@@ -169,4 +174,4 @@ carried-by-AL2 r i n q posted took =
     let b = isWaiting (endAt (ending r) i .link .channels) n in
     let sent : wholesTaken (receptions r (other i) n) ≡ cond b (withoutLast (wholesFrom 0 us)) (wholesFrom 0 us) =
     took ∙ as-sent r i n q ∙ ap (λ (l : List (List ℕ)). cond b (withoutLast l) l) (posted ∙ c .wholes) in
-    told-receipts r (other i) n ∙ ap (λ (l : List (List ℕ)). receipts l 0) sent ∙ in-order-by b us (c .may)
+    told-receipts r (other i) n ∙ ap (λ (l : List (List ℕ)). receipts l firstDue) sent ∙ in-order-by b us (c .may)

@@ -35,7 +35,7 @@ use Rattle.multiplex.proofs.Laws.{unitOn, Tells, tells-read}
 use Rattle.runs.specs.Runs.{Parcel, End}
 use Rattle.runs.proofs.Same.{Same, heldCount, waitingCount, same-self, same-puts}
 use Rattle.runs.proofs.Matching.{Matched, matched-same, posted-matched}
-use Rattle.runs.proofs.Opening.{opened-matched, start-zero, start-matched}
+use Rattle.runs.proofs.Opening.{opened-matched, start-alike, start-matched}
 use Rattle.runs.proofs.Shadowing.{UnitAlike, Shadow, shadow-same, Parallel}
 use Rattle.runs.proofs.Going.{Welcome, welcome-same, Going, Way, way-none, way-next, way-behind, came-parallel}
 use Rattle.runs.proofs.Accepting.{Made, parcel, sound, going, carried-over}
@@ -231,7 +231,7 @@ linked-start R t w h ew eh = record {
     same = same-self heldCount start;
     orderly₀ = startBounded h w eh ew .orderly;
     orderly = startBounded h w eh ew .orderly;
-    held = λ p i. rw (start-zero heldCount refl refl p) each-none;
+    held = λ p i. rw (start-alike heldCount 0 refl refl p) each-none;
   };
   alike = each-none;
 }

@@ -29,10 +29,10 @@ use Rattle.multiplex.specs.Calls.{ours, calledBy, called}
 use Rattle.runs.specs.Runs.{Parcel, End, lacksRoom, taking, arriving}
 use Rattle.runs.proofs.Same.{Same, same-self, same-at, same-put, same-walk, same-delivery}
 
-abbrev pub onChannel : (Channel → ℕ) → End → ℕ → ℕ
+abbrev pub onChannel : {A : Type 0} → (Channel → A) → End → ℕ → A
 onChannel f e n = f (channelOf (e .link .channels) n)
 
-module _ (f : Channel → ℕ) where
+module _ {A : Type 0} (f : Channel → A) where
   pub on-same : {s r : Channels} → Same f s r → (n : ℕ) → f (channelOf s n) ≡ f (channelOf r n)
   on-same {s} {r} e n = ap (λ (p : ℕ). f (channelAt s p)) (place-seats s r (e .seated) n) ∙ same-at f e (placeOf r n)
 

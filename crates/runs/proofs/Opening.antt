@@ -1,7 +1,7 @@
 -- A channel opened at both ends leaves them matched.
 --
 --   opened-matched   the seats stay alike; the new channel has nothing under way, and no other's place changes
---   start-zero       at first no place holds an octet, and its numbers are 0
+--   start-alike      at first every place is as channel 0, just opened, and a free one are alike
 --   start-matched    both ends fresh match
 --
 -- Assumes nothing.
@@ -72,10 +72,10 @@ none-waits zero i = refl
 none-waits (suc n) zero = refl
 none-waits (suc n) (suc i) = none-waits n i
 
-pub start-zero : (f : Channel → ℕ) → f vacant ≡ 0 → f (fresh 0 true) ≡ 0 → (p : ℕ) → f (channelAt start p) ≡ 0
+pub start-alike : {A : Type 0} (f : Channel → A) (a : A) → f vacant ≡ a → f (fresh 0 true) ≡ a → (p : ℕ) → f (channelAt start p) ≡ a
 unfolding start
-start-zero f v e zero = e
-start-zero f v e (suc p) = ap f (none-waits (placeCount - 1) p) ∙ v
+start-alike f a v e zero = e
+start-alike f a v e (suc p) = ap f (none-waits (placeCount - 1) p) ∙ v
 
 start-each : (p : ℕ) → Twin (channelAt start p) (channelAt start p)
 unfolding start

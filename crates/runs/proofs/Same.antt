@@ -32,11 +32,11 @@ map-set f [] i a = refl
 map-set f (x ∷ l) zero a = refl
 map-set f (x ∷ l) (suc i) a = ap (λ (m : List _). f x ∷ m) (map-set f l i a)
 
-pub record Same (f : Channel → ℕ) (s r : Channels) : Type 0 where
+pub record Same {A : Type 0} (f : Channel → A) (s r : Channels) : Type 0 where
   pub seated : seats s ≡ seats r
   pub fields : map f (s .at) ≡ map f (r .at)
 
-module _ (f : Channel → ℕ) where
+module _ {A : Type 0} (f : Channel → A) where
   pub same-self : (s : Channels) → Same f s s
   same-self s = record { seated = refl; fields = refl }
 
@@ -48,7 +48,7 @@ module _ (f : Channel → ℕ) where
 
   pub same-at : {s r : Channels} → Same f s r → (p : ℕ) → f (channelAt s p) ≡ f (channelAt r p)
   same-at {s} {r} a p =
-      sym (List·getD-map f (s .at) p vacant) ∙ ap (λ (l : List ℕ). getD l p (f vacant)) (a .fields) ∙ List·getD-map f (r .at) p vacant
+      sym (List·getD-map f (s .at) p vacant) ∙ ap (λ (l : List A). getD l p (f vacant)) (a .fields) ∙ List·getD-map f (r .at) p vacant
 
   pub same-put : (s : Channels) (p : ℕ) (c : Channel) → seat c ≡ seat (channelAt s p) → f c ≡ f (channelAt s p) → Same f (put s p c) s
   same-put s p c e g = record { seated = seats-put s p c e; fields = map-set-same f (s .at) p c vacant g }
@@ -56,7 +56,7 @@ module _ (f : Channel → ℕ) where
   pub same-puts : {s r : Channels} → Same f s r → (p : ℕ) (c d : Channel) → seat c ≡ seat d → f c ≡ f d → Same f (put s p c) (put r p d)
   same-puts {s} {r} a p c d e g = record {
     seated = map-set seat (s .at) p c ∙ ap₂ (λ (l : List Seat) (z : Seat). set l p z) (a .seated) e ∙ sym (map-set seat (r .at) p d);
-    fields = map-set f (s .at) p c ∙ ap₂ (λ (l : List ℕ) (z : ℕ). set l p z) (a .fields) g ∙ sym (map-set f (r .at) p d);
+    fields = map-set f (s .at) p c ∙ ap₂ (λ (l : List A) (z : A). set l p z) (a .fields) g ∙ sym (map-set f (r .at) p d);
   }
 
 -- ---- what calls leave
@@ -68,7 +68,7 @@ abbrev pub waitingCount : Channel → ℕ
 waitingCount c = c .waiting
 
 -- a walk changes how much waits, and a delivery how much is held
-module _ (f : Channel → ℕ) (blind : (c : Channel) (k : ℕ) → f (waiting c k) ≡ f c) where
+module _ {A : Type 0} (f : Channel → A) (blind : (c : Channel) (k : ℕ) → f (waiting c k) ≡ f c) where
   pub same-walk : (l : List Slot) (s : Channels) → Same f (walked s l .channels) s
   unfolding walked
   same-walk [] s = same-self f s
@@ -82,7 +82,7 @@ module _ (f : Channel → ℕ) (blind : (c : Channel) (k : ℕ) → f (waiting c
       (λ b. by-test (λ (w : Walk). Same f (w .channels) s) (goesOn c (y .octets)) (λ g. same-after f (same-walk l (left s p k)) gone) (λ g. gone)))
       (λ i. same-self f s)
 
-module _ (f : Channel → ℕ) (blind : (c : Channel) (k : ℕ) → f (holding c k) ≡ f c) where
+module _ {A : Type 0} (f : Channel → A) (blind : (c : Channel) (k : ℕ) → f (holding c k) ≡ f c) where
   same-took : (l : List Piece) (r : Delivery) (xs : List ℕ) → Same f (tookAll r l xs .channels) (r .channels)
   unfolding tookAll
   same-took [] r xs = same-self f (r .channels)

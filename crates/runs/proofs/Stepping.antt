@@ -17,6 +17,7 @@ use borrow.Author.Tests.{ltb-false, leb-false}
 use Rattle.calls.specs.Refusal.{refused, Ended, refusing}
 use Rattle.calls.proofs.Laws.{by-test, both-tests, checked-keeps}
 use Rattle.table.specs.Table.{replaced}
+use Rattle.adaptation.specs.declared.al2.Numbers.{Numbers}
 use Rattle.channels.specs.declared.Channel.{Channel}
 use Rattle.channels.specs.declared.Channels.{Channels}
 use Rattle.channels.specs.Channels.{placeOf, freePlace, channelAt, put, opened, openTests, numbering, placeCount}
@@ -38,24 +39,23 @@ use Rattle.runs.proofs.Coming.{come-pair}
 
 -- ---- AL2
 
-module _ (f : Channel → ℕ) (blind : (c : Channel) (i j : ℕ) → f (numbering c i j) ≡ f c) (s : Channels) (n : ℕ) (numbered : Bool) where
+module _ (f : Channel → ℕ) (blind : (c : Channel) (m : Numbers) → f (numbering c m) ≡ f c) (s : Channels) (n : ℕ) (numbered : Bool) where
   abbrev p : ℕ
   p = placeOf s n
 
-  renumbered : (i j : ℕ) → Same f s (put s p (numbering (channelAt s p) i j))
-  renumbered i j = same-back f (same-put f s p (numbering (channelAt s p) i j) refl (blind (channelAt s p) i j))
+  renumbered : (m : Numbers) → Same f s (put s p (numbering (channelAt s p) m))
+  renumbered m = same-back f (same-put f s p (numbering (channelAt s p) m) refl (blind (channelAt s p) m))
 
   pub same-sending : (u out : List ℕ) → Same f s (layers.sending (record { channels = s; output = out }) n numbered u .left .channels)
   unfolding layers.sending
   same-sending u out =
       checked-keeps (record { channels = s; output = out }) (layers.sendingTests (record { channels = s; output = out }) n numbered u)
       (λ (r : layers.SendLent). Same f s (r .channels)) _ (same-self f s)
-      (λ none. by-test (λ (c : Channel). Same f s (put s p c)) numbered (λ e. renumbered _ _)
-      (λ e. same-back f (same-put f s p (channelAt s p) refl refl)))
+      (λ none. renumbered _)
 
   pub same-taking : (w : List ℕ) → Same f s (layers.taking s n numbered w .left)
   unfolding layers.taking
-  same-taking w = checked-keeps s (layers.takingTests s n numbered w) (λ (r : Channels). Same f s r) _ (same-self f s) (λ none. renumbered _ _)
+  same-taking w = checked-keeps s (layers.takingTests s n numbered w) (λ (r : Channels). Same f s r) _ (same-self f s) (λ none. renumbered _)
 
 -- ---- at both ends
 
@@ -144,9 +144,9 @@ module _ {R : ℕ → ℕ → Type 0} (x : World) (k : Kept R x) where
   unfolding calledBy
   layer-kept i =
       by-layer (λ c. Pair R (with (endAt x i) (called (endAt x i .link) c .left)) (endAt x (other i)))
-      (λ n numbered u out. layer-pair (pair-at i) _ (same-sending waitingCount (λ c i j. refl) _ n numbered u out)
-      (same-sending heldCount (λ c i j. refl) _ n numbered u out))
-      (λ n numbered w. layer-pair (pair-at i) _ (same-taking waitingCount (λ c i j. refl) _ n numbered w) (same-taking heldCount (λ c i j. refl) _ n numbered w))
+      (λ n numbered u out. layer-pair (pair-at i) _ (same-sending waitingCount (λ c m. refl) _ n numbered u out)
+      (same-sending heldCount (λ c m. refl) _ n numbered u out))
+      (λ n numbered w. layer-pair (pair-at i) _ (same-taking waitingCount (λ c m. refl) _ n numbered w) (same-taking heldCount (λ c m. refl) _ n numbered w))
 
   refused-kept : (i : Side) (c : Call) (j : ℕ) → called (endAt x i .link) c .answer ≡ refused j
       → Pair R (with (endAt x i) (called (endAt x i .link) c .left)) (endAt x (other i))

@@ -1,7 +1,7 @@
 -- What AL2's calls on a channel make over a run, one call going on where the one before ended.
 --
 --   Many One        steps of One, one behind another
---   Follows         what is needed of a thing that calls by AL2 on channel n add to a list, and of the number of that channel that they go by
+--   Follows         what is needed of a thing that calls by AL2 on channel n add to a list, and of what they go by of that channel
 --   run-follows     then over a run it goes on from call to call
 --
 -- Assumes nothing.
@@ -27,21 +27,21 @@ use Rattle.runs.proofs.Same.{Same}
 use Rattle.runs.proofs.Numbering.{onChannel, on-same, on-opened, post-keeps, pay-keeps, come-keeps}
 use Rattle.runs.proofs.Stepping.{Kept, step-kept}
 
-pub data Many {A : Type 0} (One : ℕ → List A → ℕ → Type 0) : ℕ → List A → ℕ → Type 0 where
-  many-none : {a : ℕ} → Many One a [] a
-  many-more : {a b c : ℕ} {l m : List A} → One a l b → Many One b m c → Many One a (l ++ m) c
+pub data Many {A B : Type 0} (One : B → List A → B → Type 0) : B → List A → B → Type 0 where
+  many-none : {a : B} → Many One a [] a
+  many-more : {a b c : B} {l m : List A} → One a l b → Many One b m c → Many One a (l ++ m) c
 
-pub record Follows {A : Type 0} (f : Channel → ℕ) (n : ℕ) (g : Call → Answer → List A) (One : ℕ → List A → ℕ → Type 0) : Type 0 where
-  pub none : (a : ℕ) → One a [] a
+pub record Follows {A B : Type 0} (f : Channel → B) (n : ℕ) (g : Call → Answer → List A) (One : B → List A → B → Type 0) : Type 0 where
+  pub none : (a : B) → One a [] a
   pub blindW : (c : Channel) (k : ℕ) → f (waiting c k) ≡ f c
   pub blindH : (c : Channel) (k : ℕ) → f (holding c k) ≡ f c
   pub new : (m : ℕ) (b : Bool) → f (fresh m b) ≡ f vacant
   pub layer : (x : Link) (c : Call) → length (x .channels .at) ≡ placeCount → isByLayer c ≡ true
       → One (f (channelOf (x .channels) n)) (added (called x c .answer) (g c)) (f (channelOf (called x c .left .channels) n))
 
-module _ {A : Type 0} {f : Channel → ℕ} {n : ℕ} {g : Call → Answer → List A} {One : ℕ → List A → ℕ → Type 0} (k : Follows f n g One) where
-  -- where the number stays, nothing is added
-  stays : {a b : ℕ} → b ≡ a → One a [] b
+module _ {A B : Type 0} {f : Channel → B} {n : ℕ} {g : Call → Answer → List A} {One : B → List A → B → Type 0} (k : Follows f n g One) where
+  -- where that stays, nothing is added
+  stays : {a b : B} → b ≡ a → One a [] b
   stays {a} e = rw e (k .none a)
 
   refused-stays : (x : Link) (c : Call) (j : ℕ) → called x c .answer ≡ refused j

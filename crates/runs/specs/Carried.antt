@@ -13,8 +13,8 @@
 --   codings, receptions   those of a run, in order
 --   unitsCoded, wholesCoded, wholesTaken, receiptsTold   what codings and receptions have
 --   wholly e n us      of the units us, posted on channel n at the end e in some coding, those wholly sent
---   FollowIn, NumbersFollow   AL2's numbers follow one another, those sent and those expected: of codings and receptions, and so over a run, at
---                      each end and on each channel
+--   FollowIn, NumbersFollow   AL2's numbers follow one another, those sent and what is due: of codings and receptions, and so over a run, at each
+--                      end and on each channel
 --   ByAL2, CarriedByAL2   every unit coded is posted, every unit delivered is taken, and no octet changes: each unit wholly sent is handed up
 --                      as it was handed in, with badge 0 and none missing; of both ends, and so at the end of a run
 --   ByPlainAL2, CarriedByPlainAL2   a unit that AL2 sent without a number is handed up so too
@@ -39,6 +39,7 @@ use Rattle.adaptation.specs.Handed.{handed}
 use Rattle.adaptation.specs.AL1.{passed}
 use Rattle.adaptation.specs.AL2.{whole, isSendable, Receipt, handedUp, received}
 use Rattle.adaptation.specs.AL2Claims.{asSent, wholesFrom, receipts, inOrder}
+use Rattle.adaptation.specs.declared.al2.Due.{Due}
 use Rattle.adaptation.specs.declared.al2.Number.the-variants.{Plain}
 use Rattle.checks.specs.Width.{kindAt}
 use Rattle.adaptation.specs.Sending.{Sends}
@@ -158,7 +159,7 @@ abbrev pub wholly : End → ℕ → List (List ℕ) → List (List ℕ)
 wholly e n us = cond (isWaiting (e .link .channels) n) (withoutLast us) us
 
 abbrev pub FollowIn : List Coding → List Reception → Type 0
-FollowIn coded got = (wholesCoded coded ≡ wholesFrom 0 (unitsCoded coded)) × (receiptsTold got ≡ receipts (wholesTaken got) 0)
+FollowIn coded got = (wholesCoded coded ≡ wholesFrom 0 (unitsCoded coded)) × (receiptsTold got ≡ receipts (wholesTaken got) (record { expected = 0; failed = 0 }))
 
 abbrev pub NumbersFollow : Type 1
 NumbersFollow = (R : ℕ → ℕ → Type 0) (r : Run R) (i : Side) (n : ℕ) → FollowIn (codings r i n) (receptions r i n)
@@ -184,7 +185,7 @@ CarriedByAL1 = (r : Run _≡_) → ByAL1 (ending r)
 
 abbrev pub ByPlainAL2 : World → Type 0
 ByPlainAL2 x =
-    (i : Side) (n j e : ℕ) → endAt x (other i) .coming ≡ [] → j < length (whollySent (endAt x i) n) → (u : List ℕ) → isSendable Plain u ≡ true
+    (i : Side) (n j : ℕ) (e : Due) → endAt x (other i) .coming ≡ [] → j < length (whollySent (endAt x i) n) → (u : List ℕ) → isSendable Plain u ≡ true
     → getD (whollySent (endAt x i) n) j [] ≡ whole Plain u
     → received false (getD (unitsOn n (endAt x (other i) .delivered)) j []) e ≡ told (handedUp (asSent u) 0 e)
 

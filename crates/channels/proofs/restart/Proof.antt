@@ -1,4 +1,4 @@
--- The search decides; else nothing is held and both numbers are 0. Assumes nothing.
+-- The search decides; else nothing is held, and the numbers are those at first. Assumes nothing.
 use borrow.Author.Needs.{needs}
 use borrow.Author.Tests.{lt-ltb, le-ltb}
 use Rattle.channels.specs.Channels.{reset}
@@ -12,11 +12,11 @@ returns c = rw (c .refused .ensures, ← c .before .before .place-of .ensures, l
 returns-2 : tie.Need-returns-2
 unfolding reset
 returns-2 c =
-    let p = c .before .before in
-    rw (c .done .ensures, ← p .before .place-of .ensures, lt-ltb _ _ (p .if1 .left))
+    let p = c .before .before .before in
+    rw (c .done .ensures, c .before .first-numbers .ensures, ← p .before .place-of .ensures, lt-ltb _ _ (p .if1 .left))
 
 pub restart-spec : {M : Type 1} → statement M
 restart-spec =
     tie.close
-    (tie.spec (λ c κs. search needs) (λ c κs. search needs) returns (λ c. search needs) (λ c. search needs) (λ c. search needs)
-    (λ c. search needs) (λ c κs. search needs) returns-2)
+    (tie.spec (λ c κs. search needs) (λ c κs. search needs) returns (λ c. search needs) (λ c. search needs) (λ c κs. search needs)
+    (λ c. search needs) (λ c. search needs) (λ c κs. search needs) returns-2)

@@ -11,9 +11,10 @@ returns c = rw (lt-leb _ mostMissing (c .if1 .taken))
 
 returns-2 : tie.Need-returns-2
 unfolding arrival
-returns-2 c = rw (le-leb _ mostMissing (c .if1 .left))
+returns-2 c = rw (le-leb _ mostMissing (c .before .before .if1 .left), c .before .missing-of .ensures, c .accept .ensures)
 
 pub arrive-spec : {M : Type 1} → statement M
 arrive-spec =
     tie.close
-    (tie.spec (λ c. search needs) (λ c. search needs) returns (λ c. search needs) (λ c. search needs) (λ c. search needs) returns-2)
+    (tie.spec (λ c. search needs) (λ c. search needs) (λ c. search needs) returns (λ c. search needs) (λ c κs. search needs)
+    (λ c κs. search needs) returns-2)

@@ -14,17 +14,17 @@ returns c =
     let r = c .before .before in
     let a = r .before .before .before .before .args in
     let u = unitOf (a .numbered) (now (a .whole)) in
-    c .settle .ensures u ∙ ap (λ (t : Told Parts). byParts t (a .expected))
+    c .settle .ensures u ∙ ap (λ (t : Told Parts). byParts t (a .due))
     (ap (λ (x : Apart). apartSays x u) (sym (r .number .given .1)) ∙ r .before .before .read .ensures)
-    ∙ sym (received-apart (a .numbered) (now (a .whole)) (a .expected))
+    ∙ sym (received-apart (a .numbered) (now (a .whole)) (a .due))
 
 returns-2 : tie.Need-returns-2
 returns-2 c =
     let r = c .before in
     let a = r .before .before .before .before .args in
     let u = unitOf (a .numbered) (now (a .whole)) in
-    ap (λ (t : Told Parts). byParts t (a .expected)) (ap (λ (x : Apart). apartSays x u) (sym (r .k .given .1)) ∙ r .before .before .read .ensures)
-    ∙ sym (received-apart (a .numbered) (now (a .whole)) (a .expected))
+    ap (λ (t : Told Parts). byParts t (a .due)) (ap (λ (x : Apart). apartSays x u) (sym (r .k .given .1)) ∙ r .before .before .read .ensures)
+    ∙ sym (received-apart (a .numbered) (now (a .whole)) (a .due))
 
 pub receive-spec : {M : Type 1} → statement M
 receive-spec =

@@ -11,19 +11,19 @@ returns-2 : tie.Need-returns-2
 returns-2 c =
     let k = c .before .before in
     let r = k .before .before .before .before in
-    let f = r .before .before .before .before in
+    let f = r .before .before .before .before .before in
     rw (c .unsent2 .ensures)
     (sending-refused _ _ _ _ _ (f .before .place-of .ensures) (f .if1 .left) _ _
-    (rw (k .k .given .1, r .before .before .number-of .ensures) at (r .send .ensures)))
+    (rw (k .k .given .1, r .before .before .number-as .ensures) at (r .send .ensures)))
 
 returns-3 : tie.Need-returns-3
 returns-3 c =
     let k = c .before .before in
     let r = k .before .before .before .before in
-    let f = r .before .before .before .before in
+    let f = r .before .before .before .before .before in
     rw (c .rise .ensures)
     (sending-sent _ _ _ _ _ (f .before .place-of .ensures) (f .if1 .left) _ _
-    (rw (k .octets .given .1, r .before .before .number-of .ensures) at (r .send .ensures)))
+    (rw (k .octets .given .1, r .before .before .number-as .ensures) at (r .send .ensures)))
 
 pub send-spec : {M : Type 1} → statement M
 send-spec =

@@ -1,4 +1,4 @@
--- The search decides; else what AL2 says of the unit, and the number that it then expects. Assumes nothing.
+-- The search decides; else what AL2 says of the unit, and what is then due. Assumes nothing.
 use borrow.Author.Needs.{needs}
 use Rattle.channels.proofs.Layering.{taking-closed, taking-by}
 use Rattle.channels.proofs.layers.take.Statement.{statement}
@@ -11,14 +11,14 @@ returns-2 : tie.Need-returns-2
 returns-2 c =
     let k = c .before .before in
     let r = k .before .before in
-    let f = r .before .before in
+    let f = r .before .before .before .before in
     rw (c .untaken2 .ensures) (taking-by _ _ _ _ _ (f .before .place-of .ensures) (f .if1 .left) _ (rw (k .received .given .1) at (r .receive .ensures)))
 
 returns-3 : tie.Need-returns-3
 returns-3 c =
     let k = c .before in
     let r = k .before .before in
-    let f = r .before .before in
+    let f = r .before .before .before .before in
     rw (k .enum-told .given .1, c .expect .ensures, ← f .before .place-of .ensures)
     (taking-by _ _ _ _ _ (f .before .place-of .ensures) (f .if1 .left) _ (rw (k .enum-told .given .1) at (r .receive .ensures)))
 
@@ -26,7 +26,7 @@ returns-4 : tie.Need-returns-4
 returns-4 c =
     let k = c .before .before in
     let r = k .before .before in
-    let f = r .before .before in
+    let f = r .before .before .before .before in
     rw (c .expect2 .ensures) (taking-by _ _ _ _ _ (f .before .place-of .ensures) (f .if1 .left) _ (rw (k .received2 .given .1) at (r .receive .ensures)))
 
 pub take-spec : {M : Type 1} → statement M

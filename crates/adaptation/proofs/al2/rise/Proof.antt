@@ -1,7 +1,7 @@
 -- By whether units have numbers. Assumes nothing.
 use borrow.Author.Needs.{needs}
-use Rattle.channels.proofs.layers.rise.Statement.{statement}
-use Rattle.channels.proofs.layers.rise.Tie as tie
+use Rattle.adaptation.proofs.al2.rise.Statement.{statement}
+use Rattle.adaptation.proofs.al2.rise.Tie as tie
 
 returns : tie.Need-returns
 returns c = rw (c .before .if1 .taken)
