@@ -15,6 +15,7 @@
 --   sentIsWhole, readBack, readIsWhole, nextInOrder, plainReceived   AL2's sending and receiving undo each other (InStep)
 --   inStep, wholesFrom-append, numberAfter-append, dueAfter-append, numberAfter-lt
 --                                        .. and so do units that follow one another, and their numbers (InStep)
+--   missingIsLost                        what is told as missing is what was lost (Missing)
 --   badge-most                           the badges' numbers go to 4 (Unique)
 --   says-once, passed-once, read-once, received-once   one answer of AL1 and AL2 (Unique)
 --
@@ -27,4 +28,5 @@ pub use Rattle.adaptation.proofs.Badges.{foundIsShown, badge-exactly, o
 pub use Rattle.adaptation.proofs.Theorems.{sent-small, handed-small, sentIsHandedUp, encodedUnique, receivedUnique}
 pub use Rattle.adaptation.proofs.InStep.{sentIsWhole, readBack, readIsWhole, nextInOrder, plainReceived, inStep}
 pub use Rattle.adaptation.proofs.InStep.{wholesFrom-append, numberAfter-append, dueAfter-append, numberAfter-lt}
+pub use Rattle.adaptation.proofs.Missing.{missingIsLost}
 pub use Rattle.adaptation.proofs.Unique.{badge-most, says-once, passed-once, read-once, received-once}

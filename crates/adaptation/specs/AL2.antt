@@ -22,7 +22,8 @@
 --   mostMissing     the largest that counts as missing units, and not as a misdelivered one
 --   mostFailed      the most failed units that are counted
 --   accepting n     what is due once number n was accepted: the one after it, and no unit failed since
---   failing e       what is due once a unit with a number failed: one failed unit more than e has
+--   counting e      what is due once one unit more is counted as failed, where e was
+--   failing n e     what is due once a unit failed, where e was: it is counted if it has a number
 --   arrival n e     what becomes of number n where e is due (house): up to 127 past the number expected, it is accepted, and as many are
 --                   missing as that, less the units that failed since the last accepted one, and never below 0; else it is misdelivered
 --   Receipt         what becomes of a unit: it is handed up or discarded, with how many are missing before it, and what is due next
@@ -126,8 +127,12 @@ mostFailed = 127
 abbrev pub accepting : ℕ → Due
 accepting n = record { expected = (n + 1) % 256; failed = 0 }
 
-abbrev pub failing : Due → Due
-failing e = record { expected = e .expected; failed = min (e .failed + 1) mostFailed }
+abbrev pub counting : Due → Due
+counting e = record { expected = e .expected; failed = min (e .failed + 1) mostFailed }
+
+abbrev pub failing : Number → Due → Due
+failing (Numbered n) e = counting e
+failing Plain e = e
 
 -- a difference of natural numbers is never below 0
 unfoldable pub arrival : ℕ → Due → Arrival
@@ -148,9 +153,8 @@ delivered (Taken k x) u e = handedUp (handed Clean u) k x
 delivered Misdelivered u e = discarded 0 e
 
 abbrev pub settled : Number → Bool → List ℕ → Due → Receipt
-settled (Numbered n) false u e = handedUp (handed CheckFailed u) 0 (failing e)
+settled n false u e = handedUp (handed CheckFailed u) 0 (failing n e)
 settled (Numbered n) true u e = delivered (arrival n e) u e
-settled Plain false u e = handedUp (handed CheckFailed u) 0 e
 settled Plain true u e = handedUp (handed Clean u) 0 e
 
 abbrev pub receiptOf : Bool → List ℕ → Due → Receipt

@@ -6,13 +6,12 @@ use checks::Width;
 use checks::seals;
 ghost use mathlib.Core.Path.{_≡_};
 ghost use mathlib.Core.List.{List};
-ghost use mathlib.Core.Bool.{false};
 ghost use Prim.Native.Nat.{ℕ, _-_, _≤_};
 ghost use lib.ListN.{length};
 ghost use Rattle.octets.specs.Written.{written};
 ghost use Rattle.calls.specs.Refusal.{told, ended, lengthSays};
 ghost use Rattle.adaptation.specs.AL2.{firstNumbers, numberAs, risen, field, fieldLength, sent, apart, unitOf};
-ghost use Rattle.adaptation.specs.AL2.{accepting, failing, arrival, settled, received, apartSays, receivedSays};
+ghost use Rattle.adaptation.specs.AL2.{accepting, counting, failing, arrival, settled, received, apartSays, receivedSays};
 
 // How far past the number expected a number counts as one after missing units, and not as misdelivered (house).
 const MOST_MISSING: u16 = 127;
@@ -196,9 +195,9 @@ fn accept(number: u8) -> Due
     }
 }
 
-// What is due once a unit with a number failed: one failed unit more, up to the most that are counted.
-fn fail(due: Due) -> Due
-    ensures { λ r. ⌜ r ≡ failing due ⌝ }
+// What is due once one unit more is counted as failed, up to the most that are.
+fn count(due: Due) -> Due
+    ensures { λ r. ⌜ r ≡ counting due ⌝ }
 {
     let mut next = due;
     if due.failed < MOST_FAILED {
@@ -207,6 +206,16 @@ fn fail(due: Due) -> Due
     }
     next.failed = MOST_FAILED;
     next
+}
+
+// What is due once a unit failed: it is counted, if it has a number.
+fn fail(number: Number, due: Due) -> Due
+    ensures { λ r. ⌜ r ≡ failing number due ⌝ }
+{
+    match number {
+        Number::Numbered(_) => count(due),
+        Number::Plain => due,
+    }
 }
 
 // What becomes of a number, by what is due.
@@ -222,30 +231,16 @@ pub fn arrive(number: u8, due: Due) -> Arrival
     Arrival::Taken { missing, due: next }
 }
 
-// A unit whose check disagrees is handed up, and counted if units have numbers.
-fn settle_failed(number: Number, due: Due) -> Received
-    ensures { λ r. ⌜ ((u : List ℕ) → receivedSays r u due ≡ told (settled number false u due)) ⌝ }
-{
-    match number {
-        Number::Plain => Received::Unit {
-            badge: Badge::CheckFailed,
-            missing: 0,
-            due,
-        },
-        Number::Numbered(_) => Received::Unit {
-            badge: Badge::CheckFailed,
-            missing: 0,
-            due: fail(due),
-        },
-    }
-}
-
 // The check is looked at first, then the number, if there is one.
 fn settle(number: Number, agrees: bool, due: Due) -> Received
     ensures { λ r. ⌜ ((u : List ℕ) → receivedSays r u due ≡ told (settled number agrees u due)) ⌝ }
 {
     if !agrees {
-        return settle_failed(number, due);
+        return Received::Unit {
+            badge: Badge::CheckFailed,
+            missing: 0,
+            due: fail(number, due),
+        };
     }
     match number {
         Number::Plain => Received::Unit {

@@ -7,7 +7,7 @@ use Rattle.multiplex.proofs.Laws.{calls-refuse, always-sound}
 use Rattle.record.proofs.Laws.{recording}
 use Rattle.golay.proofs.Laws.{golay}
 use Rattle.packets.proofs.Laws.{packets}
-use Rattle.runs.proofs.Laws.{demand-met, unit-to-unit, over-packets}
+use Rattle.runs.proofs.Laws.{demand-met, unit-to-unit, over-packets, missing-over-runs}
 use Rattle.demands.specs.Demands.{Demands}
 use Rattle.demands.proofs.First.{demand1}
 use Rattle.demands.proofs.Ordered.{orders}
@@ -28,6 +28,7 @@ demands = record {
   units = unit-to-unit;
   third = demand3;
   overPackets = over-packets;
+  missing = missing-over-runs;
   packets = packets;
   headers = golay;
   host = host;

@@ -14,6 +14,7 @@
 --   1 and 3 of what the C host calls: specs/Host.antt, `Host`
 --   2 and 3 from packets to units (document 02, ticket 4): `OverPackets` in the specs/OverPackets.antt of `runs`; of packets by themselves `Packets` in the
 --   specs/Claims.antt of `packets`, and of the code of their headers `Golay` in that of `golay`
+--   and what AL2 tells as missing over a run (document 02, ticket 5): `MissingOverRuns` in the specs/Missing.antt of `runs`
 -- and of the call record (document 02, ticket 1): `Recording` in the specs/Claims.antt of `record`, with its form in specs/Form.antt there.
 --
 -- Assumes nothing.
@@ -21,6 +22,7 @@ use Rattle.record.specs.Claims.{Recording}
 use Rattle.golay.specs.Claims.{Golay}
 use Rattle.packets.specs.Claims.{Packets}
 use Rattle.runs.specs.OverPackets.{OverPackets}
+use Rattle.runs.specs.Missing.{MissingOverRuns}
 use Rattle.runs.specs.Claims.{DemandMet}
 use Rattle.runs.specs.Carried.{UnitToUnit}
 use Rattle.multiplex.specs.Calls.{AlwaysSound}
@@ -43,6 +45,7 @@ pub record Demands : Type 1 where
   pub units : UnitToUnit
   pub third : Demand3
   pub overPackets : OverPackets
+  pub missing : MissingOverRuns
   pub packets : Packets
   pub headers : Golay
   pub host : Host

@@ -1,6 +1,8 @@
 -- From packets to units: what is claimed of runs, of runs over packets.
 --
---   parcel-run         a run over packets as a run
+--   all, whole, parcel-run   a run over packets as a run
+--   listed             what AL2 sent and took is the same in both
+--   crossed            what is said of the end of one, and of what AL2 sent at one end and took at the other, is said of the other
 --   goes-on            every run goes on with whatever may come
 --   on-way-packable    what is on its way can be written
 --   packets-as-sent, packet-numbers, packets-by-AL1, packets-by-AL2, packets-by-plain-AL2, packets-by-AL1M   the claims
@@ -13,7 +15,7 @@ use Rattle.multiplex.specs.Calls.{Call, Answer, ours}
 use Rattle.packets.specs.Packet.{read}
 use Rattle.runs.specs.Runs.{Side, other, World, run}
 use Rattle.runs.specs.Demand.{PermittedAll}
-use Rattle.runs.specs.Carried.{Run, ending, Coding, Reception, codedBy, takenBy, overRun, codings}
+use Rattle.runs.specs.Carried.{Run, ending, Coding, Reception, codedBy, takenBy, overRun, codings, receptions}
 use Rattle.runs.specs.Carried.{UnitsAsSent, FollowIn, ByAL1, ByAL2, ByPlainAL2, ByAL1M}
 use Rattle.runs.specs.OverPackets.{PacketRun, packetBeginning, packetEnding, parcelEvents, Simulated, GoesOn, OnWayPackable, overPackets}
 use Rattle.runs.specs.Hearing.{PacketEvent, packetStep, packetRun, PacketPermitted, PacketsPermitted}
@@ -28,21 +30,29 @@ module _ {R : ℕ → ℕ → Type 0} (r : PacketRun R) where
   at-first : WorldPackable (packetBeginning r)
   at-first = first-packable (r .lent)
 
-  all : PermittedAll R (λ j. ours) (packetBeginning r) (parcelEvents (r .events))
+  pub all : PermittedAll R (λ j. ours) (packetBeginning r) (parcelEvents (r .events))
       × (run (λ j. ours) (packetBeginning r) (parcelEvents (r .events)) ≡ packetEnding r)
       × WorldPackable (packetEnding r)
   all = run-same R (r .events) (packetBeginning r) at-first (r .permitted)
 
-  abbrev whole : Run R
+  abbrev pub whole : Run R
   whole = record { lent = r .lent; events = parcelEvents (r .events); permitted = all .0 }
 
   ended : (P : World → Type 0) → P (ending whole) → P (packetEnding r)
   ended P = subst P (all .1)
 
   -- what AL2 sent and took is the same
-  listed : {A : Type 0} (f : Call → Answer → List A) (i : Side)
+  pub listed : {A : Type 0} (f : Call → Answer → List A) (i : Side)
       → overRun f (packetBeginning r) i (parcelEvents (r .events)) ≡ overPackets f (packetBeginning r) i (r .events)
   listed f i = calls-same f i R (r .events) (packetBeginning r) at-first (r .permitted)
+
+  pub crossed : (i : Side) (n : ℕ) (P : World → List Coding → List Reception → Type 0)
+      → P (ending whole) (codings whole i n) (receptions whole (other i) n) → P (packetEnding r) (packetCodings r i n) (packetReceptions r (other i) n)
+  crossed i n P p =
+      let x = ending whole in
+      ended (λ (y : World). P y (packetCodings r i n) (packetReceptions r (other i) n))
+      (subst (λ (l : List Coding). P x l (packetReceptions r (other i) n)) (listed (codedBy n) i)
+      (subst (λ (l : List Reception). P x (codings whole i n) l) (listed (takenBy n) (other i)) p))
 
 pub parcel-run : Simulated
 parcel-run R r = record { run = whole r; events = refl; begins = refl; ends = all r .1 }
@@ -84,11 +94,7 @@ pub packets-by-AL1 : PacketsByAL1
 packets-by-AL1 r = ended r ByAL1 (carried-by-AL1 (whole r))
 
 pub packets-by-AL2 : PacketsByAL2
-packets-by-AL2 r i n =
-    let x = ending (whole r) in
-    ended r (λ (y : World). ByAL2 y i n (packetCodings r i n) (packetReceptions r (other i) n))
-    (subst (λ (l : List Coding). ByAL2 x i n l (packetReceptions r (other i) n)) (listed r (codedBy n) i)
-    (subst (λ (l : List Reception). ByAL2 x i n (codings (whole r) i n) l) (listed r (takenBy n) (other i)) (carried-by-AL2 (whole r) i n)))
+packets-by-AL2 r i n = crossed r i n (λ x coded got. ByAL2 x i n coded got) (carried-by-AL2 (whole r) i n)
 
 pub packets-by-plain-AL2 : PacketsByPlainAL2
 packets-by-plain-AL2 r = ended r ByPlainAL2 (carried-by-plain-AL2 (whole r))

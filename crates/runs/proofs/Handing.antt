@@ -1,6 +1,10 @@
 -- From unit to unit: AL2's numbers in step over a run, and what each layer hands up.
 --
+--   MayFrom i l        each of the units l may be sent, from number i on
+--   Coded, coded       what AL2 sent in a run: the numbers follow one another, and the units may be sent
+--   told-receipts      .. and what it took: what is due follows too
 --   numbers-follow     AL2's numbers follow one another over a run
+--   wholes-without, may-without   the same without the last unit
 --   as-sent            what is delivered is what was wholly sent, where no octet changes on the way
 --   carried-by-AL2     each unit wholly sent is handed up as it was handed in, with badge 0 and none missing
 --
@@ -89,14 +93,13 @@ takes n = record {
 
 -- ---- over a run
 
--- each of the units may be sent, from number i on
-abbrev MayFrom : ℕ → List (List ℕ) → Type 0
+abbrev pub MayFrom : ℕ → List (List ℕ) → Type 0
 MayFrom i [] = Unit {0}
 MayFrom i (u ∷ l) = (isSendable (Numbered i) u ≡ true) × MayFrom ((i + 1) % 256) l
 
-record Coded (i : ℕ) (l : List Coding) : Type 0 where
-  wholes : map (λ (c : Coding). c .octets) l ≡ wholesFrom i (map (λ (c : Coding). c .unit) l)
-  may : MayFrom i (map (λ (c : Coding). c .unit) l)
+pub record Coded (i : ℕ) (l : List Coding) : Type 0 where
+  pub wholes : map (λ (c : Coding). c .octets) l ≡ wholesFrom i (map (λ (c : Coding). c .unit) l)
+  pub may : MayFrom i (map (λ (c : Coding). c .unit) l)
 
 many-coded : {i j : ℕ} {l : List Coding} → Many SentOne i l j → Coded i l
 many-coded many-none = record { wholes = refl; may = tt }
@@ -127,10 +130,10 @@ module _ {R : ℕ → ℕ → Type 0} (r : Run R) (i : Side) (n : ℕ) where
       by near = start-alike f a v e (placeOf start n)
       by far = start-alike f a v e (placeOf start n)
 
-  coded : Coded 0 (overRun (codedBy n) (beginning r) i (r .events))
+  pub coded : Coded 0 (overRun (codedBy n) (beginning r) i (r .events))
   coded = many-coded (rw (at-first sentOf 0 refl refl) at (run-follows (codes n) (r .events) (beginning r) i kept (r .permitted)))
 
-  told-receipts : receiptsTold (receptions r i n) ≡ receipts (wholesTaken (receptions r i n)) firstDue
+  pub told-receipts : receiptsTold (receptions r i n) ≡ receipts (wholesTaken (receptions r i n)) firstDue
   told-receipts = many-taken (rw (at-first dueOf firstDue refl refl) at (run-follows (takes n) (r .events) (beginning r) i kept (r .permitted)))
 
 pub numbers-follow : carried.NumbersFollow
@@ -145,13 +148,13 @@ receipts-in-order i (u ∷ us) l m =
     rw (nextInOrder u (record { expected = i; failed = 0 }) l (m .0))
     (ap (λ (t : List (Told Receipt)). told (handedUp (asSent u) 0 (record { expected = (i + 1) % 256; failed = 0 })) ∷ t) (receipts-in-order ((i + 1) % 256) us (mod-lt (i + 1) (omega arith)) (m .1)))
 
-wholes-without : (i : ℕ) (us : List (List ℕ)) → withoutLast (wholesFrom i us) ≡ wholesFrom i (withoutLast us)
+pub wholes-without : (i : ℕ) (us : List (List ℕ)) → withoutLast (wholesFrom i us) ≡ wholesFrom i (withoutLast us)
 unfolding withoutLast
 wholes-without i [] = refl
 wholes-without i (u ∷ []) = refl
 wholes-without i (u ∷ v ∷ us) = ap (λ (l : List (List ℕ)). whole (Numbered i) u ∷ l) (wholes-without ((i + 1) % 256) (v ∷ us))
 
-may-without : (i : ℕ) (us : List (List ℕ)) → MayFrom i us → MayFrom i (withoutLast us)
+pub may-without : (i : ℕ) (us : List (List ℕ)) → MayFrom i us → MayFrom i (withoutLast us)
 unfolding withoutLast
 may-without i [] m = tt
 may-without i (u ∷ []) m = tt

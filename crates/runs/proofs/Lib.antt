@@ -25,6 +25,7 @@ pub mod Filling
 pub mod Streaming
 pub mod Hearing
 pub mod Crossing
+pub mod Missing
 pub mod Mishearing
 pub mod Theorems
 pub mod Laws

@@ -5,3 +5,4 @@ pub mod Carried
 pub mod Packets
 pub mod Hearing
 pub mod OverPackets
+pub mod Missing

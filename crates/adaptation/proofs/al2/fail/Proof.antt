@@ -1,23 +1,11 @@
--- By whether the count may rise. Assumes nothing.
+-- By whether there is a number. Assumes nothing.
 use borrow.Author.Needs.{needs}
-use mathlib.Core.Path.{_≡_, ap}
-use Prim.Native.Nat.{ℕ, _+_, min}
-use native.Mathlib.Omega.{arith}
-use Rattle.adaptation.specs.AL2.{mostFailed}
-use Rattle.adaptation.specs.declared.al2.Due.{Due}
 use Rattle.adaptation.proofs.al2.fail.Statement.{statement}
 use Rattle.adaptation.proofs.al2.fail.Tie as tie
 
-with : Due → ℕ → Due
-with e k = record { expected = e .expected; failed = k }
-
 returns : tie.Need-returns
-unfolding with
-returns c = ap (with (c .before .before .before .args .due)) (omega arith)
-
-returns-2 : tie.Need-returns-2
-unfolding with
-returns-2 c = ap (with (c .before .before .args .due)) (omega arith)
+returns c = rw (c .before .enum-told .given .1, c .count .ensures)
 
 pub fail-spec : {M : Type 1} → statement M
-fail-spec = tie.close (tie.spec (λ c. search needs) returns returns-2)
+fail-spec =
+    tie.close (tie.spec (λ c. search needs) (λ c κs. search needs) (λ c. search needs) returns (λ c. search needs))

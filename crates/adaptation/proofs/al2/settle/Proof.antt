@@ -17,7 +17,7 @@ numbered c u =
     rw (not-false (n .before .before .before .args .agrees) (n .before .before .if1 .left), n .number .given .1, ← c .arrive .ensures)
 
 returns : tie.Need-returns
-returns c = λ u. c .settle-failed .ensures u ∙ rw (not-true (c .before .before .args .agrees) (c .before .if1 .taken))
+returns c = λ u. rw (not-true (c .before .before .args .agrees) (c .before .if1 .taken), c .fail .ensures)
 
 returns-2 : tie.Need-returns-2
 returns-2 c = λ u. rw (not-false (c .before .before .before .args .agrees) (c .before .before .if1 .left), c .enum-told .given .1)
