@@ -1,5 +1,5 @@
 #!/usr/bin/env python3
-"""A second gateway, written from document 01, ticket 4 of document 02 and document 000, and from nothing else but the language and the
+"""A second gateway, written from document 01, tickets 4 and 5 of document 02 and document 000, and from nothing else but the language and the
 hunting of `link`, which are those of docs/gateway.md: gateway.py FILE answers FILE's calls.
 
 It shares no code and no method with the crates: coding.py has AL1M, table.py the entries of the table, packets.py the packets of level 2;
@@ -24,6 +24,7 @@ class Channel:
         self.segmentable = segmentable
         self.held, self.waiting = [], []
         self.sent, self.expected = 0, 0
+        self.failed = 0  # units since the last accepted one, at most 127
 
 
 class Gateway:
@@ -47,7 +48,7 @@ class Gateway:
 
     def reset(self, n):
         c = self.channel(n)
-        c.held, c.sent, c.expected = [], 0, 0
+        c.held, c.sent, c.expected, c.failed = [], 0, 0, 0
 
     def entry(self, code, elements):
         refuse_if(code > 15, 4)
@@ -75,14 +76,17 @@ class Gateway:
         c = self.channel(n)
         refuse_if(not numbered + 2 <= len(whole) <= LONGEST_UNIT, 2)
         unit = whole[int(numbered):-1]
-        if check(whole[:-1], 8) != whole[-1:]:
-            return 3, 0, unit
+        good = check(whole[:-1], 8) == whole[-1:]
         if not numbered:
-            return 0, 0, unit
-        missing = (whole[0] - c.expected) % 256
-        if missing > 127:
+            return 0 if good else 3, 0, unit
+        if not good:
+            c.failed = min(127, c.failed + 1)
+            return 3, 0, unit
+        past = (whole[0] - c.expected) % 256
+        if past > 127:
             return None
-        c.expected = (whole[0] + 1) % 256
+        missing = max(0, past - c.failed)
+        c.expected, c.failed = (whole[0] + 1) % 256, 0
         return 0, missing, unit
 
     def demux(self, code, mark, payload, room_octets, room_units):

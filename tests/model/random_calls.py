@@ -51,6 +51,28 @@ def numbered(source):
     return 'take %d %s %s' % (source.choice(CHANNELS), kind, model.spell(whole + (model.check(whole, 8) if source.random() < 0.9 else [0])))
 
 
+def captions(source):
+    """Units that AL2 sent one after another with their numbers: each is taken as it was sent, damaged, twice, or not at all; other calls
+    on the channel come between."""
+    channel, number = source.choice(CHANNELS), source.choice([0, source.randint(0, 255)])
+    lines = ['reset %d' % channel] if source.random() < 0.3 else []
+    spare = source.choice([0.1, 0.5, 0.9])
+    for _ in range(source.choice([3, 10, 30, 140])):
+        whole = [number] + list(source.randbytes(source.randint(1, 4)))
+        whole += model.check(whole, 8)
+        number = (number + 1) % 256
+        fate = source.random()
+        if fate < spare:
+            word = damaged(source, whole, 2) if fate < spare / 2 else None
+        else:
+            word = whole
+        if word:
+            lines += ['take %d numbered %s' % (channel, model.spell(word))] * source.choice([1, 1, 1, 1, 2])
+        if source.random() < 0.05:
+            lines.append(source.choice([numbered(source), 'send %d numbered 55' % channel, 'take %d plain 1000' % channel, 'reset %d' % channel]))
+    return lines
+
+
 def wrong_bits(source, octets, count):
     """Octets of which so many bits are wrong."""
     word = int.from_bytes(bytes(octets), 'big')
@@ -148,11 +170,11 @@ def spoilt(source, line):
 
 
 def script(source, count, spoilt_part=0.2):
-    """A script of so many calls, of which that part is spoilt."""
+    """A script of so many calls, some of them a row of captions, and of its lines that part is spoilt."""
     lines = ['open 1 whole', 'open 2 segmentable', 'open 3 segmentable', 'open 4 whole']
     for _ in range(count):
-        line = call(source)
-        lines.append(spoilt(source, line) if source.random() < spoilt_part else line)
+        for line in captions(source) if source.random() < 0.01 else [call(source)]:
+            lines.append(spoilt(source, line) if source.random() < spoilt_part else line)
     return ''.join(line + '\n' for line in lines)
 
 

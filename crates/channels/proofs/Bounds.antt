@@ -74,10 +74,9 @@ module _ (s : Channels) (h w : List ℕ) (b : Bounded s h w) where
   resetting : (n : ℕ) → Bounded (reset s n .left) h w
   unfolding reset
   resetting n =
-      let c = numbering (holding (channelAt s (placeOf s n)) 0) firstNumbers in
-      checked-keeps s (resetTests s n) (λ r. Bounded r h w) (leaving tt (put s (placeOf s n) c)) b
-      λ e. bounded-put (placeOf s n) c (inside n (e .0)) (omega arith) (λ q. refl) (b .waits (placeOf s n))
-      (seated-put s (b .orderly .full) (b .seated) n c (inside n (e .0)) refl)
+      checked-keeps s (resetTests s n) (λ r. Bounded r h w) _ b
+      λ e. bounded-put (placeOf s n) _ (inside n (e .0)) (omega arith) (λ q. refl) (b .waits (placeOf s n))
+      (seated-put s (b .orderly .full) (b .seated) n _ (inside n (e .0)) refl)
 
   posting : (n : ℕ) (u : List ℕ) → Bounded (posted s w n u .left .channels) h (posted s w n u .left .octets)
   unfolding posted
