@@ -13,8 +13,8 @@ use native.Mathlib.Decide.{decLt}
 use native.Mathlib.Omega.{arith}
 use Rattle.calls.specs.Refusal.{told}
 use Rattle.adaptation.specs.Handed.{Handed}
-use Rattle.adaptation.specs.AL2.{handedUp, accepting, unitOf, received}
-use Rattle.adaptation.specs.AL2Claims.{asFailed, Counted, receipts}
+use Rattle.adaptation.specs.AL2.{handedUp, accepting, received}
+use Rattle.adaptation.specs.AL2Claims.{Counted, receipts}
 use Rattle.adaptation.specs.AL2Missing.{Passage, intact, damaged, lost, arriving, Shown, shownOf, showing, Passable, MissingIsLost}
 use Rattle.adaptation.specs.declared.al2.Due.{Due}
 use Rattle.adaptation.proofs.InStep.{sendable, missingTold, failedCounted}

@@ -3,9 +3,9 @@
 --   startIs, postedIs, sendingIs, takingIs     the claims of specs/Effects.antt
 --
 -- Assumes nothing.
-use mathlib.Core.Path.{_≡_, refl, sym, ap, subst, _∙_}
+use mathlib.Core.Path.{_≡_, refl, ap, subst, _∙_}
 use mathlib.Core.Logic.{_⊎_, inl, inr, ⊎-elim}
-use mathlib.Core.Bool.{Bool, true, false, cond, not}
+use mathlib.Core.Bool.{Bool, true, false, cond}
 use mathlib.Core.List.{List}
 use Prim.Native.Nat.{ℕ, zero, suc, _+_, _-_, _*_, _%_, _≤_, _<_, min}
 use native.Mathlib.Decide.{decLt}
@@ -19,7 +19,7 @@ use Rattle.octets.specs.Parts.{apart, part-elsewhere}
 use Rattle.calls.specs.Refusal.{told, Ended, leaving, refusing}
 use Rattle.calls.proofs.Laws.{told-refused, leaving-same, by-tests}
 use Rattle.adaptation.specs.Handed.{isUnit}
-use Rattle.adaptation.specs.AL2.{risen, Receipt, dueBy, received, receiptOf, isWhole}
+use Rattle.adaptation.specs.AL2.{risen, Receipt, dueBy, received, receiptOf}
 use Rattle.adaptation.specs.declared.al2.Numbers.{Numbers}
 use Rattle.channels.specs.declared.Channel.{Channel}
 use Rattle.channels.specs.declared.Channels.{Channels}

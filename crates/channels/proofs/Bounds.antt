@@ -7,7 +7,7 @@
 --
 -- Assumes nothing.
 use mathlib.Core.Path.{_≡_, refl, ap, _∙_}
-use mathlib.Core.Bool.{Bool, true, false, not}
+use mathlib.Core.Bool.{Bool, false, not}
 use mathlib.Core.List.{List}
 use Prim.Native.Nat.{ℕ, _+_, _*_, _-_, _≤_, _<_}
 use native.Mathlib.Omega.{arith}
@@ -19,11 +19,10 @@ use Rattle.octets.specs.Written.{written, written-length}
 use Rattle.calls.specs.Refusal.{leaving}
 use Rattle.calls.proofs.Laws.{checked-keeps}
 use Rattle.adaptation.specs.Handed.{isUnit}
-use Rattle.adaptation.specs.AL2.{firstNumbers}
 use Rattle.channels.specs.declared.Channel.{Channel}
 use Rattle.channels.specs.declared.Channels.{Channels}
-use Rattle.channels.specs.Channels.{placeCount, placeOctets, vacant, fresh, start, placeOf, freePlace, isIn, channelAt, put, holding, waiting}
-use Rattle.channels.specs.Channels.{numbering, Post, openTests, closeTests, resetTests, postTests, opened, closed, reset, posted}
+use Rattle.channels.specs.Channels.{placeCount, placeOctets, vacant, fresh, start, placeOf, freePlace, isIn, channelAt, put, waiting}
+use Rattle.channels.specs.Channels.{Post, openTests, closeTests, resetTests, postTests, opened, closed, reset, posted}
 use Rattle.channels.specs.Layers as layers
 use Rattle.channels.specs.Claims.{Seated, Bounded, StartBounded, KeepsBounds}
 use Rattle.channels.proofs.Seats.{Seat, seat, each-set}

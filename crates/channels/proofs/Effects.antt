@@ -5,12 +5,11 @@
 -- Assumes nothing.
 use mathlib.Core.Path.{_≡_, refl, sym, ap, subst, _∙_}
 use mathlib.Core.Logic.{_≢_}
-use mathlib.Core.Bool.{Bool, true, false, cond, not}
-use Prim.Native.Nat.{ℕ, _≤_, _<_}
+use mathlib.Core.Bool.{true, false}
+use Prim.Native.Nat.{ℕ, _<_}
 use native.Mathlib.Decide.{ℕ-discrete, decLt}
 use native.Mathlib.Omega.{arith}
 use borrow.Author.Tests.{ltb-true, ltb-false, le-ltb, leb-false, ne-eqb, not-false}
-use lib.Dec.{eqb}
 use lib.ListN.{length, length-set}
 use Rattle.octets.specs.Tests.{never}
 use Rattle.calls.specs.Refusal.{Ended, leaving, refusing}

@@ -15,7 +15,7 @@ use mathlib.Core.List.{List, [], _∷_, _++_}
 use Prim.Native.Nat.{ℕ}
 use borrow.Author.Tests.{ltb-false, leb-false}
 use Rattle.calls.specs.Refusal.{refused, Ended, refusing}
-use Rattle.calls.proofs.Laws.{by-test, both-tests, checked-keeps}
+use Rattle.calls.proofs.Laws.{both-tests, checked-keeps}
 use Rattle.table.specs.Table.{replaced}
 use Rattle.adaptation.specs.declared.al2.Numbers.{Numbers}
 use Rattle.channels.specs.declared.Channel.{Channel}

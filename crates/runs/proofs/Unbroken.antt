@@ -16,7 +16,6 @@ use Rattle.channels.specs.declared.Channel.{Channel}
 use Rattle.channels.specs.declared.Channels.{Channels}
 use Rattle.channels.specs.Channels.{vacant, fresh, holding, waiting, placeCount}
 use Rattle.channels.specs.Claims.{channelOf}
-use Rattle.multiplex.specs.Calls as call
 use Rattle.multiplex.specs.Calls.{Link, Call, Answer, ours, calledBy, called}
 use Rattle.multiplex.proofs.Laws.{calls-refuse}
 use Rattle.runs.specs.Runs.{Side, near, far, End, World, endAt, Event, both, calls, posts, pays, arrives, added, step, run}

@@ -1,9 +1,8 @@
 -- By whether the count may rise. Assumes nothing.
 use borrow.Author.Needs.{needs}
-use mathlib.Core.Path.{_≡_, ap}
-use Prim.Native.Nat.{ℕ, _+_, min}
+use mathlib.Core.Path.{ap}
+use Prim.Native.Nat.{ℕ}
 use native.Mathlib.Omega.{arith}
-use Rattle.adaptation.specs.AL2.{mostFailed}
 use Rattle.adaptation.specs.declared.al2.Due.{Due}
 use Rattle.adaptation.proofs.al2.count.Statement.{statement}
 use Rattle.adaptation.proofs.al2.count.Tie as tie
