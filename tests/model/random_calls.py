@@ -52,20 +52,17 @@ def numbered(source):
 
 
 def captions(source):
-    """Units that AL2 sent one after another with their numbers: each is taken as it was sent, damaged, twice, or not at all; other calls
-    on the channel come between."""
+    """Units that AL2 sent one after another with their numbers: each is taken as it was sent, with up to two octets changed, twice, or not at
+    all; other calls come between, most of them on the channel."""
     channel, number = source.choice(CHANNELS), source.choice([0, source.randint(0, 255)])
     lines = ['reset %d' % channel] if source.random() < 0.3 else []
-    spare = source.choice([0.1, 0.5, 0.9])
+    harmed = source.choice([0.1, 0.5, 0.9])  # the part of which half is changed and half lost
     for _ in range(source.choice([3, 10, 30, 140])):
         whole = [number] + list(source.randbytes(source.randint(1, 4)))
         whole += model.check(whole, 8)
         number = (number + 1) % 256
         fate = source.random()
-        if fate < spare:
-            word = damaged(source, whole, 2) if fate < spare / 2 else None
-        else:
-            word = whole
+        word = whole if fate >= harmed else damaged(source, whole, 2) if fate < harmed / 2 else None
         if word:
             lines += ['take %d numbered %s' % (channel, model.spell(word))] * source.choice([1, 1, 1, 1, 2])
         if source.random() < 0.05:

@@ -1,4 +1,4 @@
--- What AL2 tells as missing is what was lost: the claim of specs/AL2Missing.antt. Since the last unit that was accepted, g units went, of which k were
+-- What AL2 tells as missing is what was lost: the claim of specs/AL2Missing.antt. Since the last unit that was accepted, g units were lost or damaged, k of them
 -- lost: so the next number is g past the one expected, and g - k units failed.
 --
 --   missingIsLost
@@ -27,15 +27,15 @@ module _ (w : List ℕ) (l : List (List ℕ)) (e : Due) where
   shown-first {u} {k} q r = rw q (ap (λ (m : List Shown). record { handed = u; missing = k } ∷ m) r)
 
 -- a count is one more, or stays at 127
-counting : (c : ℕ) → Dec (c < 127) → (k : ℕ) × Counted true c k
-counting c (yes h) = (c + 1, inl (h, refl))
-counting c (no h) = (127, inr (omega arith, refl))
+count-next : (c : ℕ) → Dec (c < 127) → (k : ℕ) × Counted true c k
+count-next c (yes h) = (c + 1, inl (h, refl))
+count-next c (no h) = (127, inr (omega arith, refl))
 
 one-more : (c j g k : ℕ) → Counted true c j → g + 1 ≤ 127 → g ≡ c + k → g + 1 ≡ j + k
 one-more c j g k (inl (l, q)) z e = omega arith
 one-more c j g k (inr (l, q)) z e = absurd (omega arith)
 
--- e is due, the last accepted number was before it, and i is sent next; g units went since then, and k of them were lost
+-- e is due, the last accepted number was before it, and i is sent next; g units were lost or damaged since then, k of them lost
 follow : (l : List Passage) (e : Due) (g k i : ℕ) → e .expected < 256 → i ≡ (e .expected + g) % 256 → (g ≤ 127 → g ≡ e .failed + k) → Passable g l
     → shownOf (receipts (arriving i l) e) ≡ showing k l
 unfolding receipts
@@ -44,7 +44,7 @@ follow (intact u ∷ l) e g k i he is inv (near, fits, may) =
     shown-first _ (arriving ((i + 1) % 256) l) e (missingTold u e g i k (he, omega arith, is) near (inl (inv near)) (sendable i u fits))
     (follow l (accepting i) 0 0 ((i + 1) % 256) (omega arith) (omega arith) (λ z. refl) may)
 follow (damaged w ∷ l) e g k i he is inv (whole, fails, may) =
-    let c = counting (e .failed) (decLt (e .failed) 127) in
+    let c = count-next (e .failed) (decLt (e .failed) 127) in
     shown-first w (arriving ((i + 1) % 256) l) e (failedCounted true w e (c .0) (c .1) whole fails)
     (follow l (record { expected = e .expected; failed = c .0 }) (g + 1) k ((i + 1) % 256) he (omega arith)
     (λ z. one-more (e .failed) (c .0) g k (c .1) z (inv (omega arith))) may)

@@ -19,7 +19,7 @@
 --   partsOf s w     the parts of w
 --   apart s w       how reading w ends
 --   distance n e    n - e modulo 256
---   mostMissing     the largest that counts as missing units, and not as a misdelivered one
+--   mostPast        how far past the number expected a number is accepted, and not misdelivered
 --   mostFailed      the most failed units that are counted
 --   accepting n     what is due once number n was accepted: the one after it, and no unit failed since
 --   counting e      what is due once one unit more is counted as failed, where e was
@@ -118,8 +118,8 @@ apart s w = checked refused (readTests s w) (told (partsOf s w))
 abbrev pub distance : ℕ → ℕ → ℕ
 distance n e = (n + 256 - e) % 256
 
-abbrev pub mostMissing : ℕ
-mostMissing = 127
+abbrev pub mostPast : ℕ
+mostPast = 127
 
 abbrev pub mostFailed : ℕ
 mostFailed = 127
@@ -138,7 +138,7 @@ failing Plain e = e
 unfoldable pub arrival : ℕ → Due → Arrival
 arrival n e =
     let d = distance n (e .expected) in
-    cond (leb d mostMissing) (Taken (d - e .failed) (accepting n)) Misdelivered
+    cond (leb d mostPast) (Taken (d - e .failed) (accepting n)) Misdelivered
 
 pub data Receipt : Type 0 where
   handedUp : Handed → (missing : ℕ) → Due → Receipt

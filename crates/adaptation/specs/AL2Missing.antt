@@ -7,8 +7,8 @@
 --   shownOf l         .. of what became of each, one after another; a unit that is discarded or refused is not shown
 --   showing k l       what ought to be shown, where k were lost since the last one that arrived as sent: a unit that arrives as sent, and before
 --                     it as many missing as were lost since the one before it that did; a damaged one with badge 3
---   Passable g l      the passages may be, where g units went since the last that arrived as sent: units may be sent, octets in a unit's place are
---                     such as AL2 takes, and no more than 127 units in a row are lost or damaged before one that arrives as sent
+--   Passable g l      the passages may be, where g units were lost or damaged since the last that arrived as sent: units may be sent, octets in a
+--                     unit's place are such as AL2 takes, and no more than 127 units in a row are lost or damaged before one that arrives as sent
 --   MissingIsLost     what is shown of units that are sent from the expected number on, where no unit failed before, is that
 --
 -- Assumes nothing.

@@ -13,8 +13,8 @@ ghost use Rattle.calls.specs.Refusal.{told, ended, lengthSays};
 ghost use Rattle.adaptation.specs.AL2.{firstNumbers, numberAs, risen, field, fieldLength, sent, apart, unitOf};
 ghost use Rattle.adaptation.specs.AL2.{accepting, counting, failing, arrival, settled, received, apartSays, receivedSays};
 
-// How far past the number expected a number counts as one after missing units, and not as misdelivered (house).
-const MOST_MISSING: u16 = 127;
+// How far past the number expected a number is accepted, and not misdelivered (house).
+const MOST_PAST: u16 = 127;
 
 // The most failed units that are counted (document 02, ticket 5).
 const MOST_FAILED: u8 = 127;
@@ -80,7 +80,7 @@ pub fn number_as(numbered: bool, numbers: Numbers) -> Number
     Number::Plain
 }
 
-// The numbers once a unit was sent: the one sent rises modulo 256.
+// The numbers once a unit was sent: the one sent rises modulo 256, if the unit had one.
 pub fn rise(numbered: bool, numbers: Numbers) -> Numbers
     ensures { λ r. ⌜ r ≡ risen numbered numbers ⌝ }
 {
@@ -223,7 +223,7 @@ pub fn arrive(number: u8, due: Due) -> Arrival
     ensures { λ r. ⌜ r ≡ arrival number due ⌝ }
 {
     let past = (number as u16 + 256 - due.expected as u16) % 256;
-    if MOST_MISSING < past {
+    if MOST_PAST < past {
         return Arrival::Misdelivered;
     }
     let missing = missing_of(past as u8, due.failed);

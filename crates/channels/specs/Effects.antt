@@ -4,7 +4,7 @@
 --   OthersStay s t n   every other channel than n is in t as it was in s
 --   OpenedIs           opening starts the channel empty, with AL2 numbers 0 and no failed unit counted, segmentable or not as it was given
 --   ClosedIs           a channel that was closed is not open
---   StartIs            at first channel 0 is open, segmentable and empty, and no other is
+--   StartIs            at first channel 0 is open, segmentable and empty, with AL2 numbers 0 and no failed unit counted, and no other is open
 --   PostedIs           the unit that was posted waits on its channel, and all else is as it was: what waits elsewhere, and the channels
 --   SendingIs          AL2's sending raises the channel's number modulo 256 if units have one, and leaves all else
 --   TakingIs           AL2's taking answers what AL2 says of the whole by what is due on the channel, keeps what is due next, and leaves all else

@@ -25,7 +25,7 @@ use Rattle.adaptation.proofs.Laws.{whole-length, missingIsLost}
 use Rattle.runs.specs.Runs.{other, endAt}
 use Rattle.runs.specs.Demand.{withoutLast, isWaiting, whollySent}
 use Rattle.runs.specs.Carried.{ending, Reception, takenBy, codings, receptions, unitsCoded, wholesTaken, receiptsTold}
-use Rattle.runs.specs.Missing.{ShownIn, LostShown, Noticed, isNear, noisily, ByNoisyAL2, NothingMissing, PacketsLostShown, PacketsNothingMissing, MissingOverRuns}
+use Rattle.runs.specs.Missing.{ShownIn, LostShown, Noticed, hasShortGaps, shownInNoise, ByAL2InNoise, NothingMissing, PacketsLostShown, PacketsNothingMissing, MissingOverRuns}
 use Rattle.runs.proofs.Delivering.{demand-met}
 use Rattle.runs.proofs.Handing.{MayFrom, may-without, wholes-without, coded, told-receipts}
 use Rattle.runs.proofs.Crossing as crossing
@@ -49,13 +49,13 @@ passages (u ∷ us) (w ∷ ws) = cond (agrees eight w) (intact u) (damaged w) �
 record Fated (i g : ℕ) (us ws : List (List ℕ)) : Type 0 where
   arrives : arriving i (passages us ws) ≡ ws
   may : Passable g (passages us ws)
-  shows : showing 0 (passages us ws) ≡ noisily us ws
+  shows : showing 0 (passages us ws) ≡ shownInNoise us ws
 
 fated-more : (u w : List ℕ) (us ws : List (List ℕ)) (i g : ℕ) → isSendable (Numbered i) u ≡ true → length (whole (Numbered i) u) ≡ length w
-    → Noticed (whole (Numbered i) u) w → (b : Bool) → agrees eight w ≡ b → cond b (leb g 127 && isNear 0 ws) (isNear (g + 1) ws) ≡ true
-    → ((h : ℕ) → isNear h ws ≡ true → Fated ((i + 1) % 256) h us ws) → Fated i g (u ∷ us) (w ∷ ws)
+    → Noticed (whole (Numbered i) u) w → (b : Bool) → agrees eight w ≡ b → cond b (leb g 127 && hasShortGaps 0 ws) (hasShortGaps (g + 1) ws) ≡ true
+    → ((h : ℕ) → hasShortGaps h ws ≡ true → Fated ((i + 1) % 256) h us ws) → Fated i g (u ∷ us) (w ∷ ws)
 fated-more u w us ws i g su long noticed true q near f =
-    let n = both-true (leb g 127) (isNear 0 ws) near in
+    let n = both-true (leb g 127) (hasShortGaps 0 ws) near in
     let s = both-true (leb 1 (length u)) (leb (length (whole (Numbered i) u)) longestUnit) su in
     let l = whole-length (Numbered i) u 1 refl in
     let fits : isUnit (longestUnit - 2) u ≡ true = rw (s .0, le-leb (length u) (longestUnit - 2) (omega (arith, l, leb-true (length (whole (Numbered i) u)) longestUnit (s .1)))) in
@@ -79,7 +79,7 @@ fated-more u w us ws i g su long noticed false q near f =
     }
 
 fated : (us ws : List (List ℕ)) (i g : ℕ) → MayFrom i us → Each (λ v w. length v ≡ length w) (wholesFrom i us) ws → Each Noticed (wholesFrom i us) ws
-    → isNear g ws ≡ true → Fated i g us ws
+    → hasShortGaps g ws ≡ true → Fated i g us ws
 fated [] [] i g may each-none n near = record { arrives = refl; may = tt; shows = refl }
 fated (u ∷ us) (w ∷ ws) i g may (each-more long longs) (each-more noticed all) near =
     fated-more u w us ws i g (may .0) long noticed (agrees eight w) refl near (λ h c. fated us ws ((i + 1) % 256) h (may .1) longs all c)
@@ -112,7 +112,7 @@ packets-lost-shown : PacketsLostShown
 packets-lost-shown R r i n = subst ShownIn (crossing.listed r (takenBy n) i) (lost-shown R (crossing.whole r) i n)
 
 packets-nothing-missing : PacketsNothingMissing
-packets-nothing-missing R r i n = crossing.crossed r i n (λ x coded got. ByNoisyAL2 x i n coded got) (nothing-missing R (crossing.whole r) i n)
+packets-nothing-missing R r i n = crossing.crossed r i n (λ x coded got. ByAL2InNoise x i n coded got) (nothing-missing R (crossing.whole r) i n)
 
 pub missing-over-runs : MissingOverRuns
 missing-over-runs = record {

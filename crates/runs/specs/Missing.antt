@@ -3,12 +3,12 @@
 --
 --   ShownIn got        where the wholes that AL2 took with a number are what arrives of units that were sent one after another from number 0 on, what
 --                      is shown of them is what ought to be: before each unit that arrives as sent as many are missing as were lost
---   LostShown          so it is over a run, at each end and on each channel, whatever else is called in between
+--   LostShown          so it is over a run, at each end and on each channel, whatever else comes in it (a run has no accepted reset or closing)
 --   Noticed v w        w came in the place of v, and if its check agrees, it is v
---   isNear g ws        of the wholes ws, where the checks of g disagree before them: no more than 127 in a row disagree before one that agrees
---   noisily us ws      what is shown of the units us, of which the wholes ws came: where the check agrees the unit as it was handed in, with badge 0,
---                      else what came, with badge 3; and none is missing
---   ByNoisyAL2, NothingMissing   every unit coded is posted, every unit delivered is taken, octets change on the way, and the check notices it: each
+--   hasShortGaps g ws  of the wholes ws, where the checks of g disagree before them: no more than 127 in a row disagree before one that agrees
+--   shownInNoise us ws what is shown of the units us, of which the wholes ws came: where the check agrees the unit as it was handed in, with badge
+--                      0, else what came, with badge 3; and none is missing
+--   ByAL2InNoise, NothingMissing   every unit coded is posted, every unit delivered is taken, octets change on the way, and the check notices it: each
 --                      unit wholly sent is shown so, and none is ever missing; of both ends, and so at the end of a run
 --   PacketsLostShown, PacketsNothingMissing   .. and at the end of a run over packets
 --   MissingOverRuns    all of these
@@ -41,24 +41,24 @@ LostShown = (R : ℕ → ℕ → Type 0) (r : Run R) (i : Side) (n : ℕ) → Sh
 abbrev pub Noticed : List ℕ → List ℕ → Type 0
 Noticed v w = agrees eight w ≡ true → w ≡ v
 
-abbrev pub isNear : ℕ → List (List ℕ) → Bool
-isNear g [] = true
-isNear g (w ∷ ws) = cond (agrees eight w) (leb g 127 && isNear 0 ws) (isNear (g + 1) ws)
+abbrev pub hasShortGaps : ℕ → List (List ℕ) → Bool
+hasShortGaps g [] = true
+hasShortGaps g (w ∷ ws) = cond (agrees eight w) (leb g 127 && hasShortGaps 0 ws) (hasShortGaps (g + 1) ws)
 
-abbrev pub noisily : List (List ℕ) → List (List ℕ) → List Shown
-noisily us [] = []
-noisily [] (w ∷ ws) = []
-noisily (u ∷ us) (w ∷ ws) = record { handed = cond (agrees eight w) (asSent u) (asFailed (unitOf true w)); missing = 0 } ∷ noisily us ws
+abbrev pub shownInNoise : List (List ℕ) → List (List ℕ) → List Shown
+shownInNoise us [] = []
+shownInNoise [] (w ∷ ws) = []
+shownInNoise (u ∷ us) (w ∷ ws) = record { handed = cond (agrees eight w) (asSent u) (asFailed (unitOf true w)); missing = 0 } ∷ shownInNoise us ws
 
 -- what was coded at the end i for channel n, and what was taken at the other
-abbrev pub ByNoisyAL2 : World → (i : Side) (n : ℕ) → List Coding → List Reception → Type 0
-ByNoisyAL2 x i n coded got =
+abbrev pub ByAL2InNoise : World → (i : Side) (n : ℕ) → List Coding → List Reception → Type 0
+ByAL2InNoise x i n coded got =
     endAt x (other i) .coming ≡ [] → unitsOn n (endAt x i .posted) ≡ wholesCoded coded → wholesTaken got ≡ unitsOn n (endAt x (other i) .delivered)
-    → Each Noticed (whollySent (endAt x i) n) (wholesTaken got) → isNear 0 (wholesTaken got) ≡ true
-    → shownOf (receiptsTold got) ≡ noisily (wholly (endAt x i) n (unitsCoded coded)) (wholesTaken got)
+    → Each Noticed (whollySent (endAt x i) n) (wholesTaken got) → hasShortGaps 0 (wholesTaken got) ≡ true
+    → shownOf (receiptsTold got) ≡ shownInNoise (wholly (endAt x i) n (unitsCoded coded)) (wholesTaken got)
 
 abbrev pub NothingMissing : Type 1
-NothingMissing = (R : ℕ → ℕ → Type 0) (r : Run R) (i : Side) (n : ℕ) → ByNoisyAL2 (ending r) i n (codings r i n) (receptions r (other i) n)
+NothingMissing = (R : ℕ → ℕ → Type 0) (r : Run R) (i : Side) (n : ℕ) → ByAL2InNoise (ending r) i n (codings r i n) (receptions r (other i) n)
 
 -- ---- over packets
 
@@ -67,7 +67,7 @@ PacketsLostShown = (R : ℕ → ℕ → Type 0) (r : PacketRun R) (i : Side) (n 
 
 abbrev pub PacketsNothingMissing : Type 1
 PacketsNothingMissing =
-    (R : ℕ → ℕ → Type 0) (r : PacketRun R) (i : Side) (n : ℕ) → ByNoisyAL2 (packetEnding r) i n (packetCodings r i n) (packetReceptions r (other i) n)
+    (R : ℕ → ℕ → Type 0) (r : PacketRun R) (i : Side) (n : ℕ) → ByAL2InNoise (packetEnding r) i n (packetCodings r i n) (packetReceptions r (other i) n)
 
 pub record MissingOverRuns : Type 1 where
   pub lostShown : LostShown

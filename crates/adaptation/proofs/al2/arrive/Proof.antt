@@ -1,17 +1,17 @@
 -- By the test of the distance. Assumes nothing.
 use borrow.Author.Needs.{needs}
 use borrow.Author.Tests.{le-leb, lt-leb}
-use Rattle.adaptation.specs.AL2.{mostMissing, arrival}
+use Rattle.adaptation.specs.AL2.{mostPast, arrival}
 use Rattle.adaptation.proofs.al2.arrive.Statement.{statement}
 use Rattle.adaptation.proofs.al2.arrive.Tie as tie
 
 returns : tie.Need-returns
 unfolding arrival
-returns c = rw (lt-leb _ mostMissing (c .if1 .taken))
+returns c = rw (lt-leb _ mostPast (c .if1 .taken))
 
 returns-2 : tie.Need-returns-2
 unfolding arrival
-returns-2 c = rw (le-leb _ mostMissing (c .before .before .if1 .left), c .before .missing-of .ensures, c .accept .ensures)
+returns-2 c = rw (le-leb _ mostPast (c .before .before .if1 .left), c .before .missing-of .ensures, c .accept .ensures)
 
 pub arrive-spec : {M : Type 1} → statement M
 arrive-spec =
