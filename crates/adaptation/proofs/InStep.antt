@@ -1,8 +1,9 @@
 -- AL2's sending and receiving undo each other: the claims of specs/AL2Claims.antt.
 --
 --   sentIsWhole, readBack, readIsWhole                  sending and reading
---   numbersRise                                         a channel's numbers
---   missingTold, nextInOrder, lateDiscarded, plainReceived, failedCounted   what becomes of a unit
+--   numbersRise, rangeKept                              a channel's numbers
+--   arrivalIs                                           what becomes of a number
+--   missingTold, nextInOrder, lateDiscarded, plainReceived, failedCounted, discardLeaves, dueIs, answersSay   what becomes of a unit
 --   inStep                                              .. and of units that follow one another
 --   wholesFrom-append, numberAfter-append               .. and of more units behind them
 --   dueAfter-append
@@ -23,14 +24,16 @@ use Rattle.octets.specs.Same.{same-equal}
 use Rattle.octets.specs.Tests.{both-true, never}
 use Rattle.octets.specs.Written.{written, written-front, written-behind}
 use Rattle.calls.specs.Refusal.{Told, refused, told, Ended, leaving, refusing, None}
-use Rattle.calls.proofs.Laws.{told-refused, told-same, leaving-same, by-tests}
+use Rattle.calls.proofs.Laws.{told-refused, told-same, leaving-same, by-test, by-tests}
 use Rattle.checks.specs.Check.{checkOf, agrees, eight}
 use Rattle.adaptation.specs.Handed.{longestUnit, isUnit}
 use Rattle.adaptation.specs.AL2.{field, whole, isSendable, sendTests, sent, fieldLength, isWhole, numberOf, unitOf, Parts, readTests, partsOf}
-use Rattle.adaptation.specs.AL2.{apart, accepting, arrival, Receipt, delivered, received}
-use Rattle.adaptation.specs.AL2Claims.{isNumbered, NumbersRise, Less, SentIsWhole, ReadBack, ReadIsWhole, MissingTold, NextInOrder, LateDiscarded}
+use Rattle.adaptation.specs.AL2.{apart, risen, distance, mostPast, accepting, arrival, Receipt, handedUp, discarded, dueBy, delivered, settled, receiptOf, received}
+use Rattle.adaptation.specs.AL2Claims.{NumbersRise, DueInRange, NumbersInRange, RangeKept, ArrivalIs, DiscardLeaves, DueIs, AnswersSay}
+use Rattle.adaptation.specs.AL2Claims.{isNumbered, Less, SentIsWhole, ReadBack, ReadIsWhole, MissingTold, NextInOrder, LateDiscarded}
 use Rattle.adaptation.specs.AL2Claims.{PlainReceived, FailedCounted, wholesFrom, numberAfter, dueNext, receipts, dueAfter, areSendable, InStep}
 use Rattle.adaptation.specs.declared.al2.Due.{Due}
+use Rattle.adaptation.specs.declared.al2.Numbers.{Numbers}
 use Rattle.adaptation.specs.declared.al2.Number.{Number}
 use Rattle.adaptation.specs.declared.al2.Number.the-variants.{Numbered, Plain}
 use Rattle.adaptation.specs.declared.al2.Arrival.{Arrival}
@@ -41,6 +44,25 @@ use Rattle.adaptation.proofs.Wholes.{whole-apart, whole-received}
 
 pub numbersRise : NumbersRise
 numbersRise = record { first = refl; number = λ m. (refl, refl); rises = λ m. refl; stays = λ m. refl }
+
+settled-range : (n : Number) (b : Bool) (u : List ℕ) (e : Due) → DueInRange e → DueInRange (dueBy (settled n b u e))
+unfolding arrival
+settled-range (Numbered n) false u e h = (h .0, omega arith)
+settled-range Plain false u e h = h
+settled-range (Numbered n) true u e h =
+    by-test (λ (a : Arrival). DueInRange (dueBy (delivered a u e))) (leb (distance n (e .expected)) mostPast) (λ t. (omega arith, omega arith)) (λ t. h)
+settled-range Plain true u e h = h
+
+risen-range : (numbered : Bool) (m : Numbers) → NumbersInRange m → NumbersInRange (risen numbered m)
+risen-range true m h = (omega arith, h .1)
+risen-range false m h = h
+
+pub rangeKept : RangeKept
+rangeKept = record {
+  first = (omega arith, (omega arith, omega arith));
+  sent = risen-range;
+  taken = λ numbered w e h. settled-range (numberOf numbered w) (agrees eight w) (unitOf numbered w) e h;
+}
 
 -- ---- a unit that may be sent
 
@@ -122,8 +144,11 @@ module _ (u : List ℕ) (e : Due) (n : ℕ) (h : isSendable (Numbered n) u ≡ t
   arrived : (a : Arrival) → arrival n e ≡ a → received true (whole (Numbered n) u) e ≡ told (delivered a u e)
   arrived a q = whole-received (Numbered n) u e (sizes (Numbered n) u h .0) (sizes (Numbered n) u h .1) ∙ ap (λ (x : Arrival). told (delivered x u e)) q
 
+pub arrivalIs : ArrivalIs
+arrivalIs e d n k (he, hd, is) less = (λ l. rw is (arrival-taken e d he hd k less l), λ l. rw is (arrival-late e d he hd (omega arith)))
+
 pub missingTold : MissingTold
-missingTold u e d n k (he, hd, is) l less h = arrived u e n h (Taken k (accepting n)) (rw is (arrival-taken e d he hd k less l))
+missingTold u e d n k past l less h = arrived u e n h (Taken k (accepting n)) (arrivalIs e d n k past less .0 l)
 
 -- none is missing before the number expected, whatever failed
 none-less : (c : ℕ) → Less 0 c 0
@@ -143,6 +168,40 @@ pub failedCounted : FailedCounted
 unfolding received
 failedCounted true w e k q h a = rw (h, a) (ap told (settled-failed (numberOf true w) (unitOf true w) e k q))
 failedCounted false w e k q h a = rw (h, a) (ap told (settled-failed (numberOf false w) (unitOf false w) e k q))
+
+-- of a receipt, how many are missing before the unit
+missingBy : Receipt → ℕ
+missingBy (handedUp u k e) = k
+missingBy (discarded k e) = k
+
+delivered-late : (a : Arrival) (u : List ℕ) (e x : Due) (k : ℕ) → delivered a u e ≡ discarded k x → (k ≡ 0) × (x ≡ e)
+unfolding missingBy
+delivered-late (Taken j y) u e x k q = never (cc)
+delivered-late Misdelivered u e x k q = (sym (ap missingBy q), sym (ap dueBy q))
+
+settled-late : (n : Number) (b : Bool) (u : List ℕ) (e x : Due) (k : ℕ) → settled n b u e ≡ discarded k x → (k ≡ 0) × (x ≡ e)
+settled-late n false u e x k q = never (cc)
+settled-late (Numbered n) true u e x k q = delivered-late (arrival n e) u e x k q
+settled-late Plain true u e x k q = never (cc)
+
+pub discardLeaves : DiscardLeaves
+unfolding received
+discardLeaves s w e x k =
+    by-tests (λ (t : Told Receipt). t ≡ told (discarded k x) → (k ≡ 0) × (x ≡ e)) refused (readTests s w) (told (receiptOf s w e)) (λ j q. never (cc))
+    (λ none q. settled-late (numberOf s w) (agrees eight w) (unitOf s w) e x k (told-same (receiptOf s w e) (discarded k x) q))
+
+pub dueIs : DueIs
+dueIs h k e = (refl, refl)
+
+pub answersSay : (u : List ℕ) (e : Due) → AnswersSay u e
+answersSay u e = record {
+  clean = λ k x. refl;
+  failed = λ k x. refl;
+  late = refl;
+  unheard = λ k. refl;
+  parts = λ n t. refl;
+  unread = λ k. refl;
+}
 
 -- ---- one after another
 

@@ -3,6 +3,9 @@
 --
 --   NumbersRise       a channel starts with its numbers and its count 0; a unit is sent with the number that is sent next, which then rises
 --                     modulo 256, or with none, and then nothing changes
+--   DueInRange e      the number expected is an octet, and at most 127 units are counted
+--   NumbersInRange m  .. and the number sent is an octet
+--   RangeKept         so it is at first, after each sending and after each receiving
 --   isNumbered n      there is a number
 --   asSent u          u is handed up with badge 0 and nothing changed
 --   asFailed u        .. with badge 3
@@ -12,12 +15,18 @@
 --   Past e d n        number n is d past e, modulo 256
 --   Less d c k        k is d less c, and 0 if that is below zero
 --   Counted s c k     k is the count c once a unit failed: with a number one more and at most 127, without one c
+--   ArrivalIs         what becomes of a number by itself: up to 127 past the expected one, d less the count are missing before it, the number
+--                     behind it is expected next and the count is 0; from 128 on it is misdelivered
 --   MissingTold       up to 127 past the expected number: the unit is handed up as sent, d less the count of failed units are missing, the
 --                     number behind n is expected next, and the count is 0
 --   NextInOrder       .. so with the expected number none is missing
 --   LateDiscarded     from 128 past it: the unit is discarded, none is missing, and the expected number and the count stay
 --   PlainReceived     without a number the unit is handed up as sent, none is missing, and the expected number and the count stay
 --   FailedCounted     where the check disagrees: badge 3, none is missing, the expected number stays, and the unit is counted if it has a number
+--   DiscardLeaves     whatever was received, a discard tells none missing, and leaves what is due
+--   DueIs             what is due next by a receipt is what it tells, of a unit handed up and of one discarded
+--   AnswersSay        what the answers of receiving and reading say: the badge, how many are missing and what is due are those answered, and the
+--                     unit is the part of the whole
 --   wholesFrom i l    what sending makes of the units l, one after another, from number i on
 --   numberAfter i l   the number that is then sent next
 --   dueNext t e       what is due once a whole was received, where e was
@@ -39,7 +48,11 @@ use Rattle.calls.specs.Refusal.{Told, refused, told, leaving}
 use Rattle.checks.specs.Check.{agrees, eight}
 use Rattle.adaptation.specs.Handed.{longestUnit, isUnit, Handed}
 use Rattle.adaptation.specs.AL2.{firstNumbers, numberAs, risen, whole, isSendable, sent, isWhole, unitOf, Parts, apart}
-use Rattle.adaptation.specs.AL2.{Receipt, handedUp, discarded, dueBy, received}
+use Rattle.adaptation.specs.AL2.{arrival, Receipt, handedUp, discarded, dueBy, receiptOf, received, apartSays, receivedSays}
+use Rattle.adaptation.specs.declared.Badge.the-variants.{Clean, CheckFailed}
+use Rattle.adaptation.specs.declared.al2.Apart.the-variants as reading
+use Rattle.adaptation.specs.declared.al2.Arrival.the-variants.{Taken, Misdelivered}
+use Rattle.adaptation.specs.declared.al2.Received.the-variants as answered
 use Rattle.adaptation.specs.declared.al2.Due.{Due}
 use Rattle.adaptation.specs.declared.al2.Numbers.{Numbers}
 use Rattle.adaptation.specs.declared.al2.Number.{Number}
@@ -62,6 +75,17 @@ pub record NumbersRise : Type 0 where
   pub number : (m : Numbers) → (numberAs true m ≡ Numbered (m .sent)) × (numberAs false m ≡ Plain)
   pub rises : (m : Numbers) → risen true m ≡ record { sent = (m .sent + 1) % 256; due = m .due }
   pub stays : (m : Numbers) → risen false m ≡ m
+
+abbrev pub DueInRange : Due → Type 0
+DueInRange e = (e .expected < 256) × (e .failed ≤ 127)
+
+abbrev pub NumbersInRange : Numbers → Type 0
+NumbersInRange m = (m .sent < 256) × DueInRange (m .due)
+
+pub record RangeKept : Type 0 where
+  pub first : NumbersInRange firstNumbers
+  pub sent : (numbered : Bool) (m : Numbers) → NumbersInRange m → NumbersInRange (risen numbered m)
+  pub taken : (numbered : Bool) (w : List ℕ) (e : Due) → DueInRange e → DueInRange (dueBy (receiptOf numbered w e))
 
 -- ---- sending and reading
 
@@ -92,6 +116,11 @@ abbrev pub Counted : (numbered : Bool) → (c k : ℕ) → Type 0
 Counted true c k = ((c < 127) × (k ≡ c + 1)) ⊎ ((127 ≤ c) × (k ≡ 127))
 Counted false c k = k ≡ c
 
+abbrev pub ArrivalIs : Type 0
+ArrivalIs =
+    (e : Due) (d n k : ℕ) → Past (e .expected) d n → Less d (e .failed) k
+    → (d ≤ 127 → arrival n e ≡ Taken k (record { expected = (n + 1) % 256; failed = 0 })) × (128 ≤ d → arrival n e ≡ Misdelivered)
+
 abbrev pub MissingTold : Type 0
 MissingTold =
     (u : List ℕ) (e : Due) (d n k : ℕ) → Past (e .expected) d n → d ≤ 127 → Less d (e .failed) k → isSendable (Numbered n) u ≡ true
@@ -114,6 +143,21 @@ abbrev pub FailedCounted : Type 0
 FailedCounted =
     (s : Bool) (w : List ℕ) (e : Due) (k : ℕ) → Counted s (e .failed) k → isWhole s w ≡ true → agrees eight w ≡ false
     → received s w e ≡ told (handedUp (asFailed (unitOf s w)) 0 (record { expected = e .expected; failed = k }))
+
+abbrev pub DiscardLeaves : Type 0
+DiscardLeaves = (s : Bool) (w : List ℕ) (e x : Due) (k : ℕ) → received s w e ≡ told (discarded k x) → (k ≡ 0) × (x ≡ e)
+
+abbrev pub DueIs : Type 0
+DueIs = (h : Handed) (k : ℕ) (e : Due) → (dueBy (handedUp h k e) ≡ e) × (dueBy (discarded k e) ≡ e)
+
+-- u is the unit's part of the whole, and e what was due
+pub record AnswersSay (u : List ℕ) (e : Due) : Type 0 where
+  pub clean : (k : ℕ) (x : Due) → receivedSays (answered.Unit Clean k x) u e ≡ told (handedUp (asSent u) k x)
+  pub failed : (k : ℕ) (x : Due) → receivedSays (answered.Unit CheckFailed k x) u e ≡ told (handedUp (asFailed u) k x)
+  pub late : receivedSays answered.Discarded u e ≡ told (discarded 0 e)
+  pub unheard : (k : ℕ) → receivedSays (answered.Refused k) u e ≡ refused k
+  pub parts : (n : Number) (t : Bool) → apartSays (reading.Parts n t) u ≡ told (record { number = n; agreeing = t; unit = u })
+  pub unread : (k : ℕ) → apartSays (reading.Refused k) u ≡ refused k
 
 -- ---- one after another
 

@@ -1,7 +1,7 @@
 -- What AL2 tells as missing is what was lost, and a damaged unit is not among it (document 02, ticket 5); proofs/Missing.antt proves the claim.
 --
 --   Passage           what becomes of a unit on its way: it arrives as it was sent; octets arrive in its place whose check disagrees; or nothing
---                     arrives
+--                     arrives (of one that comes twice or late `LateDiscarded` and `DiscardLeaves` speak, specs/AL2Claims.antt)
 --   arriving i l      what arrives of units with the passages l, which were sent one after another from number i on
 --   Shown             what is shown of a unit that is handed up: the unit with its badge, and how many are missing before it
 --   shownOf l         .. of what became of each, one after another; a unit that is discarded or refused is not shown

@@ -1,12 +1,12 @@
 -- What posting and AL2's calls on a channel do, and how the channels are at first.
 --
---   startIs, postedIs, sendingIs, takingIs     the claims of specs/Effects.antt
+--   startIs, postedIs, sendingIs, takingIs, discardIs   the claims of specs/Effects.antt
 --
 -- Assumes nothing.
 use mathlib.Core.Path.{_≡_, refl, ap, subst, _∙_}
 use mathlib.Core.Logic.{_⊎_, inl, inr, ⊎-elim}
 use mathlib.Core.Bool.{Bool, true, false, cond}
-use mathlib.Core.List.{List}
+use mathlib.Core.List.{List, []}
 use Prim.Native.Nat.{ℕ, zero, suc, _+_, _-_, _*_, _%_, _≤_, _<_, min}
 use native.Mathlib.Decide.{decLt}
 use native.Mathlib.Omega.{arith}
@@ -19,7 +19,9 @@ use Rattle.octets.specs.Parts.{apart, part-elsewhere}
 use Rattle.calls.specs.Refusal.{told, Ended, leaving, refusing}
 use Rattle.calls.proofs.Laws.{told-refused, leaving-same, by-tests}
 use Rattle.adaptation.specs.Handed.{isUnit}
-use Rattle.adaptation.specs.AL2.{risen, Receipt, dueBy, received, receiptOf}
+use Rattle.adaptation.proofs.Laws.{discardLeaves, dueIs}
+use Rattle.adaptation.specs.AL2Claims.{asSent}
+use Rattle.adaptation.specs.AL2.{risen, Receipt, discarded, dueBy, received, receiptOf}
 use Rattle.adaptation.specs.declared.al2.Numbers.{Numbers}
 use Rattle.channels.specs.declared.Channel.{Channel}
 use Rattle.channels.specs.declared.Channels.{Channels}
@@ -27,14 +29,14 @@ use Rattle.channels.specs.Channels.{placeCount, placeOctets, allOctets, 
 use Rattle.channels.specs.Layers.{expecting, takingTests, taking}
 use Rattle.channels.specs.Search.{first}
 use Rattle.channels.specs.Claims.{channelOf}
-use Rattle.channels.specs.Effects.{OthersStay, StartIs, PostedIs, SendingIs, TakingIs}
+use Rattle.channels.specs.Effects.{OthersStay, StartIs, PostedIs, SendingIs, TakingIs, DiscardIs}
 use Rattle.channels.proofs.Seats.{seat, seats-put, place-seats, place-unique, vacant-behind, put-there, put-elsewhere}
 use Rattle.channels.proofs.Keeping.{channel-put, channel-else, sent-is}
 
 pub startIs : StartIs
 unfolding start placeOf first
-startIs zero = (refl, refl)
-startIs (suc n) = (rw (ne-eqb 0 (suc n) (λ z. omega arith), ne-eqb (suc n) 0 (λ z. omega arith)), refl)
+startIs zero = (refl, refl, refl)
+startIs (suc n) = (rw (ne-eqb 0 (suc n) (λ z. omega arith), ne-eqb (suc n) 0 (λ z. omega arith)), refl, refl)
 
 -- the channel n of s, put back with its seat
 put-back : (s : Channels) (n : ℕ) (c : Channel) → length (s .at) ≡ placeCount → placeOf s n < placeCount → seat c ≡ seat (channelOf s n)
@@ -130,3 +132,9 @@ takingIs s t n numbered w r full =
     Done x v =
         (received numbered w (channelOf s n .numbers .due) ≡ told x)
         × (channelOf v n ≡ expecting (channelOf s n) (dueBy x)) × OthersStay s v n
+
+pub discardIs : DiscardIs
+discardIs s t n k numbered w e full q =
+    let r = takingIs s t n numbered w (discarded k e) full q in
+    let d = discardLeaves numbered w (channelOf s n .numbers .due) e k (r .0) in
+    (d .0, r .1 ∙ ap (expecting (channelOf s n)) (dueIs (asSent []) k e .1 ∙ d .1), r .2)

@@ -5,7 +5,7 @@
 --   sought-place, in-placed                                     numbers replaced by places (Placing)
 --   heldAt, orderly-put, filled-room, held-grown, held-else, orderly-joined, orderly-emptied   what a place holds (Holding)
 --   seated-kept, seated-put                                     the seats (Seating)
---   waits-put, bounded-put                                      the bounds (Bounds)
+--   waits-put, numbers-put, bounded-put                         the bounds (Bounds)
 --   channel-put, channel-else, IsSent, sent-is, taken-is, sendingLeaves                      AL2 by channel, where it is not refused (Keeping)
 --   takenAsSent                                                 .. and from channel to channel (Theorems)
 --   openExactly, allOpenExactly, fullExactly                    when a channel is open (Found), and when no other is opened (Full)
@@ -19,7 +19,7 @@ pub use Rattle.channels.proofs.Seats.{seats-length, place-number, place
 pub use Rattle.channels.proofs.Placing.{sought-place, in-placed}
 pub use Rattle.channels.proofs.Holding.{heldAt, orderly-put, filled-room, held-grown, held-else, orderly-joined, orderly-emptied}
 pub use Rattle.channels.proofs.Seating.{seated-kept, seated-put}
-pub use Rattle.channels.proofs.Bounds.{waits-put, bounded-put}
+pub use Rattle.channels.proofs.Bounds.{waits-put, numbers-put, bounded-put}
 pub use Rattle.channels.proofs.Keeping.{channel-put, channel-else, IsSent, sent-is, taken-is, sendingLeaves}
 pub use Rattle.channels.proofs.Found.{openExactly, allOpenExactly}
 pub use Rattle.channels.proofs.Full.{fullExactly}

@@ -2,7 +2,8 @@
 --
 --   Orderly s h       arrays of their lengths; no place holds more octets than it has, and only a segmentable channel holds any
 --   Seated s          channel 0 is open and segmentable, no channel is open at two places, and a place that is free has nothing
---   Bounded s h w     .. orderly and seated, and no place has more waiting than it has octets
+--   Bounded s h w     .. orderly and seated, no place has more waiting than it has octets, AL2's numbers are octets and no more than 127 failed
+--                     units are counted
 --   StartBounded      so it is at first, whatever the arrays hold
 --   KeepsBounds       .. and after each call on channels in the state s, h, w
 --   CallsKeepBounds   .. so every call keeps the bounds
@@ -25,7 +26,7 @@ use lib.ListN.{length, take, drop}
 use Rattle.calls.specs.Refusal.{told, Ended, ended, leaving, outcomeSays}
 use Rattle.adaptation.specs.AL2.{numberAs, handedUp, whole}
 use Rattle.adaptation.specs.declared.al2.Due.{Due}
-use Rattle.adaptation.specs.AL2Claims.{asSent}
+use Rattle.adaptation.specs.AL2Claims.{asSent, NumbersInRange}
 use Rattle.channels.specs.declared.Channel.{Channel}
 use Rattle.channels.specs.declared.Channels.{Channels}
 use Rattle.channels.specs.declared.After.{After}
@@ -52,6 +53,7 @@ pub record Bounded (s : Channels) (h w : List ℕ) : Type 0 where
   pub orderly : Orderly s h
   pub seated : Seated s
   pub waits : (p : ℕ) → channelAt s p .waiting ≤ placeOctets
+  pub numbers : (p : ℕ) → NumbersInRange (channelAt s p .numbers)
   pub space : length w ≡ allOctets
 
 abbrev pub StartBounded : Type 0

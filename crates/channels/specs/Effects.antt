@@ -4,10 +4,12 @@
 --   OthersStay s t n   every other channel than n is in t as it was in s
 --   OpenedIs           opening starts the channel empty, with AL2 numbers 0 and no failed unit counted, segmentable or not as it was given
 --   ClosedIs           a channel that was closed is not open
---   StartIs            at first channel 0 is open, segmentable and empty, with AL2 numbers 0 and no failed unit counted, and no other is open
+--   StartIs            at first channel 0 is open, segmentable and empty, with AL2 numbers 0 and no failed unit counted, and no other is open; and a
+--                      place that is free has nothing
 --   PostedIs           the unit that was posted waits on its channel, and all else is as it was: what waits elsewhere, and the channels
 --   SendingIs          AL2's sending raises the channel's number modulo 256 if units have one, and leaves all else
 --   TakingIs           AL2's taking answers what AL2 says of the whole by what is due on the channel, keeps what is due next, and leaves all else
+--   DiscardIs          a unit that is discarded as misdelivered tells none missing, and leaves the channel as it was, and all others
 --   ResetIs            a reset empties what the channel holds and sets both its AL2 numbers and the count of failed units to 0; what waits stays
 --
 -- Assumes nothing.
@@ -18,9 +20,10 @@ use Prim.Native.Nat.{ℕ, _+_, _%_}
 use lib.Dec.{eqb}
 use lib.ListN.{length}
 use Rattle.calls.specs.Refusal.{told, leaving}
-use Rattle.adaptation.specs.AL2.{Receipt, dueBy, received}
+use Rattle.adaptation.specs.AL2.{Receipt, discarded, dueBy, received}
+use Rattle.adaptation.specs.declared.al2.Due.{Due}
 use Rattle.channels.specs.declared.Channels.{Channels}
-use Rattle.channels.specs.Channels.{placeCount, allOctets, start, placeOf, isIn, waitingOf, opened, closed, reset, Post, posted}
+use Rattle.channels.specs.Channels.{placeCount, allOctets, vacant, start, placeOf, isIn, waitingOf, opened, closed, reset, Post, posted}
 use Rattle.channels.specs.Layers.{sending, taking}
 use Rattle.channels.specs.Claims.{Seated, channelOf}
 
@@ -56,6 +59,8 @@ abbrev pub StartIs : Type 0
 StartIs =
     (n : ℕ) → (isIn start n ≡ eqb n 0)
     × (channelOf start 0 ≡ record { «open» = true; segmentable = true; number = record { 0 = 0 }; held = 0; waiting = 0; numbers = record { sent = 0; due = record { expected = 0; failed = 0 } } })
+    × (vacant
+    ≡ record { «open» = false; segmentable = false; number = record { 0 = 0 }; held = 0; waiting = 0; numbers = record { sent = 0; due = record { expected = 0; failed = 0 } } })
 
 abbrev pub PostedIs : Type 0
 PostedIs =
@@ -107,3 +112,8 @@ TakingIs =
       numbers = record { sent = channelOf s n .numbers .sent; due = dueBy r };
     })
     × OthersStay s t n
+
+abbrev pub DiscardIs : Type 0
+DiscardIs =
+    (s t : Channels) (n k : ℕ) (numbered : Bool) (w : List ℕ) (e : Due) → length (s .at) ≡ placeCount → taking s n numbered w ≡ leaving (discarded k e) t
+    → (k ≡ 0) × (channelOf t n ≡ channelOf s n) × OthersStay s t n

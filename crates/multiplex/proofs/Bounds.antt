@@ -17,11 +17,12 @@ use Rattle.calls.proofs.Laws.{checked-leaves, checked-keeps}
 use Rattle.table.specs.Slots.{Slot, payloadSlots}
 use Rattle.table.specs.Table.{entryOf}
 use Rattle.table.proofs.Laws.{freshEntries, replacedEntries}
+use Rattle.adaptation.specs.AL2Claims.{NumbersInRange}
 use Rattle.channels.specs.declared.Channel.{Channel}
 use Rattle.channels.specs.declared.Channels.{Channels}
 use Rattle.channels.specs.Channels.{placeCount, placeOctets, vacant, placeOf, isIn, channelAt, put, holding}
 use Rattle.channels.specs.Claims.{Orderly, Seated, Bounded, KeepsBounds}
-use Rattle.channels.proofs.Laws.{seated-kept, seated-put, waits-put, bounded-put, startBounded, callsKeepBounds}
+use Rattle.channels.proofs.Laws.{seated-kept, seated-put, waits-put, numbers-put, bounded-put, startBounded, callsKeepBounds}
 use Rattle.multiplex.specs.Pieces.{Piece, placed, lastPlace}
 use Rattle.multiplex.specs.Demultiplexer as demux
 use Rattle.multiplex.specs.Demultiplexer.{Delivery}
@@ -30,9 +31,10 @@ use Rattle.multiplex.specs.Calls as calls
 use Rattle.multiplex.specs.Calls.{Link, Call, ours, calledBy, called, led, begun, Sound, AlwaysSound}
 use Rattle.multiplex.proofs.Theorems.{order-kept}
 
--- the bounds that have nothing to do with what is held: what waits, and the seats
+-- the bounds that have nothing to do with what is held: what waits, AL2's numbers, and the seats
 record Kept (s : Channels) : Type 0 where
   waits : (p : ℕ) → channelAt s p .waiting ≤ placeOctets
+  numbers : (p : ℕ) → NumbersInRange (channelAt s p .numbers)
   seated : Seated s
 
 -- ---- the multiplexer: what is sent leaves what waits
@@ -51,7 +53,7 @@ module _ (h w : List ℕ) (y : Slot) (l : List Slot) (s : Channels) (b : Bounded
   module _ (rest : Bounded gone h w → Bounded (mux.walked gone l .channels) h w) where
     leaves : p < placeCount → Bounded gone h w
     leaves i =
-        bounded-put s h w b p _ i (b .orderly .bounded p) (b .orderly .whole p) (omega arith)
+        bounded-put s h w b p _ i (b .orderly .bounded p) (b .orderly .whole p) (omega arith) (b .numbers p)
         (seated-put s (b .orderly .full) (b .seated) (y .channel) _ i refl)
 
     visited : (e g : Bool) → p < placeCount
@@ -84,6 +86,7 @@ multiplexing x b c room payload =
 kept-held : (s : Channels) (p k : ℕ) → Kept s → (channelAt s p .«open» ≡ false → holding (channelAt s p) k ≡ vacant) → Kept (put s p (holding (channelAt s p) k))
 kept-held s p k w f = record {
   waits = waits-put s p (holding (channelAt s p) k) (w .waits) (w .waits p);
+  numbers = numbers-put s p (holding (channelAt s p) k) (w .numbers) (w .numbers p);
   seated = seated-kept s p (holding (channelAt s p) k) (w .seated) refl f;
 }
 
@@ -147,12 +150,13 @@ sound-after x c h = by c
     by (calls.replacing c e) = record { bounded = h .bounded; entries = replacedEntries (x .table) e c (h .entries) }
     by (calls.demultiplexing c mark xs output units) =
         let y : demux.DemuxLent = record { channels = x .channels; held = x .held; output = output; units = units } in
-        let k = kept-demux y (x .table) c mark xs (record { waits = h .bounded .waits; seated = h .bounded .seated }) in
+        let k = kept-demux y (x .table) c mark xs (record { waits = h .bounded .waits; numbers = h .bounded .numbers; seated = h .bounded .seated }) in
         record {
           bounded = record {
             orderly = orderly-demux y (x .table) c mark xs (h .bounded .orderly) (demux.demultiplexed y (x .table) c mark xs .answer) refl;
             seated = k .seated;
             waits = k .waits;
+            numbers = k .numbers;
             space = h .bounded .space;
           };
           entries = h .entries;
