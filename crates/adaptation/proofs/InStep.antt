@@ -1,6 +1,6 @@
 -- AL2's sending and receiving undo each other: the claims of specs/AL2Claims.antt.
 --
---   sentIsWhole, readBack, readIsWhole                  sending and reading
+--   sentIsWhole, readBack, readIsWhole, readParts       sending and reading
 --   numbersRise, rangeKept                              a channel's numbers
 --   arrivalIs                                           what becomes of a number
 --   missingTold, nextInOrder, lateDiscarded, plainReceived, failedCounted, discardLeaves, dueIs, answersSay   what becomes of a unit
@@ -13,7 +13,7 @@
 -- Assumes nothing.
 use mathlib.Core.Path.{_≡_, refl, sym, ap, ap₂, _∙_, subst}
 use mathlib.Core.Logic.{inl, inr}
-use mathlib.Core.Bool.{Bool, true, false, not}
+use mathlib.Core.Bool.{Bool, true, false, cond, not}
 use mathlib.Core.List.{List, [], _∷_, _++_}
 use Prim.Native.Nat.{ℕ, zero, suc, _+_, _-_, _%_, _≤_, _<_}
 use native.Mathlib.Omega.{arith}
@@ -30,7 +30,7 @@ use Rattle.adaptation.specs.Handed.{longestUnit, isUnit}
 use Rattle.adaptation.specs.AL2.{field, whole, isSendable, sendTests, sent, fieldLength, isWhole, numberOf, unitOf, Parts, readTests, partsOf}
 use Rattle.adaptation.specs.AL2.{apart, risen, distance, mostPast, accepting, arrival, Receipt, handedUp, discarded, dueBy, delivered, settled, receiptOf, received}
 use Rattle.adaptation.specs.AL2Claims.{NumbersRise, DueInRange, NumbersInRange, RangeKept, ArrivalIs, DiscardLeaves, DueIs, AnswersSay}
-use Rattle.adaptation.specs.AL2Claims.{isNumbered, Less, SentIsWhole, ReadBack, ReadIsWhole, MissingTold, NextInOrder, LateDiscarded}
+use Rattle.adaptation.specs.AL2Claims.{isNumbered, Less, SentIsWhole, ReadBack, ReadIsWhole, ReadParts, MissingTold, NextInOrder, LateDiscarded}
 use Rattle.adaptation.specs.AL2Claims.{PlainReceived, FailedCounted, wholesFrom, numberAfter, dueNext, receipts, dueAfter, areSendable, InStep}
 use Rattle.adaptation.specs.declared.al2.Due.{Due}
 use Rattle.adaptation.specs.declared.al2.Numbers.{Numbers}
@@ -137,6 +137,15 @@ readIsWhole s w p =
         let n : length w ≡ fieldLength s + length (unitOf s w) + 1 = ap length e ∙ l in
         (numbered-of s w, rw (le-leb 1 (length (unitOf s w)) (omega arith), le-leb (length (whole (numberOf s w) (unitOf s w))) longestUnit (omega (arith, l))), e)
 
+pub readParts : ReadParts
+unfolding apart
+readParts s n w p =
+    by-tests (λ (t : Told Parts). t ≡ told p → Said p) refused (readTests s (n ∷ w)) (told (partsOf s (n ∷ w))) (λ k e. never (cc))
+    (λ none e. subst Said (told-same (partsOf s (n ∷ w)) p e) (refl, refl))
+  where
+    Said : Parts → Type 0
+    Said q = (q .number ≡ cond s (Numbered n) Plain) × (q .agreeing ≡ agrees eight (n ∷ w))
+
 -- ---- what becomes of a unit
 
 -- by what becomes of its number
@@ -195,6 +204,7 @@ dueIs h k e = (refl, refl)
 
 pub answersSay : (u : List ℕ) (e : Due) → AnswersSay u e
 answersSay u e = record {
+  unit = λ b k x. refl;
   clean = λ k x. refl;
   failed = λ k x. refl;
   late = refl;

@@ -12,6 +12,7 @@
 --   SentIsWhole       what sending writes is number, unit and check, and the rest of the output stays
 --   ReadBack          that is read as the number, an agreeing check and the unit
 --   ReadIsWhole       .. and what is read with an agreeing check is what sending its parts writes
+--   ReadParts         whatever its check is, the number that is read is the first octet where units have one, and whether the check agrees is told
 --   Past e d n        number n is d past e, modulo 256
 --   Less d c k        k is d less c, and 0 if that is below zero
 --   Counted s c k     k is the count c once a unit failed: with a number one more and at most 127, without one c
@@ -40,15 +41,16 @@
 -- Assumes nothing.
 use mathlib.Core.Path.{_≡_}
 use mathlib.Core.Logic.{_⊎_}
-use mathlib.Core.Bool.{Bool, true, false, _&&_}
+use mathlib.Core.Bool.{Bool, true, false, cond, _&&_}
 use mathlib.Core.List.{List, [], _∷_}
 use Prim.Native.Nat.{ℕ, _+_, _-_, _%_, _≤_, _<_}
 use lib.ListN.{take, drop}
 use Rattle.calls.specs.Refusal.{Told, refused, told, leaving}
 use Rattle.checks.specs.Check.{agrees, eight}
-use Rattle.adaptation.specs.Handed.{longestUnit, isUnit, Handed}
+use Rattle.adaptation.specs.Handed.{longestUnit, isUnit, badgeNumber, Handed}
 use Rattle.adaptation.specs.AL2.{firstNumbers, numberAs, risen, whole, isSendable, sent, isWhole, unitOf, Parts, apart}
 use Rattle.adaptation.specs.AL2.{arrival, Receipt, handedUp, discarded, dueBy, receiptOf, received, apartSays, receivedSays}
+use Rattle.adaptation.specs.declared.Badge.{Badge}
 use Rattle.adaptation.specs.declared.Badge.the-variants.{Clean, CheckFailed}
 use Rattle.adaptation.specs.declared.al2.Apart.the-variants as reading
 use Rattle.adaptation.specs.declared.al2.Arrival.the-variants.{Taken, Misdelivered}
@@ -104,6 +106,11 @@ ReadIsWhole =
     (s : Bool) (w : List ℕ) (p : Parts) → apart s w ≡ told p → p .agreeing ≡ true
     → (isNumbered (p .number) ≡ s) × (isSendable (p .number) (p .unit) ≡ true) × (w ≡ whole (p .number) (p .unit))
 
+abbrev pub ReadParts : Type 0
+ReadParts =
+    (s : Bool) (n : ℕ) (w : List ℕ) (p : Parts) → apart s (n ∷ w) ≡ told p
+    → (p .number ≡ cond s (Numbered n) Plain) × (p .agreeing ≡ agrees eight (n ∷ w))
+
 -- ---- receiving what was sent
 
 abbrev pub Past : (e d n : ℕ) → Type 0
@@ -152,6 +159,7 @@ DueIs = (h : Handed) (k : ℕ) (e : Due) → (dueBy (handedUp h k e) ≡ e) × (
 
 -- u is the unit's part of the whole, and e what was due
 pub record AnswersSay (u : List ℕ) (e : Due) : Type 0 where
+  pub unit : (b : Badge) (k : ℕ) (x : Due) → receivedSays (answered.Unit b k x) u e ≡ told (handedUp (record { badge = badgeNumber b; changed = 0; unit = u }) k x)
   pub clean : (k : ℕ) (x : Due) → receivedSays (answered.Unit Clean k x) u e ≡ told (handedUp (asSent u) k x)
   pub failed : (k : ℕ) (x : Due) → receivedSays (answered.Unit CheckFailed k x) u e ≡ told (handedUp (asFailed u) k x)
   pub late : receivedSays answered.Discarded u e ≡ told (discarded 0 e)

@@ -8,8 +8,9 @@
 --   hasShortGaps g ws  of the wholes ws, where the checks of g disagree before them: no more than 127 in a row disagree before one that agrees
 --   shownInNoise us ws what is shown of the units us, of which the wholes ws came: where the check agrees the unit as it was handed in, with badge
 --                      0, else what came, with badge 3; and none is missing
---   ByAL2InNoise, NothingMissing   every unit coded is posted, every unit delivered is taken, octets change on the way, and the check notices it: each
---                      unit wholly sent is shown so, and none is ever missing; of both ends, and so at the end of a run
+--   ByAL2InNoise, NothingMissing   every unit coded is posted, every unit delivered is taken, nothing is on its way, octets changed on the way, the
+--                      check notices it, and no more than 127 in a row are damaged before one that is not: each unit wholly sent is shown so, and
+--                      none is missing; of both ends, and so at the end of a run
 --   PacketsLostShown, PacketsNothingMissing   .. and at the end of a run over packets
 --   MissingOverRuns    all of these
 --
