@@ -77,19 +77,22 @@ pub sentIsWhole : SentIsWhole
 unfolding sent
 sentIsWhole n u out after m =
     by-tests
-    (λ (r : Ended ℕ (List ℕ)). r ≡ leaving m after → (isSendable n u ≡ true) × (take m after ≡ whole n u) × (drop m after ≡ drop m out))
+    (λ (r : Ended ℕ (List ℕ)). r ≡ leaving m after → Is)
     (refusing out) (sendTests n u out) (leaving (length (whole n u)) (written out 0 (whole n u)))
     (λ k e. told-refused (ap (λ (r : Ended ℕ (List ℕ)). r .answer) e) refl) written-is
   where
+    Is : Type 0
+    Is = (isSendable n u ≡ true) × (m ≡ length (whole n u)) × (take m after ≡ whole n u) × (drop m after ≡ drop m out)
+
     written-is : None (sendTests n u out) → leaving (length (whole n u)) (written out 0 (whole n u)) ≡ leaving m after
-        → (isSendable n u ≡ true) × (take m after ≡ whole n u) × (drop m after ≡ drop m out)
+        → Is
     written-is (a, (b, c)) e =
         let room : length (whole n u) ≤ length out = ltb-false (length out) (length (whole n u)) b in
         let both = leaving-same (length (whole n u)) m (written out 0 (whole n u)) after e in
         let k : m ≡ length (whole n u) = sym (both .0) in
         let z : m ≡ 0 + length (whole n u) = omega arith in
         let x : after ≡ written out 0 (whole n u) = sym (both .1) in
-        (not-false (isSendable n u) a, rw (k, x) (written-front out (whole n u) room), rw (z, x) (written-behind out 0 (whole n u) (omega arith)))
+        (not-false (isSendable n u) a, k, rw (k, x) (written-front out (whole n u) room), rw (z, x) (written-behind out 0 (whole n u) (omega arith)))
 
 pub readBack : ReadBack
 readBack n u h = whole-apart n u (sizes n u h .0) (sizes n u h .1)

@@ -9,7 +9,7 @@
 --   isNumbered n      there is a number
 --   asSent u          u is handed up with badge 0 and nothing changed
 --   asFailed u        .. with badge 3
---   SentIsWhole       what sending writes is number, unit and check, and the rest of the output stays
+--   SentIsWhole       what sending writes is number, unit and check, as many octets as it answers, and the rest of the output stays
 --   ReadBack          that is read as the number, an agreeing check and the unit
 --   ReadIsWhole       .. and what is read with an agreeing check is what sending its parts writes
 --   ReadParts         whatever its check is, the number that is read is the first octet where units have one, and whether the check agrees is told
@@ -44,7 +44,7 @@ use mathlib.Core.Logic.{_⊎_}
 use mathlib.Core.Bool.{Bool, true, false, cond, _&&_}
 use mathlib.Core.List.{List, [], _∷_}
 use Prim.Native.Nat.{ℕ, _+_, _-_, _%_, _≤_, _<_}
-use lib.ListN.{take, drop}
+use lib.ListN.{length, take, drop}
 use Rattle.calls.specs.Refusal.{Told, refused, told, leaving}
 use Rattle.checks.specs.Check.{agrees, eight}
 use Rattle.adaptation.specs.Handed.{longestUnit, isUnit, badgeNumber, Handed}
@@ -94,7 +94,7 @@ pub record RangeKept : Type 0 where
 abbrev pub SentIsWhole : Type 0
 SentIsWhole =
     (n : Number) (u out after : List ℕ) (m : ℕ) → sent n u out ≡ leaving m after
-    → (isSendable n u ≡ true) × (take m after ≡ whole n u) × (drop m after ≡ drop m out)
+    → (isSendable n u ≡ true) × (m ≡ length (whole n u)) × (take m after ≡ whole n u) × (drop m after ≡ drop m out)
 
 abbrev pub ReadBack : Type 0
 ReadBack =

@@ -70,6 +70,7 @@ module _ (s : Channels) (n : ℕ) (numbered : Bool) (u out : List ℕ) where
     pub inside : placeOf s n < placeCount
     pub may : isSendable (numberAs numbered (c .numbers)) u ≡ true
     pub channels : t ≡ put s (placeOf s n) (numbering c (risen numbered (c .numbers)))
+    pub long : k ≡ length w
     pub octets : take k after ≡ w
     pub rest : drop k after ≡ drop k out
 
@@ -93,6 +94,7 @@ module _ (s : Channels) (n : ℕ) (numbered : Bool) (u out : List ℕ) where
             inside = ltb-true (placeOf s n) placeCount (not-false (isIn s n) a);
             may = not-false (isSendable (numberAs numbered (c .numbers)) u) b;
             channels = sym (ap (λ (y : SendLent). y .channels) (both .1));
+            long = sym (both .0);
             rest = rw (← both .0, ← (ap (λ (y : SendLent). y .output) (both .1))) (written-rest out w (ltb-false (length out) (length w) d));
             octets = rw (← both .0, ← (ap (λ (y : SendLent). y .output) (both .1))) (written-front out w (ltb-false (length out) (length w) d));
           }
@@ -110,7 +112,7 @@ module _ (r : Channels) (m : ℕ) (numbered : Bool) (full : length (r .at) ≡ p
       )
 
 pub sendingLeaves : SendingLeaves
-sendingLeaves s t n k numbered u out after e = let a = sent-is s n numbered u out t after k e in (a .octets, a .rest)
+sendingLeaves s t n k numbered u out after e = let a = sent-is s n numbered u out t after k e in (a .long, a .octets, a .rest)
 
 pub taken-as-sent : TakenAsSent
 taken-as-sent s r t n m k numbered u out after fs fr here l e q =

@@ -3,9 +3,13 @@
 --   startBounded, callsKeepBounds                     what every call keeps
 --   takenAsSent                                       AL2 from channel to channel
 --   afterUnique, postUnique, sendUnique, takeUnique   any two answers are equal
+--   promisesSay                                       what the promises say
 --
 -- Assumes nothing.
 use mathlib.Core.Path.{sym, ap, ap₂, _∙_}
+use mathlib.Core.Bool.{Bool}
+use mathlib.Core.List.{List}
+use Prim.Native.Nat.{ℕ}
 use Rattle.calls.specs.Refusal.{Ended}
 use Rattle.calls.specs.declared.Outcome.{Outcome}
 use Rattle.calls.specs.declared.Length.{Length}
@@ -17,7 +21,7 @@ use Rattle.channels.specs.declared.Channels.{Channels}
 use Rattle.channels.specs.declared.After.{After}
 use Rattle.channels.specs.Channels.{Post, placeOf, channelAt, posted}
 use Rattle.channels.specs.Layers.{SendLent, sending}
-use Rattle.channels.specs.Claims.{StartBounded, CallsKeepBounds, TakenAsSent, AfterUnique, PostUnique, SendUnique, TakeUnique}
+use Rattle.channels.specs.Claims.{StartBounded, CallsKeepBounds, TakenAsSent, AfterUnique, PostUnique, SendUnique, TakeUnique, PromisesSay}
 use Rattle.channels.proofs.Keeping.{taken-as-sent}
 use Rattle.channels.proofs.Bounds.{start-bounded, keeps-bounds}
 
@@ -60,3 +64,6 @@ takeUnique s n numbered w a b p q =
     ap₂ (λ (r : Received) (y : Channels). record { received = r; channels = y })
     (says-once (unitOf numbered w) (channelAt s (placeOf s n) .numbers .due) (a .received) (b .received) (ap (λ (r : Ended Receipt Channels). r .answer) e))
     (ap (λ (r : Ended Receipt Channels). r .left) e)
+
+pub promisesSay : (s : Channels) (n : ℕ) (numbered : Bool) (u : List ℕ) → PromisesSay s n numbered u
+promisesSay s n numbered u = record { posts = λ w v r p. p; sends = λ out v r p. p; takes = λ r p. p }

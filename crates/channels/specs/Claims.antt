@@ -11,11 +11,12 @@
 --   TakenAsSent       a unit that AL2 sent on a channel, with a number or none, and that is taken on one that expects the number which the
 --                     first sends next, is handed up as sent: badge 0, nothing changed, none missing, whatever failed before; and again the
 --                     second expects the number that the first sends next, and with a number its count of failed units is 0
---   SendingLeaves     AL2's sending leaves the whole at the front of the output, and what stands behind it as it was
+--   SendingLeaves     AL2's sending leaves the whole at the front of the output, as many octets as it answers, and what stands behind it as it was
 --   AfterUnique       any two answers that the promise of opening, closing or resetting allows are equal, the channels included
 --   PostUnique        .. of posting, with the octets that wait
 --   SendUnique        .. of sending by AL2, with the output
 --   TakeUnique        .. of receiving by AL2
+--   PromisesSay       what the promises of posting, of sending and of receiving by AL2 say of an answer: it is how that call ends
 --
 -- Assumes nothing.
 use mathlib.Core.Path.{_≡_}
@@ -23,8 +24,8 @@ use mathlib.Core.Bool.{Bool, true, false, cond}
 use mathlib.Core.List.{List}
 use Prim.Native.Nat.{ℕ, _≤_, _<_}
 use lib.ListN.{length, take, drop}
-use Rattle.calls.specs.Refusal.{told, Ended, ended, leaving, outcomeSays}
-use Rattle.adaptation.specs.AL2.{numberAs, handedUp, whole}
+use Rattle.calls.specs.Refusal.{told, Ended, ended, leaving, outcomeSays, lengthSays}
+use Rattle.adaptation.specs.AL2.{numberAs, handedUp, whole, unitOf, receivedSays}
 use Rattle.adaptation.specs.declared.al2.Due.{Due}
 use Rattle.adaptation.specs.AL2Claims.{asSent, NumbersInRange}
 use Rattle.channels.specs.declared.Channel.{Channel}
@@ -88,7 +89,7 @@ abbrev pub SendingLeaves : Type 0
 SendingLeaves =
     (s t : Channels) (n k : ℕ) (numbered : Bool) (u out after : List ℕ)
     → sending (record { channels = s; output = out }) n numbered u ≡ leaving k (record { channels = t; output = after })
-    → (take k after ≡ whole (numberAs numbered (channelOf s n .numbers)) u) × (drop k after ≡ drop k out)
+    → let w = whole (numberAs numbered (channelOf s n .numbers)) u in (k ≡ length w) × (take k after ≡ w) × (drop k after ≡ drop k out)
 
 -- ---- any two answers are equal
 
@@ -110,3 +111,13 @@ SendUnique =
 abbrev pub TakeUnique : Type 0
 TakeUnique =
     (s : Channels) (n : ℕ) (numbered : Bool) (w : List ℕ) (a b : Taken) → TakesOn s n numbered w a → TakesOn s n numbered w b → a ≡ b
+
+-- ---- what the promises say is how the calls end
+
+pub record PromisesSay (s : Channels) (n : ℕ) (numbered : Bool) (u : List ℕ) : Type 0 where
+  pub posts : (w v : List ℕ) (r : After) → Posts s w n u r v
+      → ended (outcomeSays (r .outcome)) (record { channels = r .channels; octets = v }) ≡ posted s w n u
+  pub sends : (out v : List ℕ) (r : Sent) → SendsOn s n numbered u out r v
+      → ended (lengthSays (r .length)) (record { channels = r .channels; output = v }) ≡ sending (record { channels = s; output = out }) n numbered u
+  pub takes : (r : Taken) → TakesOn s n numbered u r
+      → ended (receivedSays (r .received) (unitOf numbered u) (channelOf s n .numbers .due)) (r .channels) ≡ taking s n numbered u
