@@ -8,6 +8,7 @@
 --   passes              .. what AL1 passes, and how
 --   whole-is            .. what AL2 sends a unit as
 --   unchecked           .. when there is neither check nor code
+--   headed              the number of octets that begin with one
 --   settled-failed, failed   .. what becomes of a unit of AL2 whose check disagrees
 --
 -- It takes nothing from the other proofs: a definition that fails a claim is refused here, before a lemma that it breaks besides.
@@ -169,9 +170,9 @@ enough : (n : Number) (u : List ℕ) (c : ℕ) → 1 ≤ length u → al2.fieldL
 enough (Numbered m) u c h = omega (arith, length-append u (c ∷ []))
 enough Plain u c h = omega (arith, length-append u (c ∷ []))
 
-headed : (n : Number) (u : List ℕ) (c : ℕ) → al2.numberOf (isNumbered n) ((al2.field n ++ u) ++ c ∷ []) ≡ n
-headed (Numbered m) u c = refl
-headed Plain u c = refl
+pub headed : (n : Number) (u x : List ℕ) → al2.numberOf (isNumbered n) ((al2.field n ++ u) ++ x) ≡ n
+headed (Numbered m) u x = refl
+headed Plain u x = refl
 
 counted-as : (u : List ℕ) (e : Due) {j k : ℕ} → j ≡ k
     → al2.handedUp (asFailed u) 0 (record { expected = e .expected; failed = j }) ≡ al2.handedUp (asFailed u) 0 (record { expected = e .expected; failed = k })
@@ -194,7 +195,7 @@ unfolding eight al2.received
 failed n u c k e h l f q =
     let w = (al2.field n ++ u) ++ c ∷ [] in
     let long : length w ≤ 1024 = omega (arith, length-append (al2.field n ++ u) (c ∷ [])) in
-    rw (le-leb (al2.fieldLength (isNumbered n) + 1 + 1) (length w) (enough n u c h), le-leb (length w) 1024 long, by (agrees eight w) refl, headed n u c, parted n u c)
+    rw (le-leb (al2.fieldLength (isNumbered n) + 1 + 1) (length w) (enough n u c h), le-leb (length w) 1024 long, by (agrees eight w) refl, headed n u (c ∷ []), parted n u c)
     (ap told (settled-failed n u e k q))
   where
     by : (b : Bool) → agrees eight ((al2.field n ++ u) ++ c ∷ []) ≡ b → agrees eight ((al2.field n ++ u) ++ c ∷ []) ≡ false

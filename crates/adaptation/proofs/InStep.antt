@@ -8,7 +8,7 @@
 --   wholesFrom-append, numberAfter-append               .. and of more units behind them
 --   dueAfter-append
 --   numberAfter-lt                                      the number that is sent next is an octet
---   sendable                                            a unit that may be sent with a number may with any
+--   sizes, sendable                                     what may be sent is so long, and what is so long may with any number
 --
 -- Assumes nothing.
 use mathlib.Core.Path.{_≡_, refl, sym, ap, ap₂, _∙_, subst}
@@ -66,7 +66,7 @@ rangeKept = record {
 
 -- ---- a unit that may be sent
 
-sizes : (n : Number) (u : List ℕ) → isSendable n u ≡ true → (0 < length u) × (length (whole n u) ≤ longestUnit)
+pub sizes : (n : Number) (u : List ℕ) → isSendable n u ≡ true → (0 < length u) × (length (whole n u) ≤ longestUnit)
 sizes n u h =
     let b = both-true (leb 1 (length u)) (leb (length (whole n u)) longestUnit) h in
     (leb-true 1 (length u) (b .0), leb-true (length (whole n u)) longestUnit (b .1))

@@ -12,6 +12,7 @@
 --   foundIsShown                         what is shown where a code word lies within e octets (Badges)
 --   badge-exactly, outOfReachExactly, outOfReachLeaves, faultlessIsCodeWord   what each badge of AL1M is given for (Badges)
 --   encodedUnique, receivedUnique        one answer of AL1M (Theorems)
+--   sizes                                how long a unit is that AL2 may send, and its whole (InStep)
 --   rangeKept, discardLeaves, dueIs      AL2's numbers stay within their range, and a discard leaves what is due (InStep)
 --   sentIsWhole, readBack, readIsWhole, nextInOrder, plainReceived   AL2's sending and receiving undo each other (InStep)
 --   inStep, wholesFrom-append, numberAfter-append, dueAfter-append, numberAfter-lt
@@ -27,7 +28,7 @@ pub use Rattle.adaptation.proofs.Refusals.{sent-leaves, refused-not, re
 pub use Rattle.adaptation.proofs.Coding.{coding-all}
 pub use Rattle.adaptation.proofs.Badges.{foundIsShown, badge-exactly, outOfReachExactly, outOfReachLeaves, faultlessIsCodeWord}
 pub use Rattle.adaptation.proofs.Theorems.{sent-small, handed-small, sentIsHandedUp, encodedUnique, receivedUnique}
-pub use Rattle.adaptation.proofs.InStep.{rangeKept, discardLeaves, dueIs, sentIsWhole, readBack, readIsWhole, nextInOrder, plainReceived, inStep}
+pub use Rattle.adaptation.proofs.InStep.{sizes, rangeKept, discardLeaves, dueIs, sentIsWhole, readBack, readIsWhole, nextInOrder, plainReceived, inStep}
 pub use Rattle.adaptation.proofs.InStep.{wholesFrom-append, numberAfter-append, dueAfter-append, numberAfter-lt}
 pub use Rattle.adaptation.proofs.Missing.{missingIsLost}
 pub use Rattle.adaptation.proofs.Unique.{badge-most, says-once, passed-once, read-once, received-once}

@@ -32,7 +32,7 @@ use Rattle.adaptation.specs.AL2Claims.{isNumbered}
 use Rattle.adaptation.specs.declared.al2.Due.{Due}
 use Rattle.adaptation.specs.declared.al2.Number.{Number}
 use Rattle.adaptation.specs.declared.al2.Number.the-variants.{Numbered, Plain}
-use Rattle.adaptation.proofs.Applying.{whole-length}
+use Rattle.adaptation.proofs.Applying.{whole-length, headed}
 use Rattle.checks.proofs.Laws.{sealed-front, agrees-own}
 
 pub field-most : (n : Number) → length (field n) ≤ 1
@@ -110,10 +110,6 @@ received-apart s w e = sym (checked-through (λ (t : Told Parts). byParts t e) r
 
 -- ---- both
 
-number-whole : (n : Number) (u : List ℕ) → numberOf (isNumbered n) (whole n u) ≡ n
-number-whole (Numbered n) u = refl
-number-whole Plain u = refl
-
 unit-whole : (n : Number) (u : List ℕ) → unitOf (isNumbered n) (whole n u) ≡ u
 unit-whole (Numbered n) u =
     let m : length (whole (Numbered n) u) - 1 - 1 ≡ length u = omega (arith, whole-length (Numbered n) u 1 refl) in
@@ -129,7 +125,7 @@ fieldLength-is Plain = refl
 pub whole-apart : (n : Number) (u : List ℕ) → 0 < length u → length (whole n u) ≤ longestUnit
     → apart (isNumbered n) (whole n u) ≡ told (record { number = n; agreeing = true; unit = u })
 whole-apart n u p l =
-    apart-read (isNumbered n) (whole n u) n true (omega (arith, whole-length n u (length (field n)) refl, fieldLength-is n)) l (number-whole n u)
+    apart-read (isNumbered n) (whole n u) n true (omega (arith, whole-length n u (length (field n)) refl, fieldLength-is n)) l (headed n u (checkOf eight (field n ++ u)))
     (agrees-own eight (field n ++ u))
     ∙ ap (λ (v : List ℕ). told (record { number = n; agreeing = true; unit = v })) (unit-whole n u)
 

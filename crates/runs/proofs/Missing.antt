@@ -21,7 +21,7 @@ use Rattle.adaptation.specs.AL2.{whole, isSendable, isWhole, unitOf}
 use Rattle.adaptation.specs.AL2Claims.{asSent, asFailed, wholesFrom, receipts}
 use Rattle.adaptation.specs.AL2Missing.{Passage, intact, damaged, arriving, Shown, shownOf, showing, Passable}
 use Rattle.adaptation.specs.declared.al2.Number.the-variants.{Numbered}
-use Rattle.adaptation.proofs.Laws.{whole-length, missingIsLost}
+use Rattle.adaptation.proofs.Laws.{whole-length, sizes, missingIsLost}
 use Rattle.runs.specs.Runs.{other, endAt}
 use Rattle.runs.specs.Demand.{withoutLast, isWaiting, whollySent}
 use Rattle.runs.specs.Carried.{ending, Reception, takenBy, codings, receptions, unitsCoded, wholesTaken, receiptsTold}
@@ -56,9 +56,9 @@ fated-more : (u w : List ℕ) (us ws : List (List ℕ)) (i g : ℕ) → isSendab
     → ((h : ℕ) → hasShortGaps h ws ≡ true → Fated ((i + 1) % 256) h us ws) → Fated i g (u ∷ us) (w ∷ ws)
 fated-more u w us ws i g su long noticed true q near f =
     let n = both-true (leb g 127) (hasShortGaps 0 ws) near in
-    let s = both-true (leb 1 (length u)) (leb (length (whole (Numbered i) u)) longestUnit) su in
+    let s = sizes (Numbered i) u su in
     let l = whole-length (Numbered i) u 1 refl in
-    let fits : isUnit (longestUnit - 2) u ≡ true = rw (s .0, le-leb (length u) (longestUnit - 2) (omega (arith, l, leb-true (length (whole (Numbered i) u)) longestUnit (s .1)))) in
+    let fits : isUnit (longestUnit - 2) u ≡ true = rw (le-leb 1 (length u) (s .0), le-leb (length u) (longestUnit - 2) (omega (arith, l, s))) in
     let r = f 0 (n .1) in
     record {
       arrives = rw q (ap₂ (λ (v : List ℕ) (vs : List (List ℕ)). v ∷ vs) (sym (noticed q)) (r .arrives));
@@ -66,11 +66,9 @@ fated-more u w us ws i g su long noticed true q near f =
       shows = rw q (ap (λ (m : List Shown). record { handed = asSent u; missing = 0 } ∷ m) (r .shows));
     }
 fated-more u w us ws i g su long noticed false q near f =
-    let s = both-true (leb 1 (length u)) (leb (length (whole (Numbered i) u)) longestUnit) su in
+    let s = sizes (Numbered i) u su in
     let l = whole-length (Numbered i) u 1 refl in
-    let some = leb-true 1 (length u) (s .0) in
-    let most = leb-true (length (whole (Numbered i) u)) longestUnit (s .1) in
-    let taken : isWhole true w ≡ true = rw (le-leb 3 (length w) (omega (arith, l, some, long)), le-leb (length w) longestUnit (omega (arith, most, long))) in
+    let taken : isWhole true w ≡ true = rw (le-leb 3 (length w) (omega (arith, l, s, long)), le-leb (length w) longestUnit (omega (arith, s, long))) in
     let r = f (g + 1) near in
     record {
       arrives = rw q (ap (λ (vs : List (List ℕ)). w ∷ vs) (r .arrives));
