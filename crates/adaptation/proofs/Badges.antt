@@ -5,7 +5,8 @@
 --   badge-sent            .. the badge, where its check agrees
 --   unit_found            .. and the unit that is handed up
 --   badge_exactly         each badge is given exactly for what it is to be given for
---   found_is_shown, faultless_is_code_word, clean_exactly, corrected_exactly, out_of_reach_exactly, check_failed_exactly, unchecked_exactly, out_of_reach_leaves,--   no_check_agrees         the claims of specs/Claims.antt on badges
+--   found_is_shown, faultless_is_code_word, clean_exactly, corrected_exactly, out_of_reach_exactly, check_failed_exactly, unchecked_exactly, out_of_reach_leaves,
+--   no_check_agrees         the claims of specs/Claims.antt on badges
 --
 -- Assumes nothing.
 use mathlib.Core.Path.{◌≡◌, refl, sym, ap, ap₂, ◌∙◌, subst}

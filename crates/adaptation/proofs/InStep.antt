@@ -6,7 +6,8 @@
 --   missing_told, next_in_order, late_discarded, plain_received, failed_counted, discard_leaves, due_is, answers_say   what becomes of a unit
 --   in_step                                              .. and of units that follow one another
 --   wholes_from-append, number_after-append               .. and of more units behind them
---   due_after-append--   number_after-lt                                      the number that is sent next is an octet
+--   due_after-append
+--   number_after-lt                                      the number that is sent next is an octet
 --   sizes, sendable                                     what may be sent is so long, and what is so long may with any number
 --
 -- Assumes nothing.

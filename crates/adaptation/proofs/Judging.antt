@@ -2,7 +2,9 @@
 --
 --   bare-none, bare_code   neither check nor code, by e
 --   badge-failed           the badges of a word of which a code word was found
---   badge_corrected--   badge-same--   fits-front             what is no longer than a front fits there
+--   badge_corrected
+--   badge-same
+--   fits-front             what is no longer than a front fits there
 --
 -- Assumes nothing.
 use mathlib.Core.Path.{◌≡◌}

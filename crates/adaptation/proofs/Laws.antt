@@ -15,7 +15,8 @@
 --   sizes                                how long a unit is that AL2 may send, and its whole (InStep)
 --   range_kept, discard_leaves, due_is      AL2's numbers stay within their range, and a discard leaves what is due (InStep)
 --   sent_is_whole, read_back, read_is_whole, next_in_order, plain_received   AL2's sending and receiving undo each other (InStep)
---   in_step, wholes_from-append, number_after-append, due_after-append, number_after-lt--                                        .. and so do units that follow one another, and their numbers (InStep)
+--   in_step, wholes_from-append, number_after-append, due_after-append, number_after-lt
+--                                        .. and so do units that follow one another, and their numbers (InStep)
 --   missing_is_lost                        what is told as missing is what was lost (Missing)
 --   badge_most                           the badges' numbers go to 4 (Unique)
 --   says-once, passed-once, read-once, received-once   one answer of AL1 and AL2 (Unique)

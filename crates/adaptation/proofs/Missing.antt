@@ -1,13 +1,14 @@
 -- What AL2 tells as missing is what was lost: the claim of specs/AL2Missing.antt. Since the last unit that was accepted, g units were lost or damaged, k of them
 -- lost: so the next number is g past the one expected, and g - k units failed.
 --
---   missing_is_lost--
+--   missing_is_lost
+--
 -- Assumes nothing.
 use mathlib.Core.Path.{◌≡◌, refl, ap}
 use mathlib.Core.Logic.{inl, inr}
 use mathlib.Core.Bool.{true}
 use mathlib.Core.List.{List, [], ◌∷◌}
-use Prim.Native.Nat.{ℕ, ◌+◌, ◌-◌, ◌%◌, ◌≤◌, ◌<◌}
+use Prim.Native.Nat.{ℕ, ◌+◌, ◌%◌, ◌≤◌, ◌<◌}
 use native.Mathlib.Decide.{dec_lt}
 use native.Mathlib.Omega.{arith}
 use Rattle.calls.specs.Refusal.{told}

@@ -2,7 +2,9 @@
 --
 --   sent-leaves      AL2's sending leaves the output
 --   refused_setting  AL1M's three tests: the first that fails decides
---   refused-length--   refused-room--   refused-not      .. and where none fails, none refuses
+--   refused-length
+--   refused-room
+--   refused-not      .. and where none fails, none refuses
 --   refused_none     .. and only there
 --   refused_sooner   without a room: what refuses then refuses with any
 --   refused-later    .. and where nothing does, settings and length are right

@@ -30,7 +30,8 @@
 --   due_by r         .. that
 --   delivered       .. by what becomes of its number, where its check agrees; on a discard none is missing
 --   settled         .. by its parts: the check first, then the number if there is one
---   receipt_of s w e .. by the octets w, where e is due--   received s w e  how receiving w ends, where e is due
+--   receipt_of s w e .. by the octets w, where e is due
+--   received s w e  how receiving w ends, where e is due
 --   apart_says, received_says   what each answer of the functions says
 --
 -- Assumes nothing.

@@ -2,7 +2,9 @@
 -- are in hex.
 --
 --   small   all of it:
---   AL2's whole by A1: number 10, unit 80, check F5; and with no number the unit 10 80--   A9 lengths: unit 47, check 16, e = 2: 53; with e = 101: 251; with e = 104: refusal 2--
+--   AL2's whole by A1: number 10, unit 80, check F5; and with no number the unit 10 80
+--   A9 lengths: unit 47, check 16, e = 2: 53; with e = 101: 251; with e = 104: refusal 2
+--
 -- Assumes nothing.
 use Rattle.std.specs.Prelude.{◌≡◌, refl, List, [], ◌∷◌, ℕ}
 use Rattle.std.proofs.Common.{ap}

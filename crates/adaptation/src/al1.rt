@@ -5,7 +5,7 @@ ghost use Rattle.adaptation.specs.AL1.{passed, passed_says};
 use crate::{Badge, LONGEST_UNIT};
 
 // What AL1 answers: the unit as it is, with its badge, or document 01's refusal number.
-#[derive(Drop)]
+#[derive(Clone, Copy)]
 pub enum Passed {
     Unit(Badge),
     Refused(u8),

@@ -21,7 +21,7 @@ pub const MOST_REPAIRS: u32 = 127;
 pub const MOST_PLACES: usize = MOST_REPAIRS as usize;
 
 // A unit that is handed up: its badge, how many octets of the word were changed, and its length.
-#[derive(Drop)]
+#[derive(Clone, Copy)]
 pub struct Judgement {
     pub badge: Badge,
     pub changed: usize,
@@ -29,7 +29,7 @@ pub struct Judgement {
 }
 
 // What receiving answers: the unit is handed up, or document 01's refusal number.
-#[derive(Drop)]
+#[derive(Clone, Copy)]
 pub enum Received {
     Unit(Judgement),
     Refused(u8),
@@ -126,8 +126,8 @@ fn badge_of(bare: bool, changed: usize, agrees: bool) -> Badge
 fn judge(received: &[u8], w: Width, e: usize, repair: &mut [u8], places: &mut [u8]) -> Judgement
     requires { (length received.now ≤ longest_word) × ((kind_of w).octets + 2 * e < length received.now)
         × (length received.now ≤ length repair.old) }
-    ensures { HandedIs (kind_of w) e received.now (record { repair = repair.entry.now; places = places.old }) result
-        (record { repair = repair.exit.now; places = places.new }) }
+    ensures { HandedIs (kind_of w) e received.now (record { repair = repair.old; places = places.old }) result
+        (record { repair = repair.new; places = places.new }) }
 {
     let l = checks::octets_of(w);
     let k = received.len() - 2 * e;
@@ -158,8 +158,8 @@ pub fn receive(
     repair: &mut [u8],
     places: &mut [u8],
 ) -> Received
-    ensures { Receives width e received.now (record { repair = repair.entry.now; places = places.old }) result
-        (record { repair = repair.exit.now; places = places.new }) }
+    ensures { Receives width e received.now (record { repair = repair.old; places = places.old }) result
+        (record { repair = repair.new; places = places.new }) }
 {
     let Asked::Known(w) = setting_of(width, e) else {
         return Received::Refused(1);

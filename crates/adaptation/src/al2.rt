@@ -17,35 +17,35 @@ const MOST_FAILED: u8 = 127;
 
 // What a receiver keeps of a channel between two units: the number that is expected next, and how many failed units were handed up
 // since the last accepted one.
-#[derive(Drop)]
+#[derive(Clone, Copy)]
 pub struct Due {
     pub expected: u8,
     pub failed: u8,
 }
 
 // A channel's numbers: the one that is sent next, and what is due.
-#[derive(Drop)]
+#[derive(Clone, Copy)]
 pub struct Numbers {
     pub sent: u8,
     pub due: Due,
 }
 
 // The optional number of a unit (7.3.3.2.1).
-#[derive(Drop)]
+#[derive(Clone, Copy)]
 pub enum Number {
     Numbered(u8),
     Plain,
 }
 
 // What reading a unit apart answers: its number and whether its check agrees, or document 01's refusal number.
-#[derive(Drop)]
+#[derive(Clone, Copy)]
 pub enum Apart {
     Parts { number: Number, agrees: bool },
     Refused(u8),
 }
 
 // What becomes of a number: it is taken, so many are missing before it, and that is due next; or it is misdelivered.
-#[derive(Drop)]
+#[derive(Clone, Copy)]
 pub enum Arrival {
     Taken { missing: u8, due: Due },
     Misdelivered,
@@ -53,7 +53,7 @@ pub enum Arrival {
 
 // What receiving a unit answers: it is handed up, with how many are missing before it and what is due next; it is discarded as
 // misdelivered, and what was due stays; or document 01's refusal number.
-#[derive(Drop)]
+#[derive(Clone, Copy)]
 pub enum Received {
     Unit { badge: Badge, missing: u8, due: Due },
     Discarded,

@@ -1,5 +1,7 @@
 // The adaptation layers of H.223 (000, clause 7): AL1, AL2 and AL1M.
 
+#![tactic(auto)]
+
 pub mod al1; // al1.rt: AL1
 pub mod al1m; // al1m.rt: AL1M
 pub mod al2; // al2.rt: AL2
@@ -11,7 +13,7 @@ ghost use Rattle.adaptation.specs.Handed.{badge_number};
 pub const LONGEST_UNIT: usize = 1024;
 
 // What is known of a unit that is handed up (document 01, "AL1M units").
-#[derive(Drop)]
+#[derive(Clone, Copy)]
 pub enum Badge {
     Clean,
     Corrected,

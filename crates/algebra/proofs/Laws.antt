@@ -1,27 +1,27 @@
 -- The face of this crate to others: the laws that they cite, passed on from the files that prove them. No other file of these
 -- proofs is imported from outside.
 --
---   the field       ring, for `simp ring`; ⊕-comm, ⊕-𝟘, ⊕-self, ⊕-cancel, ⊙-comm, ⊙-assoc, ⊙-𝟘, ⊙-𝟙, ⊙-inv; eq-of-sum, sum-of-eq
+--   the field       ring, for `simp ring`; ⊕-comm, ⊕-𝟘, ⊕_self, ⊕-cancel, ⊙-comm, ⊙-assoc, ⊙-𝟘, ⊙-𝟙, ⊙_inv; eq_of-sum, sum_of-eq
 --   series          the clauses of their operations: tl-⊞, ⊞-at, ⊡-at, none-at, unit-zero, unit-suc; unit-⊛, mixed-⊛ of a product;
 --                   below_more of degrees
---   values          ev_zero, ev-⊞ of the operations; ev-monomial; ev-more, ev-local: which coefficients are read; ev-snoc, ev-rows: the
---                   last coefficient, and all of them in rows; ev-added: a coefficient added to; terms-zero, terms-suc
---   powers          pow-zero, pow-suc, pow-add, pow-times, pow-pow, rising-at
+--   values          ev_zero, ev-⊞ of the operations; ev-monomial; ev_more, ev_local: which coefficients are read; ev-snoc, ev_rows: the
+--                   last coefficient, and all of them in rows; ev_added: a coefficient added to; terms-zero, terms-suc
+--   powers          pow-zero, pow-suc, pow-add, pow_times, pow-pow, rising-at
 --   power sums      psum-zero, psum-suc, psum-⊞
 --   polynomials     polynomial-none, polynomial-cons, polynomial-at, polynomial-append, polynomial-same of a list; raised-zero,
---                   raised-suc, raised-none, raised-⊛, raised-low, raised-high, raised-local, polynomial-raised of x^n f; below-polynomial of degrees
---   roots           rooted-top, below-rooted of (x - X₀) .. (x - Xₘ₋₁); divides-root, roots-divide: what it divides; quo-next, below-quo: its quotients;
---                   geometric-down, geometric-symmetric: its coefficients, where the Xᵢ are α, α², ..
---   interpolation   total-zero, total-suc, total-same, total-more of sums; part-is, part-value, part-ne of the parts;
+--                   raised-suc, raised-none, raised-⊛, raised-low, raised_high, raised_local, polynomial-raised of x^n f; below-polynomial of degrees
+--   roots           rooted-top, below-rooted of (x - X₀) .. (x - Xₘ₋₁); divides-root, roots_divide: what it divides; quo-next, below-quo: its quotients;
+--                   geometric_down, geometric_symmetric: its coefficients, where the Xᵢ are α, α², ..
+--   interpolation   total-zero, total-suc, total-same, total_more of sums; part-is, part_value, part-ne of the parts;
 --                   interpolated-at, interpolated-remainder of a sum of them
---   remainders      divides-nothing, divides-lowered, with ⊞-self; remainder-unique; the claims of specs/Remainder.antt: remainder_only, division_leaves
---   long division   sum-length, remainder-length, remainder-raised, remainder-sum, polynomial-zeros; register-length, register-none, register-more, register-zeros
+--   remainders      divides_nothing, divides-lowered, with ⊞_self; remainder_unique; the claims of specs/Remainder.antt: remainder_only, division_leaves
+--   long division   sum-length, remainder-length, remainder-raised, remainder-sum, polynomial-zeros; register-length, register-none, register_more, register-zeros
 --   loops           from_zero, horner of Horner's rule
 --   derivative      odds-at, deriv-odds
 --   weight          weight-zero, weight-suc; left-ne: a factor of 1 is not zero; light-is-none: the distance of the code
---   Massey's loop   scaled-start, scaled-below, scaled-zero, scaled-keep, scaled-grow
---   lists           lists-none, front, lists-skip, lists-take, lists-as, lists-same of rising lists of places
---   the repair      least-weight, scaled-complete, scaled-divisor, scaled-sound, scaled-lists
+--   Massey's loop   scaled_start, scaled_below, scaled-zero, scaled_keep, scaled_grow
+--   lists           lists-none, front, lists-skip, lists-take, lists_as, lists-same of rising lists of places
+--   the repair      least-weight, scaled_complete, scaled-divisor, scaled_sound, scaled_lists
 --
 -- Assumes nothing.
 pub use Rattle.algebra.proofs.Ring.{ring, ⊕-comm, ⊕-𝟘, ⊕_self, ⊕-cancel, ⊙-comm, ⊙-assoc, ⊙-𝟘, ⊙-𝟙, ⊙_inv, eq_of-sum, sum_of-eq}

@@ -7,7 +7,8 @@
 --   polynomial-same                      two lists of one length with the same polynomial are equal
 --   raised-zero, raised-suc              the clauses of raising
 --   raised-⊞, raised-sh, raised-none,    it goes through sums and shifts, and raises 0 to 0 and a x^k to a x^(k+n)
---   raised-monomial--   raised-⊛                             .. and x^n (f g) is (x^n f) g
+--   raised-monomial
+--   raised-⊛                             .. and x^n (f g) is (x^n f) g
 --   raised-low, raised_high              the coefficients of x^n f, below n and from n on
 --   raised_local                         those below m are read off f's below m
 --   below_raised                         the degree

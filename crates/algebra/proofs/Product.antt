@@ -1,11 +1,14 @@
 -- The laws of series and of their product.
 --
 --   tl-at, ⊞-at, ⊡-at, none-at, unit-zero, unit-suc,     the clauses of the definitions
---   sh-zero, sh-suc, ⊛-zero, ⊛-suc--   tl-⊞, tl-⊡, tl-none, tl-unit, tl-sh, tl-⊛            what is left without the first coefficient
+--   sh-zero, sh-suc, ⊛-zero, ⊛-suc
+--   tl-⊞, tl-⊡, tl-none, tl-unit, tl-sh, tl-⊛            what is left without the first coefficient
 --   ⊛-comm, ⊛-assoc, ⊛_left, ⊞-⊛, ⊛-⊞, ⊡-⊛, ⊛-⊡,     a commutative ring, in which sh f is x f
---   none-⊛, unit-⊛, sh-⊛, mixed-⊛--   sh-⊞, sh-⊡, sh-none                                  x (f + g), x (c f) and x 0
+--   none-⊛, unit-⊛, sh-⊛, mixed-⊛
+--   sh-⊞, sh-⊡, sh-none                                  x (f + g), x (c f) and x 0
 --   below_none, below-tl, below-⊞, below-⊡, below-sh,    the degree of what the operations make
---   below_more--   window        (f g) at r sees g from r - d to r only, if f has degree at most d
+--   below_more
+--   window        (f g) at r sees g from r - d to r only, if f has degree at most d
 --   ⊛_local       .. and g up to r only
 --
 -- Assumes nothing.

@@ -6,10 +6,10 @@
 --   scaled-zero       no discrepancy
 --   scaled_keep       a discrepancy d that is mended at the same length: c becomes b c + d B
 --   scaled_grow       .. or makes the recurrence longer
---   scaled_complete   search-complete of proofs/Repair.antt, for c in place of C; and so with the others:
+--   scaled_complete   search_complete of proofs/Repair.antt, for c in place of C; and so with the others:
 --   scaled-divisor    divisor-ne
---   scaled_sound      search-sound
---   scaled_lists      search-lists
+--   scaled_sound      search_sound
+--   scaled_lists      search_lists
 --
 -- Assumes nothing.
 use mathlib.Core.Path.{◌≡◌, refl, sym, ◌∙◌, ap, fun_ext}

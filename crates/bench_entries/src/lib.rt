@@ -1,4 +1,6 @@
 // What the benchmark times: payloads under a table entry that it lends, each from the same state. No host calls these functions.
+#![tactic(auto)]
+
 ghost use Rattle.std.specs.Prelude.{◌≤◌};
 
 use channels::{ALL_OCTETS, ChannelNumber, Channels, PLACE_OCTETS};

@@ -3,7 +3,7 @@
 --   first_refuses, none_answers, answers_say   each of them
 --
 -- Assumes nothing.
-use mathlib.Core.Path.{◌≡◌, refl}
+use mathlib.Core.Path.{refl}
 use mathlib.Core.List.{[], ◌∷◌}
 use Rattle.calls.specs.Refusal.{◌when◌}
 use Rattle.calls.specs.Claims.{FirstRefuses, NoneAnswers, AnswersSay}

@@ -7,7 +7,7 @@
 -- Assumes nothing.
 use Rattle.std.specs.Prelude.{◌≡◌, true, List, ◌∷◌, ◌++◌, ℕ}
 use Rattle.calls.specs.declared.Outcome.TheVariants as outcome
-use Rattle.calls.specs.declared.Length.TheVariants as length
+use Rattle.calls.specs.declared.Length.TheVariants as lengths
 use Rattle.calls.specs.Refusal.{refused, told, Test, ◌when◌, refusal, None, outcome_says, length_says}
 
 abbrev pub FirstRefuses : Type 0
@@ -19,5 +19,5 @@ NoneAnswers = (l : List Test) → None l → refusal l ≡ told tt
 pub record AnswersSay : Type 0 where
   pub done : outcome_says outcome.Done ≡ told tt
   pub undone : (k : ℕ) → outcome_says (outcome.Refused k) ≡ refused k
-  pub octets : (n : ℕ) → length_says (length.Octets n) ≡ told n
-  pub none : (k : ℕ) → length_says (length.Refused k) ≡ refused k
+  pub octets : (n : ℕ) → length_says (lengths.Octets n) ≡ told n
+  pub none : (k : ℕ) → length_says (lengths.Refused k) ≡ refused k

@@ -5,14 +5,13 @@
 -- Assumes nothing.
 use mathlib.Core.Path.{◌≡◌, refl}
 use mathlib.Core.Bool.{true}
-use mathlib.Core.List.{List, [], ◌∷◌}
+use mathlib.Core.List.{[], ◌∷◌}
 use Prim.Native.Nat.{ℕ, zero, suc, ◌<◌}
 use native.Mathlib.Nat.{not-suc-le-zero}
 use native.Mathlib.Omega.{arith}
 use borrow.Author.Tests.{ltb-true, lt-ltb, eq-eqb}
 use lib.ListN.{length, get_or}
 use Rattle.octets.specs.Tests.{both_true}
-use Rattle.channels.specs.declared.Channels.{Channels}
 use Rattle.channels.specs.Channels.{vacant, is_channel, place_of, is_in, all_open, channel_at}
 use Rattle.channels.specs.Exactly.{OpenExactly, AllOpenExactly}
 use Rattle.channels.proofs.Seats.{first-least, place_open, place-number, known-place}

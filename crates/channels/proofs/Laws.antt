@@ -1,6 +1,7 @@
 -- What the crates above take from the channels' proofs, and nothing else.
 --
---   Seat, seat, seats, place-seats, free-seats, seat-at, seats-put, seats-length, place-number,--   place_unique, vacant-behind, put-there, put-elsewhere, segmentable-place, place-new, place-old, place-not_free, number-seats   places, and what the two ends have alike (Seats)
+--   Seat, seat, seats, place-seats, free-seats, seat-at, seats-put, seats-length, place-number,
+--   place_unique, vacant-behind, put-there, put-elsewhere, segmentable-place, place-new, place-old, place-not_free, number-seats   places, and what the two ends have alike (Seats)
 --   sought-place, in-placed                                     numbers replaced by places (Placing)
 --   held_at, orderly-put, filled-room, held_grown, held_else, orderly_joined, orderly_emptied   what a place holds (Holding)
 --   seated-kept, seated-put                                     the seats (Seating)

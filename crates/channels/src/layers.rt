@@ -14,14 +14,14 @@ use adaptation::{al1, al1m, al2};
 use calls::Length;
 
 // How many octets an AL2 unit was sent in, or document 01's refusal number; and the channels as the call leaves them.
-#[derive(Drop)]
+#[derive(Clone, Copy)]
 pub struct Sent {
     pub length: Length,
     pub channels: Channels,
 }
 
 // What became of a received AL2 unit, and the channels as the call leaves them.
-#[derive(Drop)]
+#[derive(Clone, Copy)]
 pub struct Taken {
     pub received: al2::Received,
     pub channels: Channels,
@@ -147,8 +147,8 @@ pub fn al1m_at(
     repair: &mut [u8],
     places: &mut [u8],
 ) -> al1m::Received
-    ensures { Receives width e (part_at output.now start length) (record { repair = repair.entry.now; places = places.old }) result
-        (record { repair = repair.exit.now; places = places.new }) }
+    ensures { Receives width e (part_at output.now start length) (record { repair = repair.old; places = places.old }) result
+        (record { repair = repair.new; places = places.new }) }
 {
     al1m::receive(unit_at(output, start, length), width, e, repair, places)
 }

@@ -1,4 +1,6 @@
 // The channels: small state by value, and beside it, lent, the octets that are held and those that wait.
+#![tactic(auto)]
+
 pub mod layers; // layers.rt: AL2 by channel, and a finished unit read where it lies
 pub mod places; // places.rt: where channels are
 
@@ -22,11 +24,11 @@ pub const PLACE_OCTETS: usize = 1024;
 pub const ALL_OCTETS: usize = PLACES * PLACE_OCTETS;
 
 // A channel's number. It is no multiplex code.
-#[derive(Drop)]
+#[derive(Clone, Copy)]
 pub struct ChannelNumber(pub u16);
 
 // One place: whether a channel is open there, and what the calls have to know of it.
-#[derive(Drop)]
+#[derive(Clone, Copy)]
 pub struct Channel {
     pub open: bool,
     pub segmentable: bool,
@@ -36,13 +38,13 @@ pub struct Channel {
     pub numbers: Numbers,
 }
 
-#[derive(Drop)]
+#[derive(Clone, Copy)]
 pub struct Channels {
     pub at: [Channel; PLACES],
 }
 
 // What a call answers, and the channels as it leaves them. (An enum cannot hold an array.)
-#[derive(Drop)]
+#[derive(Clone, Copy)]
 pub struct After {
     pub outcome: Outcome,
     pub channels: Channels,

@@ -10,7 +10,7 @@
 --   fold             what a generator that folds does with an octet before zeros it does before any octets
 --   flip a k v       v, with a added to the octet at place k
 --   added_none, added-set   added at no place, and at one place more
---   flip-part        .. within a part; flip-octets: octets they stay
+--   flip-part        .. within a part; flip_octets: octets they stay
 --   zeros_octets, append_octets, part_octets   what is octets: zeros, octets behind octets, a part of them
 --
 -- Assumes nothing.

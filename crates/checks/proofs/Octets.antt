@@ -8,7 +8,8 @@
 --   octets_of-cons, octets_of-snoc    eight bits in front are an octet in front; eight zeros behind are the octet 0
 --   bits-octets_of, octets_of-bits    bits by octets are those bits, and octets by their bits those octets
 --   octets_of-sum                    octet by octet
---   not-sum, sum_zeros, sum-nothing the sum with ones is the ones' complement, and with zeros, or nothing, it is nothing new--
+--   not-sum, sum_zeros, sum-nothing the sum with ones is the ones' complement, and with zeros, or nothing, it is nothing new
+--
 -- Assumes nothing.
 use mathlib.Core.Path.{◌≡◌, refl, sym, ap, ap₂, ◌∙◌}
 use mathlib.Core.Bool.{Bool, true, false, cond, not}

@@ -3,7 +3,7 @@
 --   plus a b   a + b: 1 + 1 = 0
 --   𝔹          the field; its product is "and"
 --
--- plus_assoc, plus_comm, plus_nil, plus-self, and-plus and and-inverse are its laws, case by case.
+-- plus_assoc, plus_comm, plus_nil, plus_self, and-plus and and-inverse are its laws, case by case.
 -- Assumes nothing.
 use Rattle.std.specs.Prelude.{Bool, true, false, not, ◌&&◌, ◌≢◌, ◌≡◌, refl}
 use Rattle.std.proofs.Common.{true≢false}

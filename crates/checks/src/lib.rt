@@ -12,6 +12,8 @@
 // bits is the product with x^k, and a shift to the left what x^-k times the octet has at x^0 and above. The octet times x^w is q times the
 // generator, and a remainder below x^w: q is the octet, and what the generator's lower terms times q have at x^w and above (which hangs on
 // the highest coefficients alone, in which q and the octet agree); the remainder is what they have below it.
+#![tactic(auto)]
+
 pub mod seals; // seals.rt: a check behind its octets
 
 ghost use Rattle.std.specs.Prelude.{◌≡◌, [], ◌∷◌, ◌++◌, ◌+◌, ◌-◌, ◌≤◌, length, take, drop, replicate};
@@ -27,7 +29,7 @@ const LONGEST: usize = 1024;
 const FOLDED: usize = 16;
 
 // The width of a check: 0 bits are no check.
-#[derive(Drop)]
+#[derive(Clone, Copy)]
 pub enum Width {
     Zero,
     Eight,
@@ -35,7 +37,7 @@ pub enum Width {
 }
 
 // A width that is asked for by its number of bits.
-#[derive(Drop)]
+#[derive(Clone, Copy)]
 pub enum Asked {
     Known(Width),
     Unknown,

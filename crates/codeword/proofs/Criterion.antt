@@ -15,9 +15,9 @@ use Rattle.algebra.specs.Polynomial.{polynomial}
 use Rattle.algebra.specs.Points.{Distinct}
 use Rattle.algebra.proofs.Laws.{divides-root, roots_divide}
 use Rattle.field.specs.Octet.{order}
-use Rattle.field.specs.Octet.Laws.{powers_distinct}
+use Rattle.field.proofs.Laws.{powers_distinct}
 use Rattle.codeword.specs.Element.{elements, octet, α}
-use Rattle.codeword.specs.Element.Laws.{octet-pow}
+use Rattle.codeword.proofs.Element.Laws.{octet-pow}
 use Rattle.codeword.specs.CodeWord.{generator, word, Octets, CodeWord}
 use Rattle.codeword.specs.Places.{value}
 use Rattle.codeword.proofs.Word.{below_word}

@@ -3,7 +3,8 @@
 --   element-same         two octets with the same element are one
 --   difference v w       the series of what v and w differ by, at each place
 --   distance-weight      the distance is its weight
---   distance_symmetric, distance_triangle, distance_self, distance-zero--   difference-value     its power sums are the sums of the words' values
+--   distance_symmetric, distance_triangle, distance_self, distance-zero
+--   difference-value     its power sums are the sums of the words' values
 --   code_words-apart      two code words of one length that differ in at most 2e octets are equal
 --   within_unique        so at most one code word lies within e octets of a word
 --

@@ -20,7 +20,7 @@ use Rattle.algebra.specs.Power.{pow}
 use Rattle.octets.specs.Written.{written, written-length, written_inside, written_outside}
 use Rattle.field.specs.Octet as Octet
 use Rattle.codeword.specs.Element.{elements, element, α}
-use Rattle.codeword.specs.Element.Laws.{element-power}
+use Rattle.codeword.proofs.Element.Laws.{element-power}
 use Rattle.codeword.specs.Lanes.{lanes, Lanes}
 use Rattle.codeword.specs.Rows.{Evaluated, Spread, Known, Worth, Filling, Repeated}
 use Rattle.codeword.proofs.Word.{pow_wrap}

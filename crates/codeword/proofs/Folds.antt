@@ -3,7 +3,8 @@
 --   residue-roots, other-roots      the r of which α^15r is a root of the one polynomial, and of the other
 --   is_small, are_small, roots_small  all the numbers of a list are below a bound; below 34, as the code asks of roots
 --   Gained w c roots m v u          u has what v has of the columns of w, and their values at those of the c roots that are up to m
---   residues_gained, others_gained, last_gained--                                   .. by a list of roots that is filled in
+--   residues_gained, others_gained, last_gained
+--                                   .. by a list of roots that is filled in
 --   others-past                     .. or by none, where no root is up to m
 --   values_are, few_values_are      all the values are filled in
 --
@@ -23,10 +24,12 @@ use Rattle.algebra.specs.Power.{pow}
 use Rattle.algebra.specs.Value.{ev, terms}
 use Rattle.algebra.proofs.Laws.{ev_local, terms-zero, terms-suc, pow-pow}
 use Rattle.field.specs.Octet as Octet
-use Rattle.field.specs.Octet.Laws.{power_zero, power-suc, power_wrap, sum_xor}
+use Rattle.field.specs.Octet.Laws.{power_zero, power-suc, sum_xor}
+use Rattle.field.proofs.Laws.{power_wrap}
 use Rattle.field.specs.Octet.Table.{worked, worked-is}
 use Rattle.codeword.specs.Element.{elements, element, α}
-use Rattle.codeword.specs.Element.Laws.{element-power, element-sum, element-zero}
+use Rattle.codeword.specs.Element.Laws.{element-sum, element-zero}
+use Rattle.codeword.proofs.Element.Laws.{element-power}
 use Rattle.codeword.specs.Rows.{spaced, column, RowsAre, residues, others, Folding, Folded, Worth, Known, Filling, Repeated, ColumnsAre}
 use Rattle.codeword.proofs.Columns.{spaced-at}
 use Rattle.codeword.proofs.Filling.{repeated-stays, repeated-filled}

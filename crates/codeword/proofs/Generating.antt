@@ -29,9 +29,11 @@ use Rattle.algebra.specs.Power.{pow, rising}
 use Rattle.algebra.proofs.Laws.{⊕-comm, ⊙_inv, ⊙-𝟙, ⊙-assoc, ⊙-comm, eq_of-sum, rooted-top, pow-zero, pow-suc, geometric_down, geometric_symmetric}
 use Rattle.field.specs.Octet as Octet
 use Rattle.field.specs.Octet.Table.{Laid}
-use Rattle.field.specs.Octet.Laws.{sum_octet, power_octet, power_zero, power-suc, power-add, power-mul, power_wrap, powers_distinct}
+use Rattle.field.specs.Octet.Laws.{sum_octet, power_octet, power_zero, power-suc, power-add, power-mul}
+use Rattle.field.proofs.Laws.{power_wrap, powers_distinct}
 use Rattle.codeword.specs.Element.{elements, element, octet, α}
-use Rattle.codeword.specs.Element.Laws.{element-sum, element-product, element-inverse, element-power, element_one, element-ne, octet-pow}
+use Rattle.codeword.specs.Element.Laws.{element-sum, element-product, element-inverse, element_one, element-ne}
+use Rattle.codeword.proofs.Element.Laws.{element-power, octet-pow}
 use Rattle.codeword.specs.CodeWord.{longest_word}
 use Rattle.codeword.specs.Lanes.{lanes, Lanes, Stored}
 use Rattle.codeword.specs.Register.{G, ones, room, GeneratorIs}

@@ -29,7 +29,8 @@ use Rattle.field.specs.Octet as Octet
 use Rattle.field.specs.Octet.Table.{Laid}
 use Rattle.field.specs.Octet.Laws.{sum_octet, product_octet}
 use Rattle.codeword.specs.Element.{elements, element, α}
-use Rattle.codeword.specs.Element.Laws.{element-sum, element-product, element-inverse, element-power, element-zero}
+use Rattle.codeword.specs.Element.Laws.{element-sum, element-product, element-inverse, element-zero}
+use Rattle.codeword.proofs.Element.Laws.{element-power}
 use Rattle.codeword.specs.CodeWord.{longest_word, word}
 use Rattle.codeword.specs.Places.{value}
 use Rattle.codeword.specs.Syndromes.{SyndromesAre}

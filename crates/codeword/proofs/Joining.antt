@@ -31,7 +31,8 @@ use Rattle.algebra.specs.Value.{ev}
 use Rattle.algebra.proofs.Laws.{ev_more, ev_local, ev_rows, pow-pow}
 use Rattle.field.specs.Octet as Octet
 use Rattle.codeword.specs.Element.{elements, element, α}
-use Rattle.codeword.specs.Element.Laws.{element-zero, element-power}
+use Rattle.codeword.specs.Element.Laws.{element-zero}
+use Rattle.codeword.proofs.Element.Laws.{element-power}
 use Rattle.codeword.specs.CodeWord.{longest_word, word, Octets, CodeWord}
 use Rattle.codeword.specs.Places.{value}
 use Rattle.codeword.specs.Lanes.{lanes, along}

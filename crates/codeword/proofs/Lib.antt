@@ -1,3 +1,4 @@
+pub mod Element
 pub mod Counting
 pub mod Arrays
 pub mod Word

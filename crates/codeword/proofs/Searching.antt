@@ -18,7 +18,8 @@ use Rattle.algebra.specs.Value.{ev}
 use Rattle.algebra.proofs.Laws.{lists-none, lists_as}
 use Rattle.field.specs.Octet as Octet
 use Rattle.codeword.specs.Element.{elements, octet}
-use Rattle.codeword.specs.Element.Laws.{octet-same, octet-nil, octet-pow, element-octet}
+use Rattle.codeword.specs.Element.Laws.{octet-same, octet-nil, element-octet}
+use Rattle.codeword.proofs.Element.Laws.{octet-pow}
 use Rattle.codeword.specs.CodeWord.{longest_word}
 use Rattle.codeword.specs.Places.{places, inverses}
 use Rattle.codeword.specs.Search.{value_of, SearchIs, Gathered}

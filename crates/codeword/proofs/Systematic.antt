@@ -9,7 +9,8 @@
 --   register_parity               what the register holds at the end is the parity
 --   encoded-unique                any two answers that encoding's promise allows are equal, what is left in the lent octets included
 --   encodes_true, encodes-all     what fits
---   encoded_refused, encoded_done the two cases of the promise--   encoded-is                    .. and what it says where the message fits
+--   encoded_refused, encoded_done the two cases of the promise
+--   encoded-is                    .. and what it says where the message fits
 --
 -- Assumes nothing.
 use mathlib.Core.Path.{◌≡◌, refl, sym, ap, ◌∙◌, subst}

@@ -26,9 +26,10 @@ use Rattle.algebra.specs.PowerSum.{psum}
 use Rattle.algebra.proofs.Laws.{ev-monomial, ring, ev_zero, ev-⊞, ev_more, polynomial-cons, below-polynomial, pow-zero}
 use Rattle.algebra.proofs.Laws.{pow-suc, psum-zero, psum-suc, pow-add, pow_times}
 use Rattle.field.specs.Octet.{order}
-use Rattle.field.specs.Octet.Laws.{powers_distinct, alpha-around, power_wrap}
+use Rattle.field.proofs.Laws.{powers_distinct, alpha-around, power_wrap}
 use Rattle.codeword.specs.Element.{elements, element, octet, α}
-use Rattle.codeword.specs.Element.Laws.{octet-element, octet-same, octet-pow, octet_one, element-zero}
+use Rattle.codeword.specs.Element.Laws.{octet-element, octet-same, octet_one, element-zero}
+use Rattle.codeword.proofs.Element.Laws.{octet-pow}
 use Rattle.codeword.specs.CodeWord.{longest_word, word, Octets}
 use Rattle.codeword.specs.Places.{places, locators, inverses, value}
 

@@ -8,7 +8,7 @@
 --   octet x      the element x as an octet
 --   α            the element 02
 --
--- `elements` is shut too; what stands behind it is Element/Laws.antt. Assumes nothing.
+-- `elements` is shut too; what stands behind it is Element/Laws.antt, and of the powers of α proofs/Element/Laws.antt. Assumes nothing.
 use mathlib.Core.Path.{◌≡◌, ap}
 use mathlib.Core.HLevel.{Σ_prop_path}
 use Rattle.std.specs.Prelude.{ℕ, zero, suc, ◌%◌, ◌<◌}
@@ -18,7 +18,8 @@ use Rattle.std.proofs.Common.{arith, lit<}
 use Rattle.algebra.specs.Field.{Field}
 use Rattle.field.specs.Octet as Octet
 use Rattle.field.specs.Octet.Laws.{sum_octet, sum-assoc, sum_comm, sum-zero, sum_self, product_octet, product-assoc, product-comm}
-use Rattle.field.specs.Octet.Laws.{product_one, product-sum, inverse_octet, product-inverse}
+use Rattle.field.specs.Octet.Laws.{product_one, product-sum, inverse_octet}
+use Rattle.field.proofs.Laws.{product-inverse}
 pub mod Laws
 
 abbrev pub Element : Type 0

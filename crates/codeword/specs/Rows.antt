@@ -12,7 +12,8 @@
 --   Spread n r a v u          u is v with the first n lanes of a as entry r of the rows 14, 13, ..
 --   Known w r v               entries r, 48 + r, .. of v are the values of the columns of w at α^15r
 --   Worth w n r f             n rows of f are worth at α^15r what the columns of w are
---   Filling n f c roots m v u--                             of every word w whose columns the n rows of f are worth at the c roots: what v has of their values u has too, and it
+--   Filling n f c roots m v u
+--                             of every word w whose columns the n rows of f are worth at the c roots: what v has of their values u has too, and it
 --                             has those at α^15r for each root r up to m
 --   Repeated n v u            u is v up to entry 17 of each row, and n of its rows have entries 1 to 16 again from entry 18 on
 --   ColumnsAre m w v          entries 1 to 32 of the rows of v, as far as m, are the values of the columns of w

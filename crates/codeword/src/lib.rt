@@ -1,4 +1,6 @@
 // The code word of 003, D.4.1.7.3: encoding and repair.
+#![tactic(auto)]
+
 mod encoding;
 mod generator;
 mod interpolation;
@@ -20,7 +22,7 @@ use field::LAID;
 pub const LONGEST_WORD: usize = 255;
 
 // What a repair answers: a code word was found, this many octets of the word were changed for it; or none lies within reach.
-#[derive(Drop)]
+#[derive(Clone, Copy)]
 pub enum Reach {
     Found(usize),
     OutOfReach,

@@ -31,7 +31,7 @@ const SECOND: usize = 384;
 const ROOM: usize = 640;
 
 // What the loop keeps beside c, d, b and t: the length of c, how far b is to be shifted, and what b failed by.
-#[derive(Drop)]
+#[derive(Clone, Copy)]
 pub struct Progress {
     pub long: usize,
     pub shift: usize,
@@ -40,7 +40,7 @@ pub struct Progress {
 
 // The shortest recurrence for the syndromes times an octet that is not zero, from the coefficient of 1 on, zero where unused; its product with the
 // syndromes, of which the first coefficients are the error evaluator; and its length. Where that is above e, only that none is shorter.
-#[derive(Drop)]
+#[derive(Clone, Copy)]
 pub struct Recurrence {
     pub coefficients: [u8; LONGEST_WORD],
     pub evaluator: [u8; 256],

@@ -15,7 +15,7 @@ use field::{LAID, ORDER};
 const VALUES: usize = 272;
 
 // The places found, rising from the front, and how many these are.
-#[derive(Drop)]
+#[derive(Clone, Copy)]
 pub struct Places {
     pub at: [u8; LONGEST_WORD],
     pub count: usize,

@@ -30,7 +30,7 @@ fn join(v: &[u8; VALUES], o: usize, k: usize, powers: &[u8; LAID]) -> [u8; 16]
 }
 
 // The values at 32 points in a row, in two halves.
-#[derive(Drop)]
+#[derive(Clone, Copy)]
 struct Pair {
     low: [u8; 16],
     high: [u8; 16],

@@ -20,9 +20,9 @@ use Rattle.algebra.specs.Polynomial.{monomial, polynomial, root, rooted}
 use Rattle.field.specs.Octet.{sum, product, order}
 use Rattle.field.specs.Octet.Laws.{sum_xor, product-zero, product_one}
 use Rattle.codeword.specs.Element.{elements, element, octet, α}
-use Rattle.codeword.specs.Element.Laws.{octet-element, octet-add, octet-mul, octet-nil, octet_one, octet-pow}
+use Rattle.codeword.specs.Element.Laws.{octet-element, octet-add, octet-mul, octet-nil, octet_one}
 use Rattle.codeword.specs.CodeWord.{Octets, word}
-use Rattle.codeword.proofs.Laws.{word-length}
+use Rattle.codeword.proofs.Laws.{octet-pow, word-length}
 use Rattle.demands.proofs.Working.{times, product-times, alphas, alphas-at}
 
 abbrev pub shifted : (ℕ → ℕ) → ℕ → ℕ

@@ -24,10 +24,10 @@ use Rattle.octets.specs.Tests.{never}
 use Rattle.octets.specs.Every.{every, every_at}
 use Rattle.algebra.specs.Power.{pow}
 use Rattle.codeword.specs.Element.{elements, octet, α}
-use Rattle.codeword.specs.Element.Laws.{octet-same, octet-pow, octet-nil}
+use Rattle.codeword.specs.Element.Laws.{octet-same, octet-nil}
 use Rattle.codeword.specs.CodeWord.{Octets, CodeWord, distance, Within, longest_word}
 use Rattle.codeword.specs.Places.{value}
-use Rattle.codeword.proofs.Laws.{value_none, code_word-zero, zero_code_word, distance-zero}
+use Rattle.codeword.proofs.Laws.{octet-pow, value_none, code_word-zero, zero_code_word, distance-zero}
 use Rattle.demands.proofs.Working.{alphas, alphas-at, horner, horner-value}
 
 unfoldable pub is_zero_at : List ℕ → ℕ → Bool

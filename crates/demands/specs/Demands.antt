@@ -11,7 +11,11 @@
 --      exactly the units wholly sent at the other, in order. `UnitToUnit` in its specs/Carried.antt: from the unit handed in to the unit handed up
 --   3  specs/Repairs.antt, `Demand3`: a repaired word is found exactly when a code word lies within e octets, never a second one, and the places of
 --      what was repaired are told (document 02, ticket 2)
---   1 and 3 of what the C host calls: specs/Host.antt, `Host`--   2 and 3 from packets to units (document 02, ticket 4): `OverPackets` in the specs/OverPackets.antt of `runs`; of packets by themselves `Packets` in the--   specs/Claims.antt of `packets`, and of the code of their headers `Golay` in that of `golay`--   and what AL2 tells as missing over a run (document 02, ticket 5): `MissingOverRuns` in the specs/Missing.antt of `runs`-- and of the call record (document 02, ticket 1): `Recording` in the specs/Claims.antt of `record`, with its form in specs/Form.antt there.
+--   1 and 3 of what the C host calls: specs/Host.antt, `Host`
+--   2 and 3 from packets to units (document 02, ticket 4): `OverPackets` in the specs/OverPackets.antt of `runs`; of packets by themselves `Packets` in the
+--   specs/Claims.antt of `packets`, and of the code of their headers `Golay` in that of `golay`
+--   and what AL2 tells as missing over a run (document 02, ticket 5): `MissingOverRuns` in the specs/Missing.antt of `runs`
+-- and of the call record (document 02, ticket 1): `Recording` in the specs/Claims.antt of `record`, with its form in specs/Form.antt there.
 --
 -- Assumes nothing.
 use Rattle.record.specs.Claims.{Recording}

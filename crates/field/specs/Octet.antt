@@ -12,18 +12,19 @@
 --   power a k     a to the k
 --   inverse a     the octet whose product with a is 1, and 0 for 0: a to the order less 1, since a to the order is 1 for each a but 0
 --
--- The definitions are shut. Only the modules below this one may open them; all others, and every other crate, have `Octet.Laws`, and of
--- `Octet.Table` what the table is, and a product that can be computed. `Octet.Exactly` is a claim: the product in the paper's words.
--- `Octet.Steps` is for this crate's functions alone (`tests/heads`).
+-- The definitions are shut. Only the modules below this one may open them; all others, and every other crate, have `Octet.Laws` and what rests
+-- on these laws and on tests of α, `proofs/Laws.antt`, and of `Octet.Table` what the table is, and a product that can be computed. `Octet.Exactly`
+-- is a claim: the product in the paper's words. `Octet.Basis`, `Octet.Ring` and `Octet.Order` are for this crate's proofs alone, and `Octet.Steps`
+-- for its functions (`tests/heads`).
 -- Assumes nothing.
 use Rattle.std.specs.Prelude.{ℕ, zero, suc, ◌-◌, ◌*◌, ◌/◌, ◌%◌}
 use Rattle.std.specs.Int.Bits.{bit_xor}
 mod Sum
 mod Product
-mod Basis
-mod Ring
+pub mod Basis
+pub mod Ring
 mod Power
-mod Order
+pub mod Order
 pub mod Table
 mod Inverse
 pub mod Laws

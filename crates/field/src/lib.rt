@@ -1,8 +1,10 @@
 // The field of 256 elements of 003, D.4.1.7.3: sum, product, inverse and the powers of α. Every octet and every number is answered; only
 // the product by a power out of a row of them asks for such a row.
-// The definitions are in specs/Octet.antt; what the layers above may use of them is specs/Octet/Laws.antt, and of the
+// The definitions are in specs/Octet.antt; what the layers above may use of them is specs/Octet/Laws.antt and proofs/Laws.antt, and of the
 // table specs/Octet/Table.antt. The one table is that of the powers: a product is worked out by shifting and adding, and an inverse by products
 // and by the images of 1, x, .., x^7.
+#![tactic(auto)]
+
 ghost use Rattle.std.specs.Prelude.{◌≡◌, ◌≤◌, T, length};
 ghost use Rattle.field.specs.Octet;
 ghost use Rattle.field.specs.Octet.Steps;

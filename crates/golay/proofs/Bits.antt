@@ -10,7 +10,7 @@ use mathlib.Core.Path.{◌≡◌, refl, sym, ap, ap₂, ◌∙◌}
 use mathlib.Core.Bool.{cond, not}
 use mathlib.Core.List.{List, [], ◌∷◌}
 use Prim.Native.Nat.{ℕ, zero, suc, ◌+◌, ◌*◌, ◌/◌, ◌%◌, ◌^◌, ◌<◌}
-use native.Mathlib.Nat.{zero-div, zero-mul, one-mul, mul-zero, mul_one}
+use native.Mathlib.Nat.{zero-div, zero-mul, one-mul, mul-zero, mul-one}
 use native.Mathlib.Omega.{arith}
 use lib.Bits.{bit_xor, differ, xor_shr, xor_lt, xor_block}
 use lib.Count.{ones, ones_cat}
@@ -36,7 +36,7 @@ differ-sum (suc (suc x)) y s h e = absurd (omega arith)
 
 bit_scaled : (x r j : ℕ) → x < 2 → bit_at (x * r) j ≡ bit_at r j * x
 bit_scaled zero r j h = ap (λ (n : ℕ). n / 2 ^ j % 2) (zero-mul r) ∙ ap (λ (n : ℕ). n % 2) (zero-div (2 ^ j)) ∙ sym (mul-zero (bit_at r j))
-bit_scaled (suc zero) r j h = ap (λ (n : ℕ). bit_at n j) (one-mul r) ∙ sym (mul_one (bit_at r j))
+bit_scaled (suc zero) r j h = ap (λ (n : ℕ). bit_at n j) (one-mul r) ∙ sym (mul-one (bit_at r j))
 bit_scaled (suc (suc x)) r j h = absurd (omega arith)
 
 abbrev terms : List ℕ → ℕ → ℕ → ℕ → ℕ

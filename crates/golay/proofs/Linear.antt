@@ -3,10 +3,12 @@
 --   product_xor    for any matrix
 --   bit_fits       a bit times a number of k bits has k bits
 --   product_lt     a sum of rows that fit in k bits does too
---   parity_xor--   parity-zero    .. so that 0 has the parity 0
+--   parity_xor
+--   parity-zero    .. so that 0 has the parity 0
 --   parity-row     the data's bit i alone has row i for its parity
 --   parity-lt      the parity has 12 bits
---   word_xor--   word_lt        the word has 24 bits
+--   word_xor
+--   word_lt        the word has 24 bits
 --   fit k m        each number of m fits in k bits
 --   Sums k f       f of a sum of two numbers of k bits is the sum of what f is of each
 --   sums_same      two such functions, the same at each power of two, are the same

@@ -6,7 +6,8 @@
 --   bit_next        a further bit of a number is one of its half
 --   ones-total      the ones of a number of k bits are the sum of its bits
 --   ones_none       0 has none, and no other number
---   ones-zero--   ones_power      a power of two has one
+--   ones-zero
+--   ones_power      a power of two has one
 --   ones_triangle   two numbers' ones are no fewer than those of their difference
 --
 -- Assumes nothing.

@@ -3,7 +3,7 @@
 --   times k q g         the product of the polynomials q, of k coefficients, and g, modulo 2
 --   count k f           how many of f 0, .., f (k - 1) hold
 --   total k f           f 0 + .. + f (k - 1)
---   bit_at n j           bit j + 1 of n
+--   bit_at n j          bit j + 1 of n
 --   ParityIs            the equation of B.3.2.1.3: P(j) is the sum of M(i, j) times the data's bit i, modulo 2, the matrix being transposed
 --   RowsAre             the data's bit i alone has row i for its parity
 --   Systematic          the data and the parity stand in the word, each in its 12 bits

@@ -3,12 +3,12 @@
 --
 --   product m d      the transpose of the matrix m times the column d, modulo 2: the sum of the rows at the ones of d
 --   parity d         P1 to P12 of the data d
---   code_word d       the word of the data d ("systematic": the data stand in it unchanged)
+--   code_word d      the word of the data d ("systematic": the data stand in it unchanged)
 --   distance a b     in how many bits a and b differ
---   most_wrong        how many wrong bits are put right
+--   most_wrong       how many wrong bits are put right
 --   Within w d       the word of the data d lies within three bits of w
---   is_near w d       .. as a test
---   first_near n w    data below n whose word does, if there are any
+--   is_near w d      .. as a test
+--   first_near n w   data below n whose word does, if there are any
 --   nearest w        the data whose word lies within three bits of w, if there are any
 --
 -- That there are never two is claimed in specs/Claims.antt.

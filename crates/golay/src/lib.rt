@@ -1,5 +1,7 @@
 // The extended Golay code of 12 bits in 24 (000, B.3.2.1.3), by itself: a word's bits 1 to 12 are the data, its bits 13 to 24 the parity
 // P1 to P12. Nothing here knows what the data are.
+#![tactic(auto)]
+
 ghost use Rattle.std.specs.Prelude.{◌≡◌};
 ghost use Rattle.golay.specs.Code as code;
 ghost use Rattle.golay.specs.Search.{Searched};
@@ -17,7 +19,7 @@ const ROWS: [u32; 12] = [
 ];
 
 // The data of the word that was sent, or that no word of the code lies within three bits.
-#[derive(Drop)]
+#[derive(Clone, Copy)]
 pub enum Found {
     Data(u32),
     Nothing,

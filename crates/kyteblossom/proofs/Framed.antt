@@ -1,9 +1,9 @@
 -- The claims on packets (specs/Claims.antt), by what is claimed of writing and reading them.
 --
---   forms_are                                  the forms of a flag that the host hands in
+--   forms_are                                     the forms of a flag that the host hands in
 --   packet_write_answered, packet_read_answered   the claims on each entry
---   packet_back                                .. and on both
---   packet_write-once, packet-read-once       any two answers that a promise allows are equal, and so is what they leave
+--   packet_back                                   .. and on both
+--   packet_write-once, packet-read-once           any two answers that a promise allows are equal, and so is what they leave
 --
 -- Assumes nothing.
 use mathlib.Core.Path.{◌≡◌, refl, sym, ap, subst, ◌∙◌}

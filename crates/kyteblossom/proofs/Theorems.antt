@@ -1,7 +1,7 @@
 -- The claims of specs/Claims.antt.
 --
 --   length_answered, encode_answered, receive_answered    what each entry answers
---   checked_exactly                                     which widths have a check
+--   checked_exactly                                       which widths have a check
 --
 -- Assumes nothing.
 use mathlib.Core.Path.{◌≡◌, refl, sym, ap, ap₂, ◌∙◌}

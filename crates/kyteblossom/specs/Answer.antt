@@ -1,17 +1,18 @@
 -- What the C host is answered: one number for each case of the library's answers.
 --
 --   answer t                       a length, or minus a refusal's number
---   one_number b c t                badge + 256 changed + 65,536 unit length
+--   one_number b c t               badge + 256 changed + 65,536 unit length
 --   packed j                       .. of what was judged of a unit
---   receive_answer r                .. or minus a refusal's number
+--   receive_answer r               .. or minus a refusal's number
 --   EncodeIs b e u before r after  what kyte_encode answers and leaves, by AL1M's sending
---   ReceiveIs b e w before r after .. and kyte_receive, by AL1M's receiving--   lent_to n o                     what is lent to kyte_record_read to write to
+--   ReceiveIs b e w before r after .. and kyte_receive, by AL1M's receiving
+--   lent_to n o                    what is lent to kyte_record_read to write to
 --   RecordWriteIs n o before r after   what kyte_record_write answers and leaves, by the record's writing
 --   RecordReadIs s n o r m p       .. and kyte_record_read, by its reading
---   is_complemented n               the form of a flag that the host hands in: 0 is the plain one, anything else the complement
+--   is_complemented n              the form of a flag that the host hands in: 0 is the plain one, anything else the complement
 --   PacketWriteIs o c m xs before r after   what kyte_packet_write answers and leaves, by the packet's writing
---   packet_number c m n             code + 16 for the closing mark + 256 octets of the payload
---   packet_says t                   .. of what a packet says, or a refusal's number: what kyte_packet_read answers, by the packet's reading
+--   packet_number c m n            code + 16 for the closing mark + 256 octets of the payload
+--   packet_says t                  .. of what a packet says, or a refusal's number: what kyte_packet_read answers, by the packet's reading
 --
 -- Assumes nothing.
 use Rattle.std.specs.Prelude.{◌≡◌, Bool, cond, not, List, ℕ, ◌+◌, ◌*◌, eqb, ℤ, pos, neg_ℤ}

@@ -1,21 +1,21 @@
 -- What the functions of include/kyteblossom.h that take an answer apart are written to compute. They are C and stand in the header, so
 -- that nothing proves them: these are their equations, by which the claims speak of what a host is told, and tests/host holds the C to them.
 --
---   is_below r                     answer < 0
---   told_refusal r                 kyte_refused: minus the answer where it is below 0, and else 0
---   told_badge r                   kyte_badge: the answer modulo 256, and -1 of a refusal
---   told_changed r                 kyte_changed: the answer / 256, modulo 256, and 0 of a refusal
---   told_length r                  kyte_unit_length: the answer / 65,536, and 0 of a refusal
---   is_badge r k                   kyte_badge is k
---   told_unit r received repair    the octets that kyte_unit and kyte_unit_length name: from the front of `repair` when corrected, and of
+--   is_below r                    answer < 0
+--   told_refusal r                kyte_refused: minus the answer where it is below 0, and else 0
+--   told_badge r                  kyte_badge: the answer modulo 256, and -1 of a refusal
+--   told_changed r                kyte_changed: the answer / 256, modulo 256, and 0 of a refusal
+--   told_length r                 kyte_unit_length: the answer / 65,536, and 0 of a refusal
+--   is_badge r k                  kyte_badge is k
+--   told_unit r received repair   the octets that kyte_unit and kyte_unit_length name: from the front of `repair` when corrected, and of
 --                                 `received` otherwise
---   is_checked b                   a check of b bits is one: 8 or 16
---   is_trusted r b                 kyte_trusted: clean or corrected, where there is a check
---   told_code r                    kyte_packet_code: the answer modulo 16, and -1 of a refusal
---   told_mark r                    kyte_packet_mark: the answer / 16, modulo 2, and 0 of a refusal
---   told_payload_length r           kyte_packet_length: the answer / 256, and 0 of a refusal
---   told_payload octets r          the octets that kyte_packet_payload and kyte_packet_length name: from behind the first five on
---   told_next r                    kyte_packet_next: 5 and the payload's octets, and 0 of a refusal
+--   is_checked b                  a check of b bits is one: 8 or 16
+--   is_trusted r b                kyte_trusted: clean or corrected, where there is a check
+--   told_code r                   kyte_packet_code: the answer modulo 16, and -1 of a refusal
+--   told_mark r                   kyte_packet_mark: the answer / 16, modulo 2, and 0 of a refusal
+--   told_payload_length r         kyte_packet_length: the answer / 256, and 0 of a refusal
+--   told_payload octets r         the octets that kyte_packet_payload and kyte_packet_length name: from behind the first five on
+--   told_next r                   kyte_packet_next: 5 and the payload's octets, and 0 of a refusal
 --
 -- Assumes nothing.
 use Rattle.std.specs.Prelude.{Bool, true, false, cond, ◌&&◌, ◌||◌, List, ℕ, suc, ◌+◌, ◌/◌, ◌%◌, eqb, ℤ, pos, negsuc, take, drop}

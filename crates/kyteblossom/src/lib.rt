@@ -1,4 +1,6 @@
-// The C entries: numbers and octet buffers, nothing else. include/kyteblossom.h declares them.
+// What a host in C calls: numbers and octet buffers, nothing else. kyteblossom_c exports each public function under its name.
+#![tactic(auto)]
+
 ghost use Rattle.std.specs.Prelude.{◌≡◌, ◌≤◌, ◌<◌, pos, neg_ℤ};
 ghost use Rattle.adaptation.specs.AL1M.{sent_length};
 ghost use Rattle.packets.specs.Packet.{read};
@@ -43,8 +45,7 @@ fn pack_packet(p: Packet) -> i32
 }
 
 // How many octets a unit is sent in, or minus the refusal's number.
-#[unsafe(no_mangle)]
-pub extern "C" fn kyte_length(unit: usize, width: u32, e: u32) -> i32
+pub fn kyte_length(unit: usize, width: u32, e: u32) -> i32
     ensures { result ≡ answer (sent_length unit width e) }
 {
     match al1m::sent_length(unit, width, e) {
@@ -54,8 +55,7 @@ pub extern "C" fn kyte_length(unit: usize, width: u32, e: u32) -> i32
 }
 
 // Encodes a unit: how many octets of `sent` were written, or minus the refusal's number.
-#[unsafe(no_mangle)]
-pub extern "C" fn kyte_encode(unit: &[u8], width: u32, e: u32, sent: &mut [u8]) -> i32
+pub fn kyte_encode(unit: &[u8], width: u32, e: u32, sent: &mut [u8]) -> i32
     ensures { EncodeIs width e unit.now sent.old result sent.new }
 {
     match al1m::encode(unit, width, e, sent) {
@@ -65,16 +65,15 @@ pub extern "C" fn kyte_encode(unit: &[u8], width: u32, e: u32, sent: &mut [u8]) 
 }
 
 // Receives a word: badge + 256 changed + 65,536 unit length, or minus the refusal's number. The changed places are at the front of `places`.
-#[unsafe(no_mangle)]
-pub extern "C" fn kyte_receive(
+pub fn kyte_receive(
     received: &[u8],
     width: u32,
     e: u32,
     repair: &mut [u8],
     places: &mut [u8],
 ) -> i32
-    ensures { ReceiveIs width e received.now (record { repair = repair.entry.now; places = places.old }) result
-        (record { repair = repair.exit.now; places = places.new }) }
+    ensures { ReceiveIs width e received.now (record { repair = repair.old; places = places.old }) result
+        (record { repair = repair.new; places = places.new }) }
 {
     match al1m::receive(received, width, e, repair, places) {
         Received::Unit(j) => pack(j),
@@ -83,8 +82,7 @@ pub extern "C" fn kyte_receive(
 }
 
 // Writes the record of a list of units: how many octets of `output` were written, or minus the refusal's number.
-#[unsafe(no_mangle)]
-pub extern "C" fn kyte_record_write(units: &[u16], content: &[u8], output: &mut [u8]) -> i32
+pub fn kyte_record_write(units: &[u16], content: &[u8], output: &mut [u8]) -> i32
     ensures { RecordWriteIs units.now content.now output.old result output.new }
 {
     match record::write(units, content, output) {
@@ -94,8 +92,7 @@ pub extern "C" fn kyte_record_write(units: &[u16], content: &[u8], output: &mut 
 }
 
 // Reads a record: how many units there are, or minus the refusal's number.
-#[unsafe(no_mangle)]
-pub extern "C" fn kyte_record_read(input: &[u8], units: &mut [u16], content: &mut [u8]) -> i32
+pub fn kyte_record_read(input: &[u8], units: &mut [u16], content: &mut [u8]) -> i32
     ensures { RecordReadIs input.now units.old content.old result units.new content.new }
 {
     match record::read(input, units, content) {
@@ -105,14 +102,7 @@ pub extern "C" fn kyte_record_read(input: &[u8], units: &mut [u16], content: &mu
 }
 
 // Writes a packet: how many octets of `packet` were written, or minus the refusal's number. A flag is plain for 0, and else complemented.
-#[unsafe(no_mangle)]
-pub extern "C" fn kyte_packet_write(
-    opens: u32,
-    code: u32,
-    mark: u32,
-    payload: &[u8],
-    packet: &mut [u8],
-) -> i32
+pub fn kyte_packet_write(opens: u32, code: u32, mark: u32, payload: &[u8], packet: &mut [u8]) -> i32
     ensures { PacketWriteIs opens code mark payload.now packet.old result packet.new }
 {
     match packets::write(opens != 0, Code(code), mark != 0, payload, packet) {
@@ -122,8 +112,7 @@ pub extern "C" fn kyte_packet_write(
 }
 
 // Reads the packet at the front of the octets: code + 16 mark + 256 payload length, or minus the refusal's number.
-#[unsafe(no_mangle)]
-pub extern "C" fn kyte_packet_read(octets: &[u8]) -> i32
+pub fn kyte_packet_read(octets: &[u8]) -> i32
     ensures { result ≡ answer (packet_says (read octets.now)) }
 {
     match packets::read(octets) {

@@ -18,7 +18,6 @@ use mathlib.Core.List.{List, [], ◌∷◌}
 use mathlib.Core.Bool.{Bool, true, false, not, ◌&&◌}
 use Prim.Native.Nat.{ℕ, zero, suc, ◌+◌, ◌*◌, ◌-◌, ◌≤◌, ◌<◌, zero-le}
 use native.Mathlib.Numerals.{sub-one}
-use native.Mathlib.Decide.{dec_lt}
 use native.Mathlib.Omega.{arith}
 use borrow.Author.Tests.{not-false}
 use lib.ListN.{length, get_or, set, take, drop, length-set, length-drop, get_or-eq_default}
@@ -29,7 +28,7 @@ use Rattle.channels.specs.declared.Channel.{Channel}
 use Rattle.channels.specs.declared.Channels.{Channels}
 use Rattle.multiplex.specs.declared.demultiplexer.Tally.{Tally}
 use Rattle.channels.specs.Channels.{vacant, channel_at, holding, place_count, all_octets, place_octets}
-use Rattle.channels.proofs.Laws.{vacant-behind, segmentable-place}
+use Rattle.channels.proofs.Laws.{segmentable-place}
 use Rattle.multiplex.specs.Pieces.{paired, Piece, laid, last_place, total}
 use Rattle.multiplex.specs.Demultiplexer.{Delivery, took, took_all, has_room, fits, nothing}
 use Rattle.multiplex.specs.Tally.{closes, Tallies, RoomFor, Exact, InRange, Closable}

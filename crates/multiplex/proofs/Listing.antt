@@ -6,13 +6,13 @@
 -- Assumes nothing.
 use mathlib.Core.Path.{◌≡◌, sym, ap, ◌∙◌}
 use mathlib.Core.List.{List}
-use Prim.Native.Nat.{ℕ, zero, suc, ◌+◌, ◌*◌, ◌/◌, ◌≤◌, ◌<◌}
+use Prim.Native.Nat.{ℕ, zero, suc, ◌+◌, ◌*◌, ◌/◌, ◌≤◌}
 use native.Mathlib.Omega.{arith}
 use borrow.Author.Tests.{lt-leb}
 use lib.ListN.{length, get_or, drop, length-drop}
 use lib.Seq.{get_or-drop}
 use Rattle.multiplex.specs.declared.units.Listed.TheVariants.{At}
-use Rattle.multiplex.specs.Units.{UnitOn, unit_at, unit_in, units_in}
+use Rattle.multiplex.specs.Units.{unit_at, unit_in, units_in}
 use Rattle.multiplex.specs.Claims.{ListRead}
 
 pub unit-there : (l : List ℕ) (j : ℕ) → 3 * j + 3 ≤ length l

@@ -4,8 +4,8 @@
 --   lies-there     the part of the output that the list tells of is the unit
 --
 -- Assumes nothing.
-use mathlib.Core.Path.{◌≡◌, refl, sym, ap, ap₂, subst, ◌∙◌}
-use mathlib.Core.Bool.{Bool, true, false, cond, ◌||◌}
+use mathlib.Core.Path.{◌≡◌, refl, sym, ap, subst, ◌∙◌}
+use mathlib.Core.Bool.{Bool, false, cond}
 use mathlib.Core.List.{List, [], ◌∷◌, ◌++◌}
 use Prim.Native.Nat.{ℕ, zero, suc, ◌+◌, ◌*◌, ◌≤◌, ◌<◌}
 use native.Mathlib.Omega.{arith}
@@ -23,7 +23,7 @@ use Rattle.channels.specs.Parts.{part_at}
 use Rattle.multiplex.specs.declared.units.Unit.{Unit}
 use Rattle.multiplex.specs.declared.units.Listed.TheVariants.{At}
 use Rattle.multiplex.specs.Pieces.{Piece, placed, last_place}
-use Rattle.multiplex.specs.Demultiplexer.{Delivery, DemuxLent, nothing, finished, joined, took, took_all, closed, delivery, too_small, writes, demultiplex_tests, demultiplexed}
+use Rattle.multiplex.specs.Demultiplexer.{Delivery, DemuxLent, nothing, took, took_all, delivery, too_small, writes, demultiplex_tests, demultiplexed}
 use Rattle.multiplex.specs.Units.{UnitOn, unit_at, unit_in, units_in}
 use Rattle.multiplex.specs.Claims.{LiesThere}
 use Rattle.multiplex.proofs.Records.{unit_on, unit_octets, records, records-length, Tells, tells-nothing, tells-finished}

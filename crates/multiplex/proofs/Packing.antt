@@ -1,7 +1,8 @@
 -- A payload packed: from the slots that the table lays down to what the call answers.
 --
 --   lays-numbers     the lists keep their lengths
---   lays-lengths--   lays-within      there are at most as many slots as they have places
+--   lays-lengths
+--   lays-within      there are at most as many slots as they have places
 --   lays-slots       .. and the slots stand in them
 --   walk_over        a walk over what stands in the lists is one over the slots
 --   walk-sendable    what a walk left in the lists can be sent

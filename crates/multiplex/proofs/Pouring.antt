@@ -17,7 +17,7 @@ use native.Mathlib.Omega.{arith}
 use lib.ListN.{length, take, drop, length-append, length-drop}
 use lib.Seq.{length-take-le}
 use Rattle.octets.specs.Written.{written, written_next}
-use Rattle.calls.specs.Slices.{Slice}
+use Rattle.calls.specs.Slices.{Slice, SharedSlice}
 use Rattle.calls.specs.Refusal.{leaving}
 use Rattle.channels.specs.declared.Channel.{Channel}
 use Rattle.multiplex.specs.declared.demultiplexer.Tally.{Tally}
@@ -89,7 +89,7 @@ pub leaving-shown : {o u : List ℕ} {d : Delivery} {t : Tally} {h o' u' : List 
     → leaving {X = DemuxLent} t.units (record { channels = t.channels; held = h; output = o'; units = u' }) ≡ leaving d.count (writes d o u)
 leaving-shown v = rw (v.tallies.units, v.tallies.channels, v.shows.held, v.shows.output, v.shows.units)
 
-module _ {mark : Bool} {p : ℕ} {t : Tally} {held output units : Slice} where
+module _ {mark : Bool} {p : ℕ} {t : Tally} {held : SharedSlice} {output units : Slice} where
   pub finishes-marked : mark ≡ true → length (held_of t.channels held.entry.now p) ≡ (channel_at t.channels p).held
       → output.exit.now ≡ written output.entry.now t.octets (held_of t.channels held.entry.now p)
       → units.exit.now

@@ -4,9 +4,9 @@
 --
 -- Assumes nothing.
 use mathlib.Core.Path.{◌≡◌, refl, sym, ap, ◌∙◌}
-use mathlib.Core.Bool.{Bool, true, false, cond}
+use mathlib.Core.Bool.{Bool}
 use mathlib.Core.List.{List, [], ◌∷◌}
-use Prim.Native.Nat.{ℕ, zero, suc, ◌+◌, ◌-◌}
+use Prim.Native.Nat.{ℕ, zero, suc}
 use lib.ListN.{length, get_or, set, take, drop}
 use Rattle.calls.proofs.Laws.{by_test}
 use Rattle.table.specs.Slots.{payload_slots}
@@ -17,8 +17,8 @@ use Rattle.channels.specs.Channels.{vacant, place_of, channel_at, put, holding, 
 use Rattle.channels.specs.Claims.{channel_of}
 use Rattle.channels.proofs.Laws.{seat, seats, seats-put, place-seats}
 use Rattle.multiplex.specs.Pieces.{Piece, placed, last_place}
-use Rattle.multiplex.specs.Demultiplexer.{Delivery, DemuxLent, nothing, took, took_all, closed, delivery, writes}
-use Rattle.multiplex.specs.Multiplexer.{MuxLent, walked}
+use Rattle.multiplex.specs.Demultiplexer.{Delivery, DemuxLent, nothing, took, took_all, delivery}
+use Rattle.multiplex.specs.Multiplexer.{walked}
 use Rattle.multiplex.specs.Rules.{DemuxKeeps, MuxKeeps}
 use Rattle.multiplex.proofs.Leaving.{left_all, walk-left}
 use Rattle.multiplex.proofs.Rules.{walk_makes}

@@ -1,7 +1,8 @@
 -- Any two answers that a promise allows are equal, and so is what they leave in the channels and in what was lent.
 --
 --   multiplexed-once   to multiplexing, with the payload
---   demultiplexed-once to demultiplexing, with the octets held, the output and the list of units--
+--   demultiplexed-once to demultiplexing, with the octets held, the output and the list of units
+--
 -- Assumes nothing.
 use mathlib.Core.Path.{◌≡◌, refl, ap, ap₂}
 use mathlib.Core.Bool.{Bool}

@@ -20,22 +20,20 @@
 -- Assumes nothing.
 use Rattle.std.specs.Prelude.{◌≡◌, Bool, true, cond, List, ℕ, ◌+◌, ◌*◌, ◌≤◌, ◌<◌, length, get_or}
 use Rattle.octets.specs.Written.{written}
-use Rattle.calls.specs.Refusal.{Ended, ended}
-use Rattle.calls.specs.Slices.{Slice}
+use Rattle.calls.specs.Slices.{Slice, SharedSlice}
 use Rattle.table.specs.Slots.{Slot, payload_slots}
 use Rattle.table.specs.Table.{longest_payload, entry_of}
 use Rattle.channels.specs.declared.Channel.{Channel}
 use Rattle.channels.specs.declared.Channels.{Channels}
 use Rattle.channels.specs.Channels.{place_count, place_octets, all_octets, channel_at, holding, held_of}
 use Rattle.multiplex.specs.declared.demultiplexer.Counted.{Counted}
-use Rattle.multiplex.specs.declared.demultiplexer.Delivered.{Delivered}
 use Rattle.multiplex.specs.declared.demultiplexer.Tally.{Tally}
 use Rattle.multiplex.specs.Pieces.{Piece, laid, total}
-use Rattle.multiplex.specs.Demultiplexer.{Delivery, DemuxLent, took, took_all, closed, nothing, room_in, fits, finished_says}
+use Rattle.multiplex.specs.Demultiplexer.{Delivery, took, took_all, closed, nothing, room_in, fits}
 
 -- ---- a call's slices
 
-abbrev pub slots_for : (table : Slice) → (code : ℕ) → (payload : Slice) → List Slot
+abbrev pub slots_for : (table : SharedSlice) → (code : ℕ) → (payload : SharedSlice) → List Slot
 slots_for table code payload = payload_slots (entry_of table.entry.now code) (length payload.entry.now)
 
 -- ---- how far
@@ -108,7 +106,7 @@ pub record Pours (s : Channels) (h ps ls xs o u : List ℕ) : Type 0 where
   pub fit : fits s (laid ps ls) ≡ true
   pub room : RoomFor o u (took_all (nothing s h) (laid ps ls) xs)
 
-abbrev pub PouredBy : Channels → (held places lengths payload output units : Slice) → Tally → Type 0
+abbrev pub PouredBy : Channels → (held : Slice) → (places lengths payload : SharedSlice) → (output units : Slice) → Tally → Type 0
 PouredBy s held places lengths payload output units t =
     Poured output.entry.now units.entry.now
     (took_all (nothing s held.entry.now) (laid places.entry.now lengths.entry.now) payload.entry.now)
@@ -131,6 +129,6 @@ pub record Closable (t : Tally) (p : ℕ) (h o u : List ℕ) : Type 0 where
   pub output : t.octets + (channel_at t.channels p).held ≤ length o
   pub units : 3 * (t.units + 1) ≤ length u
 
-pub record Finishes (mark : Bool) (p : ℕ) (t : Tally) (held output units : Slice) (t₁ : Tally) : Type 0 where
+pub record Finishes (mark : Bool) (p : ℕ) (t : Tally) (held : SharedSlice) (output units : Slice) (t₁ : Tally) : Type 0 where
   pub more : {o u : List ℕ} {d : Delivery} → RoomFor o u d → Poured o u d t held.entry.now output.entry.now units.entry.now
       → Poured o u (closes d mark p) t₁ held.entry.now output.exit.now units.exit.now

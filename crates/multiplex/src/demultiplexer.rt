@@ -14,21 +14,21 @@ use channels::{ALL_OCTETS, Channel, ChannelNumber, Channels, PLACE_OCTETS, PLACE
 use table::{Code, LONGEST_PAYLOAD, TABLE_NUMBERS};
 
 // How many units are finished, or document 01's refusal number.
-#[derive(Drop)]
+#[derive(Clone, Copy)]
 pub enum Finished {
     Units(usize),
     Refused(u8),
 }
 
 // What a payload is answered with, and the channels as the call leaves them.
-#[derive(Drop)]
+#[derive(Clone, Copy)]
 pub struct Delivered {
     pub finished: Finished,
     pub channels: Channels,
 }
 
 // How far a payload has led: the channels, and how many octets and units are finished.
-#[derive(Drop)]
+#[derive(Clone, Copy)]
 pub struct Tally {
     pub channels: Channels,
     pub octets: usize,
@@ -36,7 +36,7 @@ pub struct Tally {
 }
 
 // Whether every held unit stays within the octets of a place, and then the tally of all pieces.
-#[derive(Drop)]
+#[derive(Clone, Copy)]
 pub struct Counted {
     pub fits: bool,
     pub tally: Tally,

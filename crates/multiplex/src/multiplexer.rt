@@ -13,21 +13,21 @@ use channels::{ALL_OCTETS, Channel, Channels, PLACE_OCTETS, PLACES};
 use table::{Code, LONGEST_PAYLOAD, TABLE_NUMBERS};
 
 // A payload's octets and closing mark, or document 01's refusal number.
-#[derive(Drop)]
+#[derive(Clone, Copy)]
 pub enum Made {
     Payload { octets: usize, mark: bool },
     Refused(u8),
 }
 
 // What a call for a payload is answered with, and the channels as the call leaves them.
-#[derive(Drop)]
+#[derive(Clone, Copy)]
 pub struct Multiplexed {
     pub made: Made,
     pub channels: Channels,
 }
 
 // What becomes of a slot: the walk stops before it; or it takes so many octets, and the walk goes on after it or ends there.
-#[derive(Drop)]
+#[derive(Clone, Copy)]
 enum Turn {
     Stop,
     On(usize),
@@ -35,7 +35,7 @@ enum Turn {
 }
 
 // What a walk gives: how many pieces are sent, and their octets; the closing mark; whether every channel reached is open.
-#[derive(Drop)]
+#[derive(Clone, Copy)]
 struct Walked {
     count: usize,
     octets: usize,

@@ -26,7 +26,7 @@ pub fn enough_units() -> usize
 }
 
 // A finished unit: the number of its channel, and where in the output it starts and how long it is.
-#[derive(Drop)]
+#[derive(Clone, Copy)]
 pub struct Unit {
     pub channel: ChannelNumber,
     pub start: usize,
@@ -34,7 +34,7 @@ pub struct Unit {
 }
 
 // What a list has of a unit, or that it has none.
-#[derive(Drop)]
+#[derive(Clone, Copy)]
 pub enum Listed {
     At(Unit),
     Nothing,

@@ -8,7 +8,8 @@
 --   written_outside   a place before `at`, or past s, has what it had
 --   written_part      what stands where s was written is s
 --   written-before    what stands before it, and behind it, is as it was
---   written_behind--   written-append    s written, and t behind it: s ++ t
+--   written_behind
+--   written-append    s written, and t behind it: s ++ t
 --   written_front     what was written at the front stands there
 --   written_next      .. and what is written behind it joins it
 --   written_all       what is written over all of d is all that is left

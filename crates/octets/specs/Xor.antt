@@ -2,10 +2,13 @@
 --
 --   bit-lt         a number's lowest bit is a bit
 --   xor_assoc      associative, and as two rules for three and four terms
---   xor_left-comm--   xor_swap--   xor_again      twice the same changes nothing
+--   xor_left-comm
+--   xor_swap
+--   xor_again      twice the same changes nothing
 --   xor_none       it is 0 of a number and itself alone
 --   xor_half       half of it, and its lowest bit, come from the halves and the lowest bits
---   xor_odd--   xor-bit        .. so does its lowest bit, times a number
+--   xor_odd
+--   xor-bit        .. so does its lowest bit, times a number
 --   xor_twice      twice it
 --   differ_scale   a difference of bits, times a number
 --   xor_bits       of two bits it is the difference

@@ -1,4 +1,6 @@
 // What every layer does with octets and no document names. No host calls these functions: each caller has tested what they require.
+#![tactic(auto)]
+
 ghost use Rattle.std.specs.Prelude.{◌≡◌, ◌+◌, ◌≤◌, length, take, drop};
 ghost use Rattle.octets.specs.High.{high};
 ghost use Rattle.octets.specs.Same as sameness;

@@ -3,7 +3,7 @@
 --   rest-whole        all that is behind a place, up to the end
 --   looked            the test of the two octets that stand at a place
 --   is_plain, is-complemented, is-neither   what the two tests tell
---   past-the-end      behind the end stands neither
+--   past_the_end      behind the end stands neither
 --
 -- Assumes nothing.
 use mathlib.Core.Path.{◌≡◌, ◌∙◌}

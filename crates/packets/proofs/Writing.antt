@@ -2,7 +2,7 @@
 --
 --   of_writing       when each refusal is given
 --   write_answered   what is left where none is
---   read-back        what was written is read
+--   read_back        what was written is read
 --
 -- Assumes nothing.
 use mathlib.Core.Path.{◌≡◌, refl, sym, ap}

@@ -3,7 +3,7 @@ ghost use Rattle.std.specs.Prelude.{◌≡◌, List, drop};
 ghost use Rattle.packets.specs.Flag.{flag_of, is_flag, flag_in, is_neither};
 
 // What stands where a flag is looked for.
-#[derive(Drop)]
+#[derive(Clone, Copy)]
 pub enum Flag {
     Plain,
     Complemented,

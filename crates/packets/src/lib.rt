@@ -1,5 +1,7 @@
 // Packets of level 2 (000, B.3.1 to B.3.3): flag, header, payload, closing flag. The closing flag is also the next packet's first, and its
 // complement is the closing mark.
+#![tactic(auto)]
+
 mod flags; // flags.rt: the flag and its complement
 mod header; // header.rt: multiplex code and length, with their parity
 
@@ -24,7 +26,7 @@ pub const AROUND: usize = 7;
 
 // What a packet says: its multiplex code, whether its closing flag is the closing mark, how many octets its payload has, and how many octets on
 // from its own the next packet's flag lies.
-#[derive(Drop)]
+#[derive(Clone, Copy)]
 pub struct Packet {
     pub code: Code,
     pub mark: bool,
@@ -33,7 +35,7 @@ pub struct Packet {
 }
 
 // What was read, or the refusal's number.
-#[derive(Drop)]
+#[derive(Clone, Copy)]
 pub enum Reading {
     Packet(Packet),
     Refused(u8),

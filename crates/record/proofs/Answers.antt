@@ -3,9 +3,7 @@
 --   failed-iff   what cannot be is so exactly where `false` is `true`
 --
 -- Assumes nothing.
-use mathlib.Core.Path.{◌≡◌}
-use mathlib.Core.Bool.{true, false}
-use mathlib.Core.Logic.{◌↔◌}
+use Rattle.std.proofs.Common.{◌≡◌, true, false, ◌↔◌}
 use Rattle.octets.specs.Tests.{never}
 
 pub failed-iff : {A : Type 0} → (A → ⊥) → false ≡ true ↔ A

@@ -7,17 +7,13 @@
 --   formed          all of it
 --
 -- Assumes nothing.
-use mathlib.Core.Path.{◌≡◌, refl, subst}
-use mathlib.Core.Logic.{◌⊎◌, inl, inr}
-use mathlib.Core.Bool.{Bool, true, false}
+use mathlib.Core.Path.{refl, subst}
 use mathlib.Core.List.{List, reverse}
 use Prim.Native.Nat.{ℕ, ◌≤◌}
 use native.Mathlib.Omega.{arith}
-use borrow.Author.Tests.{eqb-true, eqb-false}
-use lib.Dec.{eqb}
 use lib.ListN.{length}
 use Rattle.octets.specs.High.{high}
-use Rattle.record.specs.Recorded.{Changed, flat}
+use Rattle.record.specs.Recorded.{flat}
 use Rattle.record.specs.Layout.{total, last, backed}
 use Rattle.record.specs.Trailer.{used, most_channels}
 use Rattle.record.specs.Form.{TakenExactly, EmptyRecord, FirstTwelve, Formed}

@@ -28,7 +28,7 @@ use borrow.Author.Tests.{eqb-true, eqb-false, ltb-true, ltb-false}
 use lib.Dec.{eqb, ltb}
 use lib.ListN.{length, get_or, take, drop}
 use lib.Seq.{take-add, take_all}
-use Rattle.octets.specs.High.{worth-same}
+use Rattle.octets.proofs.Laws.{worth-same}
 use Rattle.record.specs.Recorded.{Recorded, Octets}
 use Rattle.record.specs.Layout.{total}
 use Rattle.record.specs.Trailer.{used, record_of}

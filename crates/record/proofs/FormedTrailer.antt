@@ -27,7 +27,8 @@ use Prim.Native.Nat.{ℕ, suc, ◌+◌, ◌-◌, ◌*◌, ◌≤◌, ◌<◌}
 use native.Mathlib.Omega.{arith}
 use lib.ListN.{length, get_or, take, drop, replicate, length-append, length-replicate, length-reverse, get_or-replicate}
 use lib.Seq.{drop-drop, drop_at}
-use Rattle.octets.specs.High.{high, fields, Fit, fields-length, widths}
+use Rattle.octets.specs.High.{high, fields, Fit, widths}
+use Rattle.octets.proofs.Laws.{fields-length}
 use Rattle.record.specs.Recorded.{Recorded, AllInRange, flat}
 use Rattle.record.specs.Layout.{no_offset, total, last, body_of}
 use Rattle.record.specs.Trailer.{

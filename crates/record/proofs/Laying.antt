@@ -24,7 +24,8 @@ use native.Mathlib.Omega.{arith}
 use borrow.Author.Tests.{eqb-true, eqb-false}
 use lib.Dec.{eqb}
 use lib.ListN.{length, get_or, length-append}
-use Rattle.octets.specs.High.{fields, Fit, fields-length, fields-same, append-same}
+use Rattle.octets.specs.High.{fields, Fit, append-same}
+use Rattle.octets.proofs.Laws.{fields-length, fields-same}
 use Rattle.octets.specs.Tests.{never}
 use Rattle.record.specs.Recorded.{InRange, Changed, flat}
 use Rattle.record.specs.Layout.{header_widths, size, total, Stored, stored_octets, laid}

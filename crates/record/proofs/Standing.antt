@@ -17,7 +17,8 @@ use Prim.Native.Nat.{ℕ, ◌+◌, ◌≤◌, ◌<◌}
 use native.Mathlib.Omega.{arith}
 use lib.ListN.{length, get_or, take, drop, length-drop, length-append}
 use lib.Seq.{take-add, drop-drop, take_at, drop_at, length-take-le}
-use Rattle.octets.specs.High.{fields, Fit, fields-length, fields-same}
+use Rattle.octets.specs.High.{fields, Fit}
+use Rattle.octets.proofs.Laws.{fields-length, fields-same}
 use Rattle.record.specs.Recorded.{InRange}
 use Rattle.record.specs.Layout.{header_widths, header_octets, size, Stored, stored_octets}
 use Rattle.record.proofs.Laying.{five_numbers, stored_fit, stored-length}

@@ -30,7 +30,8 @@ use borrow.Author.Tests.{eq-eqb, ne_eqb}
 use lib.Dec.{eqb}
 use lib.ListN.{length, get_or, set, replicate, length-append, length-map, replicate-append-replicate, get_or-append}
 use lib.Seq.{set-append_left, set-get_or}
-use Rattle.octets.specs.High.{fields, fields-length}
+use Rattle.octets.specs.High.{fields}
+use Rattle.octets.proofs.Laws.{fields-length}
 use Rattle.record.specs.declared.places.Used.{Used}
 use Rattle.record.specs.declared.trailer.Tally.{Tally}
 use Rattle.record.specs.Recorded.{Recorded, is_damaged, flat}

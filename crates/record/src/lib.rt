@@ -1,4 +1,6 @@
 // The nightly call record (document 02, ticket 1): units in order, then a trailer.
+#![tactic(auto)]
+
 mod places; // places.rt: the channels of a list, ascending
 mod reader; // reader.rt: the walks over a record
 mod trailer; // trailer.rt: what is known of each channel, and the trailer made of it
@@ -12,7 +14,7 @@ use crate::reader::Found;
 use calls::Length;
 
 // How many units were read, or the refusal's number.
-#[derive(Drop)]
+#[derive(Clone, Copy)]
 pub enum Reading {
     Units(usize),
     Refused(u8),
@@ -49,8 +51,8 @@ pub fn write(numbers: &[u16], content: &[u8], output: &mut [u8]) -> Length
 // Reads a record: its units' numbers to the front of `numbers`, their octets to the front of `content`; answers how many units there
 // are. Refusals 15, 3.
 pub fn read(input: &[u8], numbers: &mut [u16], content: &mut [u8]) -> Reading
-    ensures { Reads input.now (record { numbers = numbers.entry.now; octets = content.old })
-        (ended (read_says result) (record { numbers = numbers.exit.now; octets = content.new })) }
+    ensures { Reads input.now (record { numbers = numbers.old; octets = content.old })
+        (ended (read_says result) (record { numbers = numbers.new; octets = content.new })) }
 {
     let Found::Units(count) = reader::find(input) else {
         return Reading::Refused(15);

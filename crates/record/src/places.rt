@@ -5,7 +5,7 @@ ghost use Rattle.record.specs.Walk.{rank, UsedIs, Adds};
 pub const MOST_CHANNELS: usize = 16;
 
 // The channels, from the front of the array; a count over 16 says that there are more than the array has room for.
-#[derive(Drop)]
+#[derive(Clone, Copy)]
 pub struct Used {
     pub count: usize,
     pub channels: [u16; MOST_CHANNELS],

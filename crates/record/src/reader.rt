@@ -10,7 +10,7 @@ use crate::unit::{HEADER_OCTETS, Header};
 use crate::{places, trailer, unit};
 
 // Whether the octets before a trailer are units, whatever their back offsets; how many, and their channels.
-#[derive(Drop)]
+#[derive(Clone, Copy)]
 pub struct Survey {
     pub ok: bool,
     pub units: u32,
@@ -18,14 +18,14 @@ pub struct Survey {
 }
 
 // Whether the back offsets are right, and what the trailer then has to say.
-#[derive(Drop)]
+#[derive(Clone, Copy)]
 pub struct Checked {
     pub ok: bool,
     pub tally: Tally,
 }
 
 // How many units a record has, if it is one.
-#[derive(Drop)]
+#[derive(Clone, Copy)]
 pub enum Found {
     Units(usize),
     Nothing,

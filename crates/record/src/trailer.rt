@@ -15,7 +15,7 @@ pub const MOST_BEFORE: usize = 1048576;
 const PLACE_OCTETS: usize = 14;
 
 // At each channel's place: the offset of its last unit, its units, and those with badge 2 or 3.
-#[derive(Drop)]
+#[derive(Clone, Copy)]
 pub struct Tally {
     pub lasts: [u32; MOST_CHANNELS],
     pub units: [u32; MOST_CHANNELS],

@@ -12,7 +12,7 @@ const MOST_CHANGED: u16 = 127;
 const LONGEST_RECORDED: u16 = 1024;
 
 // What a header says.
-#[derive(Drop)]
+#[derive(Clone, Copy)]
 pub struct Header {
     pub channel: u16,
     pub badge: u8,
@@ -22,7 +22,7 @@ pub struct Header {
 }
 
 // A unit's four numbers, as it is lent.
-#[derive(Drop)]
+#[derive(Clone, Copy)]
 pub struct Numbers {
     pub channel: u16,
     pub badge: u16,

@@ -81,6 +81,8 @@ fated : (us ws : List (List ℕ)) (i g : ℕ) → MayFrom i us → Each (λ v w.
 fated [] [] i g may each_none n near = record { arrives = refl; may = tt; shows = refl }
 fated (u ∷ us) (w ∷ ws) i g may (each_more long longs) (each_more noticed all) near =
     fated-more u w us ws i g may.0 long noticed (agrees eight w) refl near (λ h c. fated us ws ((i + 1) % 256) h may.1 longs all c)
+fated [] (w ∷ ws) i g may long n near = elim long [ ]
+fated (u ∷ us) [] i g may long n near = elim long [ ]
 
 -- without the last unit, where it is still on its way
 module _ (us : List (List ℕ)) where

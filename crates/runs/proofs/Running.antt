@@ -11,7 +11,7 @@
 use mathlib.Core.Path.{◌≡◌, refl, sym, subst}
 use mathlib.Core.Bool.{false, not}
 use mathlib.Core.List.{List, [], ◌∷◌, ◌++◌, append-nil}
-use Prim.Native.Nat.{ℕ, ◌+◌, ◌≤◌}
+use Prim.Native.Nat.{ℕ, ◌≤◌}
 use native.Mathlib.Omega.{arith}
 use borrow.Author.Tests.{ltb-true, ltb-false, leb-true, leb-false, not-false}
 use lib.Dec.{leb, ltb}
@@ -25,7 +25,6 @@ use Rattle.table.specs.Table.{entry_of, is_defined, longest_payload}
 use Rattle.adaptation.specs.Handed.{is_unit}
 use Rattle.channels.specs.declared.Channels.{Channels}
 use Rattle.channels.specs.Channels.{place_of, channel_at, is_in, post_tests, posted, Post, place_count, place_octets}
-use Rattle.channels.specs.Layers as layers
 use Rattle.multiplex.specs.Pieces.{total}
 use Rattle.multiplex.specs.Multiplexer.{MuxLent, Payload, Walk, walked, gathered, multiplex_tests, multiplexed}
 use Rattle.multiplex.specs.Units.{UnitOn}

@@ -6,7 +6,8 @@
 --   LostShown          so it is over a run, at each end and on each channel, whatever else comes in it (a run has no accepted reset or closing)
 --   Noticed v w        w came in the place of v, and if its check agrees, it is v
 --   has_short_gaps g ws  of the wholes ws, where the checks of g disagree before them: no more than 127 in a row disagree before one that agrees
---   shown_in_noise us ws what is shown of the units us, of which the wholes ws came: where the check agrees the unit as it was handed in, with badge--                      0, else what came, with badge 3; and none is missing
+--   shown_in_noise us ws what is shown of the units us, of which the wholes ws came: where the check agrees the unit as it was handed in, with badge
+--                      0, else what came, with badge 3; and none is missing
 --   ByAL2InNoise, NothingMissing   every unit coded is posted, every unit delivered is taken, nothing is on its way, octets changed on the way, the
 --                      check notices it, and no more than 127 in a row are damaged before one that is not: each unit wholly sent is shown so, and
 --                      none is missing; of both ends, and so at the end of a run

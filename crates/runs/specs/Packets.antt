@@ -7,7 +7,8 @@
 --   Packable q         a packet has room for q: a code of at most 15, and at most 254 octets
 --   AllPackable        .. for each of a list
 --   Stream R qs v      v has the packets of the payloads qs behind an opening flag, the closing flag of each being the next one's first
---   bodies_of, stream_of .. as they were written, behind the opening flag and with it--   Reader             what may stand for the packets' `read`
+--   bodies_of, stream_of .. as they were written, behind the opening flag and with it
+--   Reader             what may stand for the packets' `read`
 --   parcel_at p u       what p says that u begins with: a code, a mark, and the payload where it lies
 --   read_all f n u      n packets read in turn, each from where the one before says that the next one's flag lies
 --   ParcelAlike R q p  p has q's code and mark, and q's octets changed at most as R allows

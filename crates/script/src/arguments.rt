@@ -4,28 +4,28 @@ use text::numbers::Number;
 use text::{hex, numbers, words};
 
 // A channel's number and the place behind it, or none.
-#[derive(Drop)]
+#[derive(Clone, Copy)]
 pub enum Channel {
     Number { channel: u16, at: usize },
     Bad,
 }
 
 // Which of two words stood there, and the place behind it, or neither.
-#[derive(Drop)]
+#[derive(Clone, Copy)]
 pub enum Choice {
     Chosen { first: bool, at: usize },
     Bad,
 }
 
 // A closing mark and the place behind it, or none.
-#[derive(Drop)]
+#[derive(Clone, Copy)]
 pub enum Mark {
     Given { mark: bool, at: usize },
     Bad,
 }
 
 // A payload's code and mark, how many octets it has, and the place behind it, or none.
-#[derive(Drop)]
+#[derive(Clone, Copy)]
 pub enum Payload {
     Given {
         code: u32,
@@ -37,21 +37,21 @@ pub enum Payload {
 }
 
 // How many octets end the line, or none do.
-#[derive(Drop)]
+#[derive(Clone, Copy)]
 pub enum Last {
     Count(usize),
     Bad,
 }
 
 // How much is lent, where the line says so or says nothing.
-#[derive(Drop)]
+#[derive(Clone, Copy)]
 pub enum Room {
     Lent(u32),
     Bad,
 }
 
 // How many octets are lent, and how many entries of a list beside them: a payload's units, or a repair's places.
-#[derive(Drop)]
+#[derive(Clone, Copy)]
 pub enum Rooms {
     Lent { octets: u32, list: u32 },
     Bad,

@@ -2,7 +2,7 @@
 // and the value says how many there are.
 
 // Settings of AL1M, and the octets that they are for.
-#[derive(Drop)]
+#[derive(Clone, Copy)]
 pub struct CodingCall {
     pub width: u32,
     pub e: u32,
@@ -10,7 +10,7 @@ pub struct CodingCall {
 }
 
 // The room of a payload, and how many octets are lent for it.
-#[derive(Drop)]
+#[derive(Clone, Copy)]
 pub struct MuxCall {
     pub code: u32,
     pub room: u32,
@@ -18,7 +18,7 @@ pub struct MuxCall {
 }
 
 // A payload, and how many octets and units are lent for what it finishes.
-#[derive(Drop)]
+#[derive(Clone, Copy)]
 pub struct DemuxCall {
     pub code: u32,
     pub mark: bool,
@@ -28,7 +28,7 @@ pub struct DemuxCall {
 }
 
 // A packet: the form of flag that opens it, its code, mark and payload, and how many octets are lent for it.
-#[derive(Drop)]
+#[derive(Clone, Copy)]
 pub struct PackCall {
     pub opens: bool,
     pub code: u32,
@@ -38,7 +38,7 @@ pub struct PackCall {
 }
 
 // A unit of AL2: its channel, whether it has a number, and its octets.
-#[derive(Drop)]
+#[derive(Clone, Copy)]
 pub struct UnitCall {
     pub channel: u16,
     pub numbered: bool,
@@ -46,7 +46,7 @@ pub struct UnitCall {
 }
 
 // Calls that have no state; how many octets are lent for the answer, and how many places.
-#[derive(Drop)]
+#[derive(Clone, Copy)]
 pub enum Coding {
     Length {
         width: u32,
@@ -68,7 +68,7 @@ pub enum Coding {
 }
 
 // Calls on packets of level 2: one to be written, one to be read, and the raw octets of any number.
-#[derive(Drop)]
+#[derive(Clone, Copy)]
 pub enum Packet {
     Pack(PackCall),
     Unpack { octets: usize },
@@ -76,7 +76,7 @@ pub enum Packet {
 }
 
 // A line that asks for nothing, one that cannot be read, or a call.
-#[derive(Drop)]
+#[derive(Clone, Copy)]
 pub enum Call {
     Nothing,
     Malformed,

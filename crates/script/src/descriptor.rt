@@ -22,7 +22,7 @@ const PAST: u64 = 65536;
 
 // An entry that is being read: where the text goes on; whether it keeps the rules so far; how many of its numbers stand; how many
 // inner lists are open; and of the top list and each open one where its numbers begin and how many elements it has.
-#[derive(Drop)]
+#[derive(Clone, Copy)]
 pub struct Draft {
     pub stage: u8,
     pub at: usize,
@@ -34,7 +34,7 @@ pub struct Draft {
 }
 
 // How many numbers an entry has, 0 for one that breaks a rule; or the text has not the form.
-#[derive(Drop)]
+#[derive(Clone, Copy)]
 pub enum Entry {
     Numbers(usize),
     Bad,

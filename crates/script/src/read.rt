@@ -9,7 +9,7 @@ use text::words::Word;
 use text::{hex, numbers, words};
 
 // What AL1M's calls say and the place behind it, or a line that cannot be read.
-#[derive(Drop)]
+#[derive(Clone, Copy)]
 enum Settings {
     Given { coding: CodingCall, at: usize },
     Bad,
@@ -197,7 +197,7 @@ fn demux(line: &[u8], from: usize, octets: &mut [u8]) -> Call {
 }
 
 // A unit of AL2 and the place behind it, or none.
-#[derive(Drop)]
+#[derive(Clone, Copy)]
 enum Units {
     Given { unit: UnitCall, at: usize },
     Bad,

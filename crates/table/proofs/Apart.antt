@@ -2,7 +2,8 @@
 -- definitions alone.
 --
 --   slots-in_turn   the slots of an element before those behind it, and of each pass of a list behind the one before
---   numbers-in_turn the channels of slots, in turn--   slots-are       a payload's slots are the entry's, cut to its octets
+--   numbers-in_turn the channels of slots, in turn
+--   slots-are       a payload's slots are the entry's, cut to its octets
 --   passes-are      how often an element is passed
 --   cut-none        no octets: no slots
 --   cut_more        a cut of one slot and more, for one octet or more

@@ -31,7 +31,7 @@ use native.Mathlib.Omega.{arith}
 use borrow.Author.Tests.{ne_eqb}
 use lib.ListN.{length, take, length-append}
 use Rattle.table.specs.Slots.{Slot, copies, cut, octets_of, channels_of}
-use Rattle.table.proofs.Apart.{cut-none, cut_more}
+use Rattle.table.proofs.Apart.{cut-none}
 
 -- ---- filled slots
 
@@ -97,7 +97,7 @@ cut-cut n m (x ∷ l) =
     by_octets (λ (m : ℕ). cut n (cut m (x ∷ l)) ≡ cut (min n m) (x ∷ l)) m (let e : min n 0 ≡ 0 = omega arith in rw e) (λ h.
     by_octets (λ (n : ℕ). cut n (cut m (x ∷ l)) ≡ cut (min n m) (x ∷ l)) n (cut-none (cut m (x ∷ l)) ∙ let e : min 0 m ≡ 0 = omega arith in rw e) (λ k.
     let z : min n m ≡ 0 → ⊥ = λ z. omega arith in
-    rw (ne_eqb m 0 h, ne_eqb n 0 k, ne_eqb _ 0 z, cut-cut _ (m - x.octets) l, min_thrice, min-less)))
+    rw (ne_eqb m 0 h, ne_eqb n 0 k, ne_eqb _ 0 z, cut-cut (n - min x.octets m) (m - x.octets) l, min_thrice, min-less)))
 
 pub cut_all : (n : ℕ) (l : List Slot) → Filled l → octets_of l ≤ n → cut n l ≡ l
 unfolding cut Filled octets_of

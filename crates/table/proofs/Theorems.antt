@@ -1,6 +1,8 @@
 -- The claims of specs/Claims.antt; and what a code is that has an entry.
 --
---   numbers_read, slots_are_those, is_entry_exactly, entry_fits, finite_or_closing, closing_takes_all, finite_exactly, slots_in_turn, slots_are, fixed_is, defined_exactly,--   fresh_entries, replaced_entries, replaced_unique, laid_unique, fresh_has_none, octets_in_turn, refusal_leaves, replaced_keeps, others_stay,--   replaced_is_read, passes_are, cut_front   the claims
+--   numbers_read, slots_are_those, is_entry_exactly, entry_fits, finite_or_closing, closing_takes_all, finite_exactly, slots_in_turn, slots_are, fixed_is, defined_exactly,
+--   fresh_entries, replaced_entries, replaced_unique, laid_unique, fresh_has_none, octets_in_turn, refusal_leaves, replaced_keeps, others_stay,
+--   replaced_is_read, passes_are, cut_front   the claims
 --   defined_most     a code that has an entry is at most the highest
 --
 -- Assumes nothing.

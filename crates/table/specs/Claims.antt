@@ -28,14 +28,14 @@
 --   OctetsInTurn       payload octet k is the k-th channel's of the entry's expansion
 --
 -- Assumes nothing.
-use Rattle.std.specs.Prelude.{◌≡◌, ◌↔◌, true, not, List, [], ◌∷◌, ◌++◌, ℕ, suc, ◌+◌, ◌-◌, ◌*◌, ◌≤◌, ◌<◌, eqb, length, replicate, take, get_or}
+use Rattle.std.specs.Prelude.{◌≡◌, ◌↔◌, true, not, List, [], ◌∷◌, ◌++◌, ℕ, suc, ◌-◌, ◌≤◌, ◌<◌, eqb, length, replicate, take, get_or}
 use Rattle.calls.specs.declared.Outcome.{Outcome}
 use Rattle.calls.specs.Refusal.{refused, ended, leaving, outcome_says}
 use Rattle.table.specs.declared.walk.Laid.{Laid}
 use Rattle.table.specs.Entry.{Count, times, none, until_closing, Elements, channel, list, is_entry_tree, numbers, is_finite, is_closing, octets_in}
 use Rattle.table.specs.Form.{tree_of, is_entry}
 use Rattle.table.specs.Slots.{Slot, passes, copies, slots, cut, entry_slots, payload_slots, octets_of, numbers_of, channels_of}
-use Rattle.table.specs.Table.{highest_code, longest_entry, table_numbers, entry_of, is_defined, Entries, with_entry, replaced}
+use Rattle.table.specs.Table.{longest_entry, table_numbers, entry_of, is_defined, Entries, replaced}
 use Rattle.table.specs.Lays.{Lays}
 
 -- ---- entries

@@ -11,7 +11,8 @@
 --   list_at          n elements that repeat at least once
 --   ends_at n r      a reading ended at place n
 --   reads s         all of s is read as an entry: every element but the last repeats at least once, and nothing stands behind it
---   place_after r at the place after what was read, or `at` where it is malformed--   skip            the place after an element
+--   place_after r at the place after what was read, or `at` where it is malformed
+--   skip            the place after an element
 --
 -- Assumes nothing.
 use Rattle.std.specs.Prelude.{Bool, false, cond, List, ℕ, zero, suc, ◌+◌, ◌-◌, ltb, eqb, length, get_or}

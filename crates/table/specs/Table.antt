@@ -10,7 +10,8 @@
 --   HasEntry u      the numbers u begin with those of an entry
 --   Entries t       t has entries alone: it has its length, and at each code that is defined stand an entry's numbers
 --   with_entry t c s  the table with s as its entry c
---   replace_tests c s what refuses that, in this order--   replaced t c s  how replacing entry c by s ends
+--   replace_tests c s what refuses that, in this order
+--   replaced t c s  how replacing entry c by s ends
 --
 -- Assumes nothing.
 use Rattle.std.specs.Prelude.{◌≡◌, Bool, true, not, ◌&&◌, List, [], ◌∷◌, ◌++◌, ℕ, zero, suc, ◌-◌, ◌*◌, leb, ltb, eqb, length, get_or, take, drop}

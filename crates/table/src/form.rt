@@ -13,14 +13,14 @@ pub const MOST_ELEMENTS: usize = 32;
 pub const DEPTH: usize = 2;
 
 // What reading finds: the place after it and how many elements may still come, or a malformed entry.
-#[derive(Drop)]
+#[derive(Clone, Copy)]
 pub enum Read {
     Next { at: usize, left: usize },
     Bad,
 }
 
 // What an element's own numbers say: a channel, with the place after it; the start of an inner list; or nothing good.
-#[derive(Drop)]
+#[derive(Clone, Copy)]
 pub enum Head {
     Channel { at: usize, left: usize },
     Inner { count: u16, at: usize, left: usize },

@@ -1,4 +1,6 @@
 // The multiplex table of H.223 (000, 6.4.1.1): its entries, and the slots of a payload under one of them.
+#![tactic(auto)]
+
 pub mod form; // form.rt: whether numbers are an entry
 pub mod walk; // walk.rt: the slots of an entry
 
@@ -12,7 +14,7 @@ use crate::walk::Laid;
 use calls::Outcome;
 
 // A multiplex code: which entry of the table a payload is laid out by. It is no channel number.
-#[derive(Drop)]
+#[derive(Clone, Copy)]
 pub struct Code(pub u32);
 
 pub const HIGHEST_CODE: u32 = 15;

@@ -13,7 +13,7 @@ use crate::form::Read;
 pub const ENDLESS: u16 = 255;
 
 // How many slots are laid down, and how many octets of the payload no slot covers yet.
-#[derive(Drop)]
+#[derive(Clone, Copy)]
 pub struct Laid {
     pub count: usize,
     pub left: usize,

@@ -4,6 +4,7 @@
 --   between_below   it is not, where it is below
 --   between_above   .. or above
 --   between_holds   where it is, it is neither
+--   ranges          the first three, for tactics
 --
 -- Assumes nothing.
 use mathlib.Core.Path.{◌≡◌}
@@ -32,3 +33,5 @@ module _ (a b c : ℕ) where
   between_holds e =
       let h = both_true (leb a c) (leb c b) e in
       (leb-true a c h.0, leb-true c b h.1)
+
+pub ruleset ranges = (between_true, between_below, between_above)

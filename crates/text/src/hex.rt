@@ -6,26 +6,27 @@ ghost use Rattle.text.specs.Hex.{hex_digit, is_pair, is_hex, IsDecoded, IsGiven}
 use crate::words;
 
 // How many octets a text stands for, or none that there is room for.
-#[derive(Drop)]
+#[derive(Clone, Copy)]
 pub enum Decoded {
     Octets(usize),
     Bad,
 }
 
 // How many octets a word has and the place behind it, or no octets.
-#[derive(Drop)]
+#[derive(Clone, Copy)]
 pub enum Octets {
     Count { count: usize, at: usize },
     Bad,
 }
 
 // The value of a digit, or 16.
+#[tactic(auto, using(crate::proofs::Ranges::ranges), unfolding(crate::specs::Hex::hex_digit))]
 fn digit(c: u8) -> u8
     ensures { result ≡ hex_digit c }
 {
     match c {
         b'0'..=b'9' => c - b'0',
-        b'_a'..=b'F' => c - 55,
+        b'A'..=b'F' => c - 55,
         b'a'..=b'f' => c - 87,
         _ => 16,
     }

@@ -4,7 +4,7 @@ ghost use Rattle.text.specs.Lines.{SoFar, Takes};
 
 // How much of a line is read: how many of its octets stand in the lent line, whether there are more than it holds, and whether the
 // line has come to its end.
-#[derive(Drop)]
+#[derive(Clone, Copy)]
 pub struct Reading {
     pub length: usize,
     pub over: bool,

@@ -6,20 +6,21 @@ ghost use Rattle.text.specs.Numbers.{is_digit, capped, decimal_at, number_of};
 use crate::words;
 
 // A number and the place behind it, or no number.
-#[derive(Drop)]
+#[derive(Clone, Copy)]
 pub enum Decimal {
     Digits { value: u64, at: usize },
     Bad,
 }
 
 // A word's number and the place behind the word, or no number.
-#[derive(Drop)]
+#[derive(Clone, Copy)]
 pub enum Number {
     Value { value: u32, at: usize },
     Bad,
 }
 
 // The value of a digit, or 10.
+#[tactic(auto, using(crate::proofs::Ranges::ranges))]
 pub fn digit(c: u8) -> u8
     ensures { result ≡ cond (is_digit c) (c - 48) 10 }
 {

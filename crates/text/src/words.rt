@@ -5,7 +5,7 @@ ghost use Rattle.text.specs.Leading.{leading};
 ghost use Rattle.text.specs.Words.{is_letter, word_start, word_end};
 
 // From where to where a word stands.
-#[derive(Drop)]
+#[derive(Clone, Copy)]
 pub struct Word {
     pub from: usize,
     pub to: usize,

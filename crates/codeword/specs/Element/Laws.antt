@@ -3,19 +3,20 @@
 --   octet-lt                          an element's octet is one
 --   octet-element, element-octet      each undoes the other
 --   octet-same                        two elements with the same octet are one
+--   by-octet                          what an octet's element is, by the octet
 --   octet-add, octet-mul, octet_inv   the operations, on octets
---   octet-nil, octet_one, octet-pow   0, 1 and the powers of α
+--   octet-nil, octet_one              0 and 1
 --   element-sum, element-product,     .. and the other way: of any numbers, since their low octets count
---   element-inverse, element-power,--   element-zero, element_one--   element-ne                        an octet that is not 0 is not the element 0
+--   element-inverse, element-zero,
+--   element_one
+--   element-ne                        an octet that is not 0 is not the element 0
 --
 -- Assumes nothing.
-use Rattle.std.specs.Prelude.{◌≡◌, refl, ◌≢◌, ℕ, zero, suc, ◌<◌}
-use Rattle.std.proofs.Common.{sym, ap, ap₂, ◌∙◌, mod-eq_of_lt, lit<}
-use Rattle.algebra.specs.Power.{pow}
-use Rattle.algebra.proofs.Laws.{pow-zero, pow-suc}
+use Rattle.std.specs.Prelude.{◌≡◌, refl, ◌≢◌, ℕ, ◌<◌}
+use Rattle.std.proofs.Common.{sym, ap, ◌∙◌, mod-eq_of_lt}
 use Rattle.field.specs.Octet as Octet
-use Rattle.field.specs.Octet.Laws.{sum_low, product_octet, product_low, power_zero, power-suc}
-use Rattle.codeword.specs.Element.{elements, element, octet, α, same-octet}
+use Rattle.field.specs.Octet.Laws.{sum_low, product_octet, product_low}
+use Rattle.codeword.specs.Element.{elements, element, octet, same-octet}
 
 pub octet-lt : (x : elements.Carrier) → octet x < Octet.size
 unfolding elements octet
@@ -52,16 +53,10 @@ pub octet_one : octet elements.one ≡ 1
 unfolding elements octet
 octet_one = refl
 
-pub octet-pow : (k : ℕ) → octet (pow elements α k) ≡ Octet.power Octet.α k
-octet-pow zero = ap octet (pow-zero elements α) ∙ octet_one ∙ sym (power_zero Octet.α)
-octet-pow (suc k) =
-    ap octet (pow-suc elements α k) ∙ octet-mul α (pow elements α k)
-    ∙ ap₂ Octet.product (octet-element Octet.α (lit< tt)) (octet-pow k) ∙ sym (power-suc Octet.α k)
-
 -- ---- the other way
 
 -- what an octet's element is, by the octet
-by-octet : (x : elements.Carrier) (a : ℕ) → octet x ≡ a → element a ≡ x
+pub by-octet : (x : elements.Carrier) (a : ℕ) → octet x ≡ a → element a ≡ x
 by-octet x a e = ap element (sym e) ∙ element-octet x
 
 pub element-sum : (a b : ℕ) → element (Octet.sum a b) ≡ elements.add (element a) (element b)
@@ -74,9 +69,6 @@ element-product a b = same-octet _ _ (mod-eq_of_lt (product_octet a b) ∙ sym (
 
 pub element-inverse : (a : ℕ) → a < Octet.size → element (Octet.inverse a) ≡ elements.inv (element a)
 element-inverse a h = by-octet _ _ (octet_inv _ ∙ ap Octet.inverse (octet-element a h))
-
-pub element-power : (k : ℕ) → element (Octet.power Octet.α k) ≡ pow elements α k
-element-power k = by-octet _ _ (octet-pow k)
 
 pub element-zero : element 0 ≡ elements.nil
 element-zero = by-octet _ _ octet-nil

@@ -2,8 +2,13 @@
 -- test at 1, 2, 4, .., 128 shows it: 64 pairs for the one, 512 triples for the other.
 --
 --   product-comm        commutative, associative
---   product-assoc--   product-zero        0 and 1
---   zero-product--   product_one--   one_product--   alpha-product       the product with α is doubling
+--   product-assoc
+--   product-zero        0 and 1
+--   zero-product
+--   product_one
+--   one_product
+--   alpha_at a          whether the product of α and a is a, doubled
+--   alpha_test          .. it is, for each octet a
 --
 -- Assumes nothing.
 use Rattle.std.specs.Prelude.{◌≡◌, Bool, ℕ, ◌%◌, ◌^◌, ◌<◌, T, eqb}
@@ -90,13 +95,9 @@ one_product a h = eqb→eq (product 1 a) a (every_at one_at size one_test a h)
 pub product_one : (a : ℕ) → a < size → product a 1 ≡ a
 product_one a h = product-comm a 1 ∙ one_product a h
 
-alpha_at : ℕ → Bool
+unfoldable pub alpha_at : ℕ → Bool
 alpha_at a = eqb (product α a) (double a)
 
-alpha_test : T (every alpha_at size)
+pub alpha_test : T (every alpha_at size)
 unfolding sum modulus double times product alpha_at
 alpha_test = tt
-
-pub alpha-product : (a : ℕ) → a < size → product α a ≡ double a
-unfolding alpha_at
-alpha-product a h = eqb→eq (product α a) (double a) (every_at alpha_at size alpha_test a h)

@@ -1,4 +1,4 @@
--- The steps by which the code works out a product, an inverse and a row of powers, for the functions of this crate and no other (`tests/heads`).
+-- The steps by which the code works out a product and an inverse, for the functions of this crate and no other (`tests/heads`).
 --
 --   shifted a        a one bit higher; where that pushes out an x^8, what the modulus has below it is added for it
 --   double-shifted   .. which is x a
@@ -6,8 +6,6 @@
 --   product_begin    a product is nothing yet, and what all eight bits have to give;
 --   product-step     one bit gives its part, and the others go on with x a;
 --   product_end      when no bit is left, it is what has been given
---   power-double     x αᵏ is αᵏ⁺¹
---   laid_twice       the powers, written once and once more behind, are a row of powers
 --   Images f p       the entries of p are what f gives at 1, x, .., x^7
 --   Mapped p b r     r is what each additive function gives at b whose images are p
 --   Mapping p b j x t   on the way to it: t, and what is given at x, the bits of b from place j on, put back at their places
@@ -19,22 +17,17 @@
 --   inverse_is       the inverse of a is a to the 254
 --
 -- Assumes nothing.
-use Rattle.std.specs.Prelude.{◌≡◌, refl, Bool, List, ℕ, zero, suc, ◌+◌, ◌-◌, ◌*◌, ◌/◌, ◌%◌, ◌^◌, ◌≤◌, ◌<◌, T, eqb, length, get_or}
-use Rattle.std.proofs.Common.{sym, ap, ◌∙◌, inl, arith, add-one, mod-eq_of_lt, div-add-mod', div-one, pow-suc, zero-add, zero-mul, one-mul, mul_one, mul_comm, mul_assoc, add-mul, mul-lt-mul_of_pos_right, eqb→eq, pow_pos, shr-shr}
+use Rattle.std.specs.Prelude.{◌≡◌, refl, Bool, List, ℕ, zero, suc, ◌+◌, ◌*◌, ◌/◌, ◌%◌, ◌^◌, ◌<◌, T, eqb, get_or}
+use Rattle.std.proofs.Common.{sym, ap, ◌∙◌, arith, add-one, mod-eq_of_lt, div-add-mod', div-one, pow-suc, zero-mul, one-mul, mul-one, mul_comm, mul_assoc, add-mul, mul-lt-mul_of_pos_right, eqb→eq, pow_pos, shr-shr}
 use Rattle.std.proofs.Math.Nat.{div-eq_of_lt}
 use Rattle.std.specs.Int.Bits.{xor_shifted}
-use Rattle.std.proofs.Math.Decide.{dec_lt}
-use Rattle.octets.specs.Written.{written, written-length, written_inside, written_outside}
 use Rattle.octets.specs.Every.{every, every_at}
-use Rattle.field.specs.Octet.{sum, modulus, double, times, product, power, inverse, size, α, order}
+use Rattle.field.specs.Octet.{sum, modulus, double, times, product, power, inverse, size}
 use Rattle.octets.specs.Xor.{bit-lt}
 use Rattle.field.specs.Octet.Sum.{sum_xor, sum-assoc, sum-zero, sum_comm}
 use Rattle.field.specs.Octet.Product.{bit_octet}
-use Rattle.field.specs.Octet.Ring.{alpha-product}
 use Rattle.field.specs.Octet.Basis.{Additive, additive-zero}
-use Rattle.field.specs.Octet.Power.{power-suc, power_octet, sum-power}
-use Rattle.field.specs.Octet.Table.{is_doubled, powers_at, laid, Laid}
-use Rattle.field.specs.Octet.Inverse.{power_wrap}
+use Rattle.field.specs.Octet.Power.{sum-power}
 
 abbrev pub shifted : ℕ → ℕ
 shifted a = sum (a * 2 % size) (a / 128 * 0x1D)
@@ -65,29 +58,6 @@ pub product_end : (t a b : ℕ) → sum t (times 0 a b) ≡ t
 unfolding times
 product_end t a b = sum-zero t
 
-pub power-double : (k : ℕ) → double (power α k) ≡ power α (suc k)
-power-double k = sym (power-suc α k ∙ alpha-product (power α k) (power_octet α k))
-
-pub laid_twice : (d p : List ℕ) → length d ≡ laid → length p ≡ order → T (is_doubled p) → Laid (written (written d 0 p) order p)
-laid_twice d p long short h k l = go (dec_lt k order)
-  where
-    once : List ℕ
-    once = written d 0 p
-
-    room : order + length p ≤ length once
-    room = omega (arith, written-length d 0 p (omega arith))
-
-    go : Dec (k < order) → get_or (written once order p) k 0 ≡ power α k
-    go (yes m) =
-        written_outside once order p room k 0 (inl m)
-        ∙ ap (λ (n : ℕ). get_or once n 0) (sym (zero-add k)) ∙ written_inside d 0 p (omega arith) k 0 (omega arith) ∙ powers_at p h k m
-    go (no m) =
-        let j = k - order in
-        let e : k ≡ order + j = omega arith in
-        let r : k % order ≡ j = omega arith in
-        ap (λ (n : ℕ). get_or (written once order p) n 0) e ∙ written_inside once order p room j 0 (omega arith)
-        ∙ powers_at p h j (omega arith) ∙ ap (power α) (sym r) ∙ power_wrap k
-
 -- ---- images
 
 abbrev pub Images : (ℕ → ℕ) → List ℕ → Type 0
@@ -115,7 +85,7 @@ pub record Mapping (p : List ℕ) (b j x t : ℕ) : Type 0 where
   pub whole : (f : ℕ → ℕ) → Additive f → Images f p → sum t (f (x * 2 ^ j)) ≡ f b
 
 pub mapped_begin : (p : List ℕ) (b : ℕ) → Mapping p b 0 b 0
-mapped_begin p b = record { left = sym (div-one b); whole = λ f h v. sum_comm 0 _ ∙ sum-zero _ ∙ ap f (mul_one b) }
+mapped_begin p b = record { left = sym (div-one b); whole = λ f h v. sum_comm 0 _ ∙ sum-zero _ ∙ ap f (mul-one b) }
 
 pub mapped-step : {p : List ℕ} {b x t : ℕ} (j : ℕ) → j < 8 → Mapping p b j x t → Mapping p b (j + 1) (x / 2) (sum t (x % 2 * get_or p j 0))
 mapped-step {b = b} {x = x} {t = t} j l m = record {

@@ -2,11 +2,17 @@
 --
 --   sum_xor          the sum is the code's `^`
 --   sum-assoc        associative, commutative, and as two rules for three and four terms
---   sum_comm--   sum_left-comm--   sum_swap--   sum-zero         0 changes nothing
+--   sum_comm
+--   sum_left-comm
+--   sum_swap
+--   sum-zero         0 changes nothing
 --   sum_self         each number is its own negative
 --   sum_octet        the sum of two octets is an octet
 --   sum_low          low octets, halves and lowest bits pass through the sum
---   sum_half--   bit-sum--   sum_bit--   double_octet     twice an octet is an octet
+--   sum_half
+--   bit-sum
+--   sum_bit
+--   double_octet     twice an octet is an octet
 --   double-sum       doubling passes through the sum
 --
 -- Assumes nothing.

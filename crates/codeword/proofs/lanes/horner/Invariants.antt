@@ -1,0 +1,11 @@
+-- The lanes below k have made the step.
+use Rattle.std.proofs.Common.{◌-◌, ◌≤◌, get_or}
+use Rattle.codeword.specs.Lanes.{Filled}
+use Rattle.field.specs.Octet as Octet
+use Rattle.codeword.proofs.lanes.horner.Given as goal
+
+abbrev pub invariant-loop-k : goal.invariant-loop-k
+invariant-loop-k l = (l.k ≤ 16) × Filled 16 l.k (λ j. Octet.sum (Octet.product (get_or l.a j 0) (get_or l.b j 0)) l.c) l.r
+
+abbrev pub decreases-loop-k : goal.decreases-loop-k
+decreases-loop-k l = 16 - l.k

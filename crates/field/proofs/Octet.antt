@@ -1,0 +1,5 @@
+pub mod Ring
+pub mod Order
+pub mod Inverse
+pub mod Steps
+pub mod Exactly

@@ -1,0 +1,2 @@
+pub mod High
+pub mod Laws
