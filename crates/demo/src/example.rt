@@ -3,58 +3,57 @@ use crate::plan;
 use adaptation::al1m;
 use adaptation::al1m::MOST_PLACES;
 use codeword::LONGEST_WORD;
-use print::BUFFER;
+use print::Output;
 
 // Puts a line: a name, and octets in hex, each behind a space.
-fn put_octets(out: &mut [u8; BUFFER], from: usize, name: &[u8], octets: &[u8]) -> usize {
-    let mut n = print::put(out, from, name);
-    let mut i = 0;
-    while i < octets.len() {
-        let end = i + 1;
-        n = print::store(out, n, b' ');
-        n = print::hex(out, n, &octets[i..end]);
-        i += 1;
+fn put_octets<R: Print + Eprint>(out: &mut Output<'_, R>, name: &[u8], octets: &[u8]) {
+    out.put(name);
+    for octet in octets {
+        out.store(b' ');
+        out.hex(&[*octet]);
     }
-    print::store(out, n, b'\n')
+    out.store(b'\n');
 }
 
 // Puts a mark below an octet that was repaired, and space below another.
-fn put_mark(out: &mut [u8; BUFFER], from: usize, hit: bool) -> usize {
+fn put_mark<R: Print + Eprint>(out: &mut Output<'_, R>, hit: bool) {
     if hit {
-        return print::put(out, from, b" ^^");
+        out.put(b" ^^");
+    } else {
+        out.put(b"   ");
     }
-    print::put(out, from, b"   ")
 }
 
 // Puts a line with a mark below the octet at each of the places, which rise.
-fn put_marks(out: &mut [u8; BUFFER], from: usize, places: &[u8]) -> usize {
-    let mut n = print::put(out, from, b"          ");
+fn put_marks<R: Print + Eprint>(out: &mut Output<'_, R>, places: &[u8]) {
+    out.put(b"          ");
     let mut k = 0;
-    let mut p: u8 = 0;
-    while p < 255 && k < places.len() {
+    for p in 0..255 {
+        if places.len() <= k {
+            break;
+        }
         let hit = places[k] == p;
-        n = put_mark(out, n, hit);
+        put_mark(out, hit);
         if hit {
             k += 1;
         }
-        p += 1;
     }
-    print::store(out, n, b'\n')
+    out.store(b'\n');
 }
 
 // Writes the received word, the repaired one and the marks.
-fn write(received: &[u8], repaired: &[u8], places: &[u8]) {
-    let mut out = [0u8; BUFFER];
-    let mut n = print::put(&mut out, 0, b"A damaged unit of channel ");
-    n = print::number(&mut out, n, CHANNEL as u64, 0);
-    n = print::put(&mut out, n, b": the octets at places ");
-    n = print::list(&mut out, n, places);
-    n = print::put(&mut out, n, b", counted from 0, were repaired.\n\n");
-    n = put_octets(&mut out, n, b"  received", received);
-    n = put_octets(&mut out, n, b"  repaired", repaired);
-    n = put_marks(&mut out, n, places);
-    n = print::store(&mut out, n, b'\n');
-    print::end(&out, n);
+fn write(rt: &(impl Print + Eprint), received: &[u8], repaired: &[u8], places: &[u8]) {
+    let mut out = Output::new(rt);
+    out.put(b"A damaged unit of channel ");
+    out.number(CHANNEL as u64, 0);
+    out.put(b": the octets at places ");
+    out.list(places);
+    out.put(b", counted from 0, were repaired.\n\n");
+    put_octets(&mut out, b"  received", received);
+    put_octets(&mut out, b"  repaired", repaired);
+    put_marks(&mut out, places);
+    out.store(b'\n');
+    out.end();
 }
 
 // The channel whose unit is shown, and how many of its octets were repaired.
@@ -63,7 +62,7 @@ pub const CHANNEL: u16 = 1;
 pub const REPAIRED: usize = 2;
 
 // Repairs a word of that channel once more, and shows it.
-pub fn show(word: &[u8]) {
+pub fn show(rt: &(impl Print + Eprint), word: &[u8]) {
     let mut repair = [0u8; LONGEST_WORD];
     let mut places = [0u8; MOST_PLACES];
     let width = plan::width(CHANNEL);
@@ -74,6 +73,7 @@ pub fn show(word: &[u8]) {
     };
     let n = word.len();
     write(
+        rt,
         word,
         octets::front(&repair, n),
         octets::front(&places, j.changed),

@@ -10,7 +10,7 @@ use codeword::LONGEST_WORD;
 
 // What became of a unit: its badge's column, or 0 where it was not handed up; how many octets were repaired; whether it is what was
 // sent; and the channels as the call leaves them.
-#[derive(Drop)]
+#[derive(Clone, Copy)]
 pub struct Verdict {
     pub column: usize,
     pub repaired: usize,

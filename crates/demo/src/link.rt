@@ -11,7 +11,7 @@ const FLAG: usize = 2;
 
 // The link: whether the complemented flag closed the last packet and opens the next; the noise that the next bit or octet meets; how many
 // bits of the last header are wrong; and how many octets of payload were carried, and damaged.
-#[derive(Drop)]
+#[derive(Clone, Copy)]
 pub struct Link {
     pub complemented: bool,
     pub noise: u32,
@@ -69,10 +69,8 @@ fn damage_bit(link: Link, packet: &mut [u8; LONGEST_PACKET], i: usize) -> Link {
 fn damage_header(link: Link, packet: &mut [u8; LONGEST_PACKET]) -> Link {
     let mut next = link;
     next.wrong = 0;
-    let mut i = 0;
-    while i < HEADER_BITS {
+    for i in 0..HEADER_BITS {
         next = damage_bit(next, packet, i);
-        i += 1;
     }
     next
 }
@@ -99,10 +97,8 @@ fn damage_octet(link: Link, packet: &mut [u8; LONGEST_PACKET], i: usize) -> Link
 // Damages the n octets of the payload.
 fn damage_payload(link: Link, packet: &mut [u8; LONGEST_PACKET], n: usize) -> Link {
     let mut next = link;
-    let mut i = 0;
-    while i < n {
+    for i in 0..n {
         next = damage_octet(next, packet, i);
-        i += 1;
     }
     next
 }

@@ -2,6 +2,8 @@
 // repaired and badged; one of them, repaired, is shown octet by octet; then what became of the packets, and a table of what became of the
 // units.
 
+#![tactic(auto)]
+
 mod example; // example.rt: one unit, received and repaired, octet by octet
 mod far; // far.rt: the far end: units judged and compared with what was sent
 mod link; // link.rt: the bad link, and the damage to a packet
@@ -16,19 +18,17 @@ use channels::Channels;
 use tally::Tally;
 use way::Call;
 
-fn main() {
+fn main(rt: HostRuntime) {
     let mut waiting = [0u8; channels::ALL_OCTETS];
     let mut held = [0u8; channels::ALL_OCTETS];
     let mut table = [0u16; table::TABLE_NUMBERS];
     plan::fill(&mut table);
     let mut call = way::start();
-    let mut round = 0;
-    while round < plan::ROUNDS {
+    for round in 0..plan::ROUNDS {
         let before = call.near;
         let near = near::post_all(before, round, &mut waiting);
         call = way::with_near(call, near);
-        call = way::carry_all(call, round, &waiting, &mut held, &table);
-        round += 1;
+        call = way::carry_all(&rt, call, round, &waiting, &mut held, &table);
     }
-    show::summary(call);
+    show::summary(&rt, call);
 }

@@ -14,10 +14,8 @@ fn octet(channel: u16, round: usize, i: usize) -> u8 {
 
 // The unit that a channel sends in a round; the far end makes it again, to compare.
 pub fn make(channel: u16, round: usize, unit: &mut [u8; 128]) {
-    let mut i = 0;
-    while i < 128 {
+    for i in 0..128 {
         unit[i] = octet(channel, round, i);
-        i += 1;
     }
 }
 
@@ -79,10 +77,8 @@ fn post_one(
 // One unit on each channel.
 pub fn post_all(s: Channels, round: usize, waiting: &mut [u8; channels::ALL_OCTETS]) -> Channels {
     let mut next = s;
-    let mut channel = 0;
-    while channel < plan::CHANNELS {
+    for channel in 0..plan::CHANNELS {
         next = post_one(next, channel, round, waiting);
-        channel += 1;
     }
     next
 }

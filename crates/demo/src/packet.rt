@@ -7,7 +7,7 @@ use table::Code;
 
 // How many packets were sent; and of these how many were read, the header undamaged, through wrong bits of the header, or as another packet
 // than was sent; and how many were refused, by refusal: the header, the closing flag, the length.
-#[derive(Drop)]
+#[derive(Clone, Copy)]
 pub struct Counts {
     pub sent: u32,
     pub undamaged: u32,
@@ -31,7 +31,7 @@ pub fn none() -> Counts {
 }
 
 // How many octets of a packet the far end has before it, and the link behind it.
-#[derive(Drop)]
+#[derive(Clone, Copy)]
 pub struct Came {
     pub octets: usize,
     pub link: Link,

@@ -1,5 +1,5 @@
 // What was counted: for each channel its units, the five badges, the octets repaired and the green units that differ.
-#[derive(Drop)]
+#[derive(Clone, Copy)]
 pub struct Tally {
     pub at: [u32; 40],
 }

@@ -17,7 +17,7 @@ const ROOM: usize = 90;
 
 // A call: the channels at both ends; the link between them; how many packets went over it; what became of the units; and whether one of
 // them has been shown.
-#[derive(Drop)]
+#[derive(Clone, Copy)]
 pub struct Call {
     pub near: Channels,
     pub far: Channels,
@@ -30,11 +30,9 @@ pub struct Call {
 // The channels at either end.
 fn open_all() -> Channels {
     let mut s = channels::new();
-    let mut channel = 1;
-    while channel < plan::CHANNELS {
+    for channel in 1..plan::CHANNELS {
         let a = channels::open(s, ChannelNumber(channel), plan::is_segmentable(channel));
         s = a.channels;
-        channel += 1;
     }
     s
 }
@@ -68,7 +66,14 @@ fn is_example(shown: bool, number: ChannelNumber, v: Verdict) -> bool {
 }
 
 // Judges the finished unit j of the list.
-fn judge_one(call: Call, round: usize, output: &[u8], units: &[u16], j: usize) -> Call {
+fn judge_one(
+    rt: &(impl Print + Eprint),
+    call: Call,
+    round: usize,
+    output: &[u8],
+    units: &[u16],
+    j: usize,
+) -> Call {
     let mut next = call;
     let Listed::At(unit) = units::unit_at(units, j) else {
         return next;
@@ -82,7 +87,7 @@ fn judge_one(call: Call, round: usize, output: &[u8], units: &[u16], j: usize) -
     let all = far::count(counted, number, v);
     next.tally = all;
     if is_example(call.shown, number, v) {
-        example::show(layers::unit_at(output, unit.start, unit.length));
+        example::show(rt, layers::unit_at(output, unit.start, unit.length));
         next.shown = true;
     }
     next
@@ -90,6 +95,7 @@ fn judge_one(call: Call, round: usize, output: &[u8], units: &[u16], j: usize) -
 
 // Every finished unit.
 fn judge_all(
+    rt: &(impl Print + Eprint),
     call: Call,
     round: usize,
     n: usize,
@@ -97,16 +103,15 @@ fn judge_all(
     units: &[u16; ENOUGH_UNITS],
 ) -> Call {
     let mut next = call;
-    let mut j = 0;
-    while j < n {
-        next = judge_one(next, round, output, units, j);
-        j += 1;
+    for j in 0..n {
+        next = judge_one(rt, next, round, output, units, j);
     }
     next
 }
 
 // Demultiplexes a payload at the far end.
 fn deliver(
+    rt: &(impl Print + Eprint),
     call: Call,
     round: usize,
     code: Code,
@@ -133,13 +138,14 @@ fn deliver(
     next.far = after;
     let finished = r.finished;
     match finished {
-        Finished::Units(n) => judge_all(next, round, n, &output, &units),
+        Finished::Units(n) => judge_all(rt, next, round, n, &output, &units),
         Finished::Refused(_) => next,
     }
 }
 
 // Sends a payload in a packet, and demultiplexes what the far end reads; a packet that is refused is lost.
 fn pass(
+    rt: &(impl Print + Eprint),
     call: Call,
     round: usize,
     code: Code,
@@ -161,6 +167,7 @@ fn pass(
     next.packets = counted;
     match reading {
         Reading::Packet(p) => deliver(
+            rt,
             next,
             round,
             p.code,
@@ -179,7 +186,7 @@ fn first(payload: &[u8; LONGEST_PAYLOAD], n: usize) -> &[u8] {
 }
 
 // What came of a payload, and whether there was one.
-#[derive(Drop)]
+#[derive(Clone, Copy)]
 pub struct Carried {
     pub any: bool,
     pub call: Call,
@@ -187,6 +194,7 @@ pub struct Carried {
 
 // Carries one payload under the code's entry.
 fn carry(
+    rt: &(impl Print + Eprint),
     call: Call,
     round: usize,
     code: u32,
@@ -208,6 +216,7 @@ fn carry(
         };
     };
     next = pass(
+        rt,
         next,
         round,
         Code(code),
@@ -224,6 +233,7 @@ fn carry(
 
 // Carries payloads under the code's entry until it has none: at most as many as would carry every octet that can wait.
 fn carry_out(
+    rt: &(impl Print + Eprint),
     call: Call,
     round: usize,
     code: u32,
@@ -232,17 +242,19 @@ fn carry_out(
     table: &[u16; TABLE_NUMBERS],
 ) -> Call {
     let mut next = call;
-    let mut turns: usize = ALL_OCTETS;
-    while 0 < turns {
-        let c = carry(next, round, code, waiting, held, table);
+    for _ in 0..ALL_OCTETS {
+        let c = carry(rt, next, round, code, waiting, held, table);
         next = c.call;
-        turns = if c.any { turns - 1 } else { 0 };
+        if !c.any {
+            break;
+        }
     }
     next
 }
 
 // Carries all that waits: under entry 1, then 2, 3, 4 and 0.
 pub fn carry_all(
+    rt: &(impl Print + Eprint),
     call: Call,
     round: usize,
     waiting: &[u8; ALL_OCTETS],
@@ -250,9 +262,9 @@ pub fn carry_all(
     table: &[u16; TABLE_NUMBERS],
 ) -> Call {
     let mut next = call;
-    next = carry_out(next, round, 1, waiting, held, table);
-    next = carry_out(next, round, 2, waiting, held, table);
-    next = carry_out(next, round, 3, waiting, held, table);
-    next = carry_out(next, round, 4, waiting, held, table);
-    carry_out(next, round, 0, waiting, held, table)
+    next = carry_out(rt, next, round, 1, waiting, held, table);
+    next = carry_out(rt, next, round, 2, waiting, held, table);
+    next = carry_out(rt, next, round, 3, waiting, held, table);
+    next = carry_out(rt, next, round, 4, waiting, held, table);
+    carry_out(rt, next, round, 0, waiting, held, table)
 }

@@ -3,6 +3,7 @@ use crate::carry;
 use channels::{ALL_OCTETS, Channels};
 use script::call::Call;
 use script::read;
+use std::io::Read;
 use table::TABLE_NUMBERS;
 use table::form::LONGEST_ENTRY;
 use text::lines;
@@ -17,7 +18,7 @@ pub const OCTETS: usize = LINE / 2;
 const CHUNK: usize = 4096;
 
 // The line that is being read, and the channels as the calls before it left them.
-#[derive(Drop)]
+#[derive(Clone, Copy)]
 struct Session {
     reading: Reading,
     channels: Channels,
@@ -46,6 +47,7 @@ fn call(
 
 // Answers the line that was read, and begins the next.
 fn finish(
+    rt: &(impl Print + Eprint),
     session: Session,
     line: &[u8; LINE],
     octets: &mut [u8; OCTETS],
@@ -57,7 +59,7 @@ fn finish(
     let r = session.reading;
     let s = session.channels;
     let call = call(r, line, octets, entry);
-    let after = carry::carry_out(call, octets, entry, s, held, waiting, table);
+    let after = carry::carry_out(rt, call, octets, entry, s, held, waiting, table);
     Session {
         reading: lines::begin(),
         channels: after,
@@ -76,6 +78,7 @@ fn grow(session: Session, line: &mut [u8; LINE], octet: u8) -> Session {
 
 // Takes the n octets that were read, one by one.
 fn feed(
+    rt: &(impl Print + Eprint),
     session: Session,
     chunk: &[u8; CHUNK],
     n: usize,
@@ -88,29 +91,29 @@ fn feed(
 ) -> Session {
     let read = octets::front(chunk, n);
     let mut next = session;
-    let mut i = 0;
-    while i < read.len() {
-        next = grow(next, line, read[i]);
+    for octet in read {
+        next = grow(next, line, *octet);
         if next.reading.whole {
-            next = finish(next, line, octets, entry, held, waiting, table);
+            next = finish(rt, next, line, octets, entry, held, waiting, table);
         }
-        i += 1;
     }
     next
 }
 
 // Reads once, and tells how many octets there are: 0 at the end of the input and where it cannot be read, which is said under its name.
-fn read_some(fd: i32, name: &[u8], chunk: &mut [u8; CHUNK]) -> usize {
-    let got = libc::read(fd, chunk);
-    if got < 0 {
-        os::fail(name);
+fn read_some(rt: &impl Eprint, from: &mut impl Read, name: &str, chunk: &mut [u8; CHUNK]) -> usize {
+    match from.read(chunk) {
+        Ok(got) => got,
+        Err(error) => {
+            print::fail(rt, name, &error);
+            0
+        }
     }
-    io::count(got, chunk)
 }
 
 // Reads and answers calls until the input ends. A proved loop has to end, and nothing says that a file does: so the loop counts its
-// turns down, from a number that no run uses up.
-pub fn serve(fd: i32, name: &[u8]) {
+// turns, to a number that no run uses up.
+pub fn serve(rt: &(impl Print + Eprint), from: &mut impl Read, name: &str) {
     let mut held = [0u8; ALL_OCTETS];
     let mut waiting = [0u8; ALL_OCTETS];
     let mut table = [0u16; TABLE_NUMBERS];
@@ -119,11 +122,13 @@ pub fn serve(fd: i32, name: &[u8]) {
     let mut entry = [0u16; LONGEST_ENTRY];
     let mut chunk = [0u8; CHUNK];
     let mut session = open();
-    let mut turns = u64::MAX;
-    let mut got = 1;
-    while 0 < turns && 0 < got {
-        got = read_some(fd, name, &mut chunk);
+    for _ in 0..u64::MAX {
+        let got = read_some(rt, from, name, &mut chunk);
+        if got == 0 {
+            break;
+        }
         session = feed(
+            rt,
             session,
             &chunk,
             got,
@@ -134,10 +139,10 @@ pub fn serve(fd: i32, name: &[u8]) {
             &mut waiting,
             &mut table,
         );
-        turns -= 1;
     }
     if 0 < session.reading.length {
         finish(
+            rt,
             session,
             &line,
             &mut octets,

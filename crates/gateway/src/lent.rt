@@ -1,5 +1,5 @@
 // The library's calls that write to a lent buffer, with as much of it lent as the line names.
-ghost use Rattle.io.specs.Counts.{IsPrefixLen};
+ghost use Rattle.std.specs.Prelude.{◌≡◌, ◌≤◌, length, take};
 
 use adaptation::al1m;
 use calls::Length;
@@ -11,14 +11,18 @@ use table::{Code, TABLE_NUMBERS};
 
 // As many octets as the line names, or all where there are fewer.
 fn within(room: u32, out: &[u8]) -> usize
-    ensures { IsPrefixLen result out.now }
+    ensures { (result ≤ length out.now) × (result ≡ length (take result out.now)) }
 {
-    io::count(room as isize, out)
+    let n = room as usize;
+    if out.len() < n {
+        return out.len();
+    }
+    n
 }
 
 // The numbers of as many units as the line names, three for each, or all where there are fewer.
 fn within_units(units: u32, list: &[u16]) -> usize
-    ensures { IsPrefixLen result list.now }
+    ensures { (result ≤ length list.now) × (result ≡ length (take result list.now)) }
 {
     let n = 3 * (units as usize);
     if list.len() < n {

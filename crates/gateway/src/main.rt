@@ -1,6 +1,8 @@
 // The gateway on files: calls, one a line, from the file that its argument names or from standard input, and an answer for each.
 // docs/gateway.md has the language. `script` reads each line into a call; here a call is carried out by the library, and answered.
 
+#![tactic(auto)]
+
 mod answer; // answer.rt: what is printed
 mod carry; // carry.rt: a call, carried out
 mod coding; // coding.rt: the calls that have no state: length, encode, receive, al1
@@ -12,32 +14,31 @@ mod payload; // payload.rt: the calls that make and read payloads: mux, demux
 mod stream; // stream.rt: the call that takes the raw octets of packets: link
 mod units; // units.rt: the calls on AL2's units, by channel: send, take
 
-fn main() {
-    let mut path = io::buffer();
-    let n = os::arg(1, &mut path);
-    let error = os::errno();
-    let words = os::arg_count();
-    if words <= 1 {
-        input::serve(libc::STDIN_FILENO, b"standard input");
-        return;
+use print::words;
+use std::fs;
+use std::rt::Files;
+
+// Answers the calls of a file, or says why it cannot be opened.
+fn serve_file(rt: &(impl Print + Eprint + Files), path: &str) {
+    if path == "--help" {
+        return answer::help(rt);
     }
-    if 2 < words {
-        answer::help();
-        return;
+    match fs::open(rt, path) {
+        Ok(mut file) => input::serve(rt, &mut file, path),
+        Err(error) => print::fail(rt, path, &error),
     }
-    if error != 0 {
-        os::fail(b"FILE");
-        return;
+}
+
+fn main(rt: HostRuntime) {
+    if !words::is_given(&rt, 1) {
+        return input::serve(&rt, &mut rt.reader(), "standard input");
     }
-    if octets::same(&path[..n], b"--help") {
-        answer::help();
-        return;
+    if words::is_given(&rt, 2) {
+        return answer::help(&rt);
     }
-    let fd = os::open_read(&path[..n]);
-    if fd < 0 {
-        os::fail(&path[..n]);
-        return;
+    let mut path = [0u8; words::LONGEST];
+    match words::word(&rt, 1, &mut path) {
+        Ok(path) => serve_file(&rt, path),
+        Err(error) => print::fail(&rt, "FILE", &error),
     }
-    input::serve(fd, &path[..n]);
-    libc::close(fd);
 }

@@ -5,27 +5,28 @@ use channels::{ALL_OCTETS, After, ChannelNumber, Channels};
 use table::form::LONGEST_ENTRY;
 use table::{Code, TABLE_NUMBERS};
 
-fn outcome(o: Outcome) {
+fn outcome(rt: &(impl Print + Eprint), o: Outcome) {
     match o {
-        Outcome::Done => answer::word(b"done"),
-        Outcome::Refused(k) => answer::refused(k),
+        Outcome::Done => answer::word(rt, b"done"),
+        Outcome::Refused(k) => answer::refused(rt, k),
     }
 }
 
 // Says how a call ended, and gives the channels as it leaves them.
-pub fn after(a: After) -> Channels {
+pub fn after(rt: &(impl Print + Eprint), a: After) -> Channels {
     let o = a.outcome;
-    outcome(o);
+    outcome(rt, o);
     a.channels
 }
 
 pub fn post(
+    rt: &(impl Print + Eprint),
     s: Channels,
     waiting: &mut [u8; ALL_OCTETS],
     number: ChannelNumber,
     unit: &[u8],
 ) -> Channels {
-    after(channels::post(s, waiting, number, unit))
+    after(rt, channels::post(s, waiting, number, unit))
 }
 
 // The first n numbers of an entry, or all where there are fewer.
@@ -37,10 +38,11 @@ fn first(entry: &[u16], n: usize) -> &[u16] {
 }
 
 pub fn replace(
+    rt: &(impl Print + Eprint),
     table: &mut [u16; TABLE_NUMBERS],
     code: Code,
     entry: &[u16; LONGEST_ENTRY],
     n: usize,
 ) {
-    outcome(table::replace(table, code, first(entry, n)));
+    outcome(rt, table::replace(table, code, first(entry, n)));
 }

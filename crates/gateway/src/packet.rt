@@ -10,29 +10,30 @@ use table::{Code, TABLE_NUMBERS};
 // The octets of the longest packet.
 const LONGEST_PACKET: usize = LONGEST + AROUND;
 
-fn pack(c: PackCall, octets: &[u8; OCTETS]) {
+fn pack(rt: &(impl Print + Eprint), c: PackCall, octets: &[u8; OCTETS]) {
     let mut out = [0u8; LONGEST_PACKET];
     let payload = octets::front(octets, c.octets);
     let length = lent::pack(c.opens, Code(c.code), c.mark, payload, &mut out, c.room);
     match length {
-        Length::Octets(n) => answer::octets(b"packet", octets::front(&out, n)),
-        Length::Refused(k) => answer::refused(k),
+        Length::Octets(n) => answer::octets(rt, b"packet", octets::front(&out, n)),
+        Length::Refused(k) => answer::refused(rt, k),
     }
 }
 
-fn unpack(octets: &[u8]) {
+fn unpack(rt: &(impl Print + Eprint), octets: &[u8]) {
     match packets::read(octets) {
         Reading::Packet(p) => {
             let length = p.length;
             let payload = packets::payload(octets, length);
-            answer::packet(p.code.0, p.mark, payload, p.next);
+            answer::packet(rt, p.code.0, p.mark, payload, p.next);
         }
-        Reading::Refused(k) => answer::refused(k),
+        Reading::Refused(k) => answer::refused(rt, k),
     }
 }
 
 // Carries out a call on packets, and gives the channels as it leaves them.
 pub fn carry_out(
+    rt: &(impl Print + Eprint),
     call: Packet,
     octets: &[u8; OCTETS],
     s: Channels,
@@ -41,13 +42,13 @@ pub fn carry_out(
 ) -> Channels {
     match call {
         Packet::Pack(c) => {
-            pack(c, octets);
+            pack(rt, c, octets);
             s
         }
         Packet::Unpack { octets: n } => {
-            unpack(octets::front(octets, n));
+            unpack(rt, octets::front(octets, n));
             s
         }
-        Packet::Link { octets: n } => stream::link(octets::front(octets, n), s, held, table),
+        Packet::Link { octets: n } => stream::link(rt, octets::front(octets, n), s, held, table),
     }
 }

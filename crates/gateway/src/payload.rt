@@ -10,14 +10,15 @@ use script::call::{DemuxCall, MuxCall};
 use table::{Code, LONGEST_PAYLOAD, TABLE_NUMBERS};
 
 // Says what came of multiplexing.
-fn made_payload(made: Made, payload: &[u8; LONGEST_PAYLOAD]) {
+fn made_payload(rt: &(impl Print + Eprint), made: Made, payload: &[u8; LONGEST_PAYLOAD]) {
     match made {
-        Made::Payload { octets, mark } => answer::payload(mark, octets::front(payload, octets)),
-        Made::Refused(k) => answer::refused(k),
+        Made::Payload { octets, mark } => answer::payload(rt, mark, octets::front(payload, octets)),
+        Made::Refused(k) => answer::refused(rt, k),
     }
 }
 
 pub fn multiplex(
+    rt: &(impl Print + Eprint),
     c: MuxCall,
     s: Channels,
     waiting: &[u8; ALL_OCTETS],
@@ -34,16 +35,17 @@ pub fn multiplex(
         c.lent,
     );
     let made = r.made;
-    made_payload(made, &payload);
+    made_payload(rt, made, &payload);
     r.channels
 }
 
 // The finished unit j of the list.
-fn deliver_one(output: &[u8], units: &[u16], j: usize) {
+fn deliver_one(rt: &(impl Print + Eprint), output: &[u8], units: &[u16], j: usize) {
     let Listed::At(unit) = units::unit_at(units, j) else {
         return;
     };
     answer::number_and_octets(
+        rt,
         b"unit",
         unit.channel.0 as usize,
         layers::unit_at(output, unit.start, unit.length),
@@ -51,17 +53,21 @@ fn deliver_one(output: &[u8], units: &[u16], j: usize) {
 }
 
 // The finished units, one a line.
-fn deliver(n: usize, output: &[u8; ENOUGH_OUTPUT], units: &[u16; ENOUGH_UNITS]) {
-    answer::number(b"units", n);
-    let mut j = 0;
-    while j < n {
-        deliver_one(output, units, j);
-        j += 1;
+fn deliver(
+    rt: &(impl Print + Eprint),
+    n: usize,
+    output: &[u8; ENOUGH_OUTPUT],
+    units: &[u16; ENOUGH_UNITS],
+) {
+    answer::number(rt, b"units", n);
+    for j in 0..n {
+        deliver_one(rt, output, units, j);
     }
 }
 
 // Demultiplexes a payload and says what came of it, with so many octets and units lent for it.
 pub fn demultiplex_payload(
+    rt: &(impl Print + Eprint),
     code: Code,
     mark: bool,
     payload: &[u8],
@@ -87,13 +93,14 @@ pub fn demultiplex_payload(
     );
     let finished = r.finished;
     match finished {
-        Finished::Units(k) => deliver(k, &output, &list),
-        Finished::Refused(k) => answer::refused(k),
+        Finished::Units(k) => deliver(rt, k, &output, &list),
+        Finished::Refused(k) => answer::refused(rt, k),
     }
     r.channels
 }
 
 pub fn demultiplex(
+    rt: &(impl Print + Eprint),
     c: DemuxCall,
     octets: &[u8; OCTETS],
     s: Channels,
@@ -102,6 +109,7 @@ pub fn demultiplex(
 ) -> Channels {
     let payload = octets::front(octets, c.octets);
     demultiplex_payload(
+        rt,
         Code(c.code),
         c.mark,
         payload,

@@ -10,7 +10,7 @@ use table::TABLE_NUMBERS;
 const CLOSING: usize = 2;
 
 // Where the octets go on, and the channels as what lies before leaves them.
-#[derive(Drop)]
+#[derive(Clone, Copy)]
 struct Place {
     at: usize,
     channels: Channels,
@@ -28,18 +28,17 @@ fn is_packet(octets: &[u8]) -> bool {
 fn gap(octets: &[u8]) -> usize
     ensures { (result ≤ length octets.now) × (0 < length octets.now → 0 < result) }
 {
-    let mut n = 1;
-    while n < octets.len() {
+    for n in 1..octets.len() {
         if is_packet(&octets[n..]) {
             return n;
         }
-        n += 1;
     }
     octets.len()
 }
 
 // Answers the packet at a place, or the gap that begins there, and goes on behind it.
 fn step(
+    rt: &(impl Print + Eprint),
     octets: &[u8],
     at: usize,
     s: Channels,
@@ -52,9 +51,9 @@ fn step(
     let rest = &octets[at..];
     match packets::read(rest) {
         Reading::Packet(p) => {
-            let next = at + p.next;
             let payload = packets::payload(rest, p.length);
             let after = payload::demultiplex_payload(
+                rt,
                 p.code,
                 p.mark,
                 payload,
@@ -65,12 +64,12 @@ fn step(
                 table,
             );
             Place {
-                at: next,
+                at: at + p.next,
                 channels: after,
             }
         }
         Reading::Refused(k) => {
-            answer::refused(k);
+            answer::refused(rt, k);
             Place {
                 at: at + gap(rest),
                 channels: s,
@@ -81,16 +80,17 @@ fn step(
 
 // Takes packet after packet, until nothing is left but the closing flag of the last, or no packet can be read up to the end.
 pub fn link(
+    rt: &(impl Print + Eprint),
     octets: &[u8],
     s: Channels,
     held: &mut [u8; ALL_OCTETS],
     table: &[u16; TABLE_NUMBERS],
 ) -> Channels {
-    let mut place = step(octets, 0, s, held, table);
+    let mut place = step(rt, octets, 0, s, held, table);
     while CLOSING < octets.len() - place.at {
         let at = place.at;
         let channels = place.channels;
-        place = step(octets, at, channels, held, table);
+        place = step(rt, octets, at, channels, held, table);
     }
     place.channels
 }

@@ -1,40 +1,62 @@
 // Files by name; `-` is standard input or standard output. What cannot be opened, read or written is said on standard error.
-use libc::{STDIN_FILENO, STDOUT_FILENO};
+use std::fs::OpenFile;
+use std::io::{ErrorKind, Input, Read, Write};
+use std::rt::Files;
+use std::{fs, io};
 
 // How many octets were read, or none since the file cannot be read.
-#[derive(Drop)]
+#[derive(Clone, Copy)]
 pub enum Filled {
     Octets(usize),
     Failed,
 }
 
-// Opens a file to be read, and gives its descriptor, or a number below 0.
-pub fn open(path: &[u8]) -> i32 {
-    if octets::same(path, b"-") {
-        return STDIN_FILENO;
+// What is read: standard input, or a file that is open.
+#[derive(Drop)]
+pub enum Source<I, F> {
+    Input(I),
+    File(F),
+}
+
+impl<I: Read, F: Read> Read for Source<I, F> {
+    fn read(&mut self, to: &mut [u8]) -> io::Result<usize> {
+        match self {
+            Source::Input(input) => input.read(to),
+            Source::File(file) => file.read(to),
+        }
     }
-    let fd = os::open_read(path);
-    if fd < 0 {
-        os::fail(path);
+}
+
+// Opens a file to be read, or gives nothing.
+pub fn open<R: Eprint + Input + Files>(rt: &R, path: &str) -> Option<Source<R::Reader, R::File>> {
+    if path == "-" {
+        return Some(Source::Input(rt.reader()));
     }
-    fd
+    match fs::open(rt, path) {
+        Ok(file) => Some(Source::File(file)),
+        Err(error) => {
+            print::fail(rt, path, &error);
+            None
+        }
+    }
 }
 
 // Reads once: how many octets there are, 0 at the end of the file.
-pub fn read_some(fd: i32, path: &[u8], to: &mut [u8]) -> Filled {
-    let got = libc::read(fd, to);
-    if got < 0 {
-        os::fail(path);
-        return Filled::Failed;
+pub fn read_some(rt: &impl Eprint, from: &mut impl Read, path: &str, to: &mut [u8]) -> Filled {
+    match from.read(to) {
+        Ok(n) => Filled::Octets(n),
+        Err(error) => {
+            print::fail(rt, path, &error);
+            Filled::Failed
+        }
     }
-    Filled::Octets(io::count(got, to))
 }
 
 // Reads to the end of the file, or until the buffer is full.
-pub fn fill(fd: i32, path: &[u8], to: &mut [u8]) -> Filled {
+pub fn fill(rt: &impl Eprint, from: &mut impl Read, path: &str, to: &mut [u8]) -> Filled {
     let mut at = 0;
     while at < to.len() {
-        let Filled::Octets(n) = read_some(fd, path, &mut to[at..]) else {
+        let Filled::Octets(n) = read_some(rt, from, path, &mut to[at..]) else {
             return Filled::Failed;
         };
         if n == 0 {
@@ -49,28 +71,41 @@ pub fn fill(fd: i32, path: &[u8], to: &mut [u8]) -> Filled {
 }
 
 // Writes octets to an open file; whether they are all written.
-fn write_open(fd: i32, path: &[u8], octets: &[u8]) -> bool {
-    if io::write_all(fd, octets) {
-        return true;
+fn write_open(rt: &impl Eprint, to: &mut impl Write, path: &str, octets: &[u8]) -> bool {
+    match to.write_all(octets) {
+        Ok(()) => true,
+        Err(error) => {
+            print::fail(rt, path, &error);
+            false
+        }
     }
-    os::fail(path);
-    false
+}
+
+// Whether the system has what was written to a file; one that keeps nothing, as a pipe, has no answer to that.
+fn is_kept(rt: &impl Eprint, file: &impl OpenFile, path: &str) -> bool {
+    match file.sync_data() {
+        Ok(()) => true,
+        Err(error) => {
+            let kind = error.kind();
+            if kind == ErrorKind::InvalidInput || kind == ErrorKind::Unsupported {
+                return true;
+            }
+            print::fail(rt, path, &error);
+            false
+        }
+    }
 }
 
 // Makes the file anew, with these octets; whether they are all written.
-pub fn write(path: &[u8], octets: &[u8]) -> bool {
-    if octets::same(path, b"-") {
-        return write_open(STDOUT_FILENO, b"standard output", octets);
+pub fn write(rt: &(impl Print + Eprint + Files), path: &str, octets: &[u8]) -> bool {
+    if path == "-" {
+        return write_open(rt, &mut io::writer(rt), "standard output", octets);
     }
-    let fd = os::open_overwrite(path);
-    if fd < 0 {
-        os::fail(path);
-        return false;
+    match fs::create(rt, path) {
+        Ok(mut file) => write_open(rt, &mut file, path, octets) && is_kept(rt, &file, path),
+        Err(error) => {
+            print::fail(rt, path, &error);
+            false
+        }
     }
-    let all = write_open(fd, path, octets);
-    if libc::close(fd) < 0 {
-        os::fail(path);
-        return false;
-    }
-    all
 }

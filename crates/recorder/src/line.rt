@@ -11,7 +11,7 @@ const WORDS: usize = 4;
 // What is known of a line so far: whether there is no octet yet; whether it begins with #; whether it cannot have the form any more; how
 // many words have begun, and whether the last goes on; the three numbers; whether OCTETS is `-`, how many digits it has, and the first digit
 // of an octet that lacks its second.
-#[derive(Drop)]
+#[derive(Clone, Copy)]
 pub struct Line {
     pub empty: bool,
     pub passed: bool,
@@ -25,7 +25,7 @@ pub struct Line {
 }
 
 // A unit's numbers; its octets stand in what was lent to the reading of the line.
-#[derive(Drop)]
+#[derive(Clone, Copy)]
 pub struct Unit {
     pub channel: u16,
     pub badge: u16,
@@ -34,7 +34,7 @@ pub struct Unit {
 }
 
 // A unit; or a line that is passed over, or that has not the form.
-#[derive(Drop)]
+#[derive(Clone, Copy)]
 pub enum Found {
     Unit(Unit),
     Nothing,

@@ -9,7 +9,7 @@ pub const CHANNELS: usize = 17;
 
 // How many units and octets are in the buffers, and how many channels all units have; whether one of them is out of range; and whether
 // one did not fit.
-#[derive(Drop)]
+#[derive(Clone, Copy)]
 pub struct List {
     pub units: usize,
     pub octets: usize,
@@ -48,12 +48,10 @@ fn refusal(numbers: &[u16], content: &[u8]) -> u8 {
 
 // Whether a channel is among those of a list.
 fn is_seen(list: &[u16], channel: u16) -> bool {
-    let mut j = 0;
-    while j < list.len() / 4 {
+    for j in 0..list.len() / 4 {
         if list[4 * j] == channel {
             return true;
         }
-        j += 1;
     }
     false
 }

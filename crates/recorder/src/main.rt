@@ -2,6 +2,8 @@
 // again, one unit a line: CHANNEL BADGE CHANGED OCTETS, in the notation of docs/gateway.md. A file's name may be `-`, for standard input
 // or output.
 
+#![tactic(auto)]
+
 mod files; // files.rt: opening, reading and writing files
 mod line; // line.rt: a line of a list, octet by octet
 mod list; // list.rt: the units of a list, and what the library answers for them
@@ -11,59 +13,48 @@ mod units; // units.rt: the lines of a file of any length
 mod write; // write.rt: `recorder write`
 mod read; // read.rt: `recorder read`
 
-use libc::STDERR_FILENO;
+use print::words;
+use std::env::Env;
+use std::io::Input;
+use std::rt::Files;
 
 // How to use the program.
-fn help() {
-    io::write_all(
-        STDERR_FILENO,
-        b"recorder write UNITS RECORD\nrecorder read RECORD\n",
-    );
+fn help(rt: &impl Eprint) {
+    let _ = rt.eprint("recorder write UNITS RECORD\nrecorder read RECORD\n");
 }
 
 // `recorder write UNITS RECORD`
-fn write_record() {
-    let mut from = io::buffer();
-    let mut to = io::buffer();
-    let m = os::arg(2, &mut from);
-    if os::errno() != 0 {
-        os::fail(b"UNITS");
-        return;
-    }
-    let n = os::arg(3, &mut to);
-    if os::errno() != 0 {
-        os::fail(b"RECORD");
-        return;
-    }
-    write::run(&from[..m], &to[..n]);
+fn write_record(rt: &(impl Print + Eprint + Env + Input + Files)) {
+    let mut from = [0u8; words::LONGEST];
+    let mut to = [0u8; words::LONGEST];
+    let from = match words::word(rt, 2, &mut from) {
+        Ok(from) => from,
+        Err(error) => return print::fail(rt, "UNITS", &error),
+    };
+    let to = match words::word(rt, 3, &mut to) {
+        Ok(to) => to,
+        Err(error) => return print::fail(rt, "RECORD", &error),
+    };
+    write::run(rt, from, to);
 }
 
 // `recorder read RECORD`
-fn read_record() {
-    let mut from = io::buffer();
-    let n = os::arg(2, &mut from);
-    if os::errno() != 0 {
-        os::fail(b"RECORD");
-        return;
+fn read_record(rt: &(impl Print + Eprint + Env + Input + Files)) {
+    let mut from = [0u8; words::LONGEST];
+    match words::word(rt, 2, &mut from) {
+        Ok(from) => read::run(rt, from),
+        Err(error) => print::fail(rt, "RECORD", &error),
     }
-    read::run(&from[..n]);
 }
 
-fn main() {
-    let mut command = io::buffer();
-    let n = os::arg(1, &mut command);
-    let words = os::arg_count();
-    if words == 4 {
-        if octets::same(&command[..n], b"write") {
-            write_record();
-            return;
-        }
+fn main(rt: HostRuntime) {
+    let mut command = [0u8; words::LONGEST];
+    let command = words::word(&rt, 1, &mut command).unwrap_or("");
+    if command == "write" && words::is_given(&rt, 3) && !words::is_given(&rt, 4) {
+        return write_record(&rt);
     }
-    if words == 3 {
-        if octets::same(&command[..n], b"read") {
-            read_record();
-            return;
-        }
+    if command == "read" && words::is_given(&rt, 2) && !words::is_given(&rt, 3) {
+        return read_record(&rt);
     }
-    help();
+    help(&rt);
 }

@@ -1,75 +1,70 @@
 // `recorder read RECORD`.
 use crate::files::Filled;
+use crate::write::Stream;
 use crate::{files, list, room, table, write};
-use libc::STDOUT_FILENO;
-use print::BUFFER;
+use print::Output;
 use record::Reading;
+use std::io::Input;
+use std::rt::Files;
 
 // Puts a number and a space.
-fn word(out: &mut [u8; BUFFER], from: usize, number: u16) -> usize {
-    let n = print::number(out, from, number as u64, 0);
-    print::put(out, n, b" ")
+fn word<R: Print + Eprint>(out: &mut Output<'_, R>, number: u16) {
+    out.number(number as u64, 0);
+    out.put(b" ");
 }
 
 // Puts the line of a unit, of which the numbers are the first three of four.
-fn unit(out: &mut [u8; BUFFER], from: usize, four: &[u16], own: &[u8]) -> usize {
+fn unit<R: Print + Eprint>(out: &mut Output<'_, R>, four: &[u16], own: &[u8]) {
     if four.len() < 3 {
-        return from;
+        return;
     }
-    let mut n = word(out, from, four[0]);
-    n = word(out, n, four[1]);
-    n = word(out, n, four[2]);
-    n = print::hex(out, n, own);
-    print::put(out, n, b"\n")
+    word(out, four[0]);
+    word(out, four[1]);
+    word(out, four[2]);
+    out.hex(own);
+    out.put(b"\n");
 }
 
 // Puts the units' lines.
-fn units(out: &mut [u8; BUFFER], numbers: &[u16], content: &[u8]) -> usize {
-    let mut n = 0;
+fn units<R: Print + Eprint>(out: &mut Output<'_, R>, numbers: &[u16], content: &[u8]) {
     let mut at = 0;
-    let mut j = 0;
-    while j < numbers.len() / 4 {
+    for j in 0..numbers.len() / 4 {
         let four = &numbers[4 * j..4 * j + 4];
         let length = four[3] as usize;
         if content.len() - at < length {
-            return n;
+            return;
         }
-        n = unit(out, n, four, &content[at..at + length]);
+        unit(out, four, &content[at..at + length]);
         at += length;
-        j += 1;
     }
-    n
 }
 
 // Prints the units of a record, and the table below them.
-fn show(record: &[u8], numbers: &[u16], content: &[u8]) {
-    let mut out = [0u8; BUFFER];
-    let mut n = units(&mut out, numbers, content);
-    n = table::put(&mut out, n, record);
-    print::end(&out, n);
+fn show(rt: &(impl Print + Eprint), record: &[u8], numbers: &[u16], content: &[u8]) {
+    let mut out = Output::new(rt);
+    units(&mut out, numbers, content);
+    table::put(&mut out, record);
+    out.end();
 }
 
 // Reads a record, and answers.
-fn record(record: &[u8]) {
+fn record(rt: &(impl Print + Eprint), record: &[u8]) {
     let mut numbers = room::numbers();
     let mut content = room::octets();
     match record::read(record, &mut numbers, &mut content) {
-        Reading::Units(n) => show(record, list::first(&numbers, n), &content),
-        Reading::Refused(k) => write::refused(STDOUT_FILENO, b"refused ", k as u64),
+        Reading::Units(n) => show(rt, record, list::first(&numbers, n), &content),
+        Reading::Refused(k) => write::refused(rt, Stream::Output, "refused ", k as u64),
     }
 }
 
 // A file is read as far as one octet past the longest record, which is no record whatever follows.
-pub fn run(from: &[u8]) {
-    let fd = files::open(from);
-    if fd < 0 {
+pub fn run(rt: &(impl Print + Eprint + Input + Files), from: &str) {
+    let Some(mut source) = files::open(rt, from) else {
         return;
-    }
+    };
     let mut input = room::octets();
-    let filled = files::fill(fd, from, &mut input);
-    libc::close(fd);
-    match filled {
-        Filled::Octets(n) => record(octets::front(&input, n)),
+    match files::fill(rt, &mut source, from, &mut input) {
+        Filled::Octets(n) => record(rt, octets::front(&input, n)),
         Filled::Failed => (),
     }
 }

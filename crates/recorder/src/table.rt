@@ -1,5 +1,5 @@
 // The table below the units, as lines that begin with #: what the record's own trailer says. The reader has found it right.
-use print::BUFFER;
+use print::Output;
 
 // The trailer of a record, its places, and one of them.
 const TRAILER: usize = 236;
@@ -9,45 +9,41 @@ const PLACES: usize = 16;
 const PLACE: usize = 14;
 
 // Puts the line of the channel that has place j, unless the place is unused.
-fn row(out: &mut [u8; BUFFER], from: usize, trailer: &[u8], j: usize) -> usize {
+fn row<R: Print + Eprint>(out: &mut Output<'_, R>, trailer: &[u8], j: usize) {
     if trailer.len() / PLACE <= j {
-        return from;
+        return;
     }
     let at = PLACE * j;
     let units = octets::four(trailer, at + 6);
     if units == 0 {
-        return from;
+        return;
     }
-    let mut n = print::put(out, from, b"#");
-    n = print::number(out, n, octets::two(trailer, at) as u64, 8);
-    n = print::number(out, n, units as u64, 8);
-    n = print::number(out, n, octets::four(trailer, at + 10) as u64, 9);
-    n = print::number(out, n, octets::four(trailer, at + 2) as u64, 13);
-    print::put(out, n, b"\n")
+    out.put(b"#");
+    out.number(octets::two(trailer, at) as u64, 8);
+    out.number(units as u64, 8);
+    out.number(octets::four(trailer, at + 10) as u64, 9);
+    out.number(octets::four(trailer, at + 2) as u64, 13);
+    out.put(b"\n");
 }
 
 // Puts the lines of all channels.
-fn rows(out: &mut [u8; BUFFER], from: usize, trailer: &[u8]) -> usize {
-    let mut n = from;
-    let mut j = 0;
-    while j < PLACES {
-        n = row(out, n, trailer, j);
-        j += 1;
+fn rows<R: Print + Eprint>(out: &mut Output<'_, R>, trailer: &[u8]) {
+    for j in 0..PLACES {
+        row(out, trailer, j);
     }
-    n
 }
 
 // Puts the table of a record: a head, the channels, and how many units there are, in how many octets.
-pub fn put(out: &mut [u8; BUFFER], from: usize, record: &[u8]) -> usize {
+pub fn put<R: Print + Eprint>(out: &mut Output<'_, R>, record: &[u8]) {
     if record.len() < TRAILER {
-        return from;
+        return;
     }
     let before = record.len() - TRAILER;
-    let mut n = print::put(out, from, b"# channel   units  damaged  last offset\n");
-    n = rows(out, n, &record[before..]);
-    n = print::put(out, n, b"#   total");
-    n = print::number(out, n, octets::four(record, before + 224) as u64, 8);
-    n = print::put(out, n, b"  in ");
-    n = print::number(out, n, octets::four(record, before + 228) as u64, 0);
-    print::put(out, n, b" octets before the trailer\n")
+    out.put(b"# channel   units  damaged  last offset\n");
+    rows(out, &record[before..]);
+    out.put(b"#   total");
+    out.number(octets::four(record, before + 224) as u64, 8);
+    out.put(b"  in ");
+    out.number(octets::four(record, before + 228) as u64, 0);
+    out.put(b" octets before the trailer\n");
 }

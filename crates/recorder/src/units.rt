@@ -3,10 +3,14 @@ use crate::files::Filled;
 use crate::line::{Found, Line};
 use crate::list::List;
 use crate::{files, line, list};
+use std::io::Read;
+
+// How many octets are read at once.
+const CHUNK: usize = 65536;
 
 // The line that is being read and its number, from 1; the number of the first that has not the form, or 0; the units of those before;
 // whether there is nothing more to read, and whether that is so since the file cannot be read.
-#[derive(Drop)]
+#[derive(Clone, Copy)]
 struct Session {
     line: Line,
     number: u64,
@@ -17,7 +21,7 @@ struct Session {
 }
 
 // The list of a whole file; or the number of its first line that has not the form; or a file that cannot be read.
-#[derive(Drop)]
+#[derive(Clone, Copy)]
 pub enum Taken {
     List(List),
     Malformed(u64),
@@ -108,11 +112,8 @@ fn feed(
     seen: &mut [u16],
 ) -> Session {
     let mut next = session;
-    let mut i = 0;
-    while i < read.len() {
-        let octet = read[i];
-        i += 1;
-        next = step(next, octet, unit, numbers, content, seen);
+    for octet in read {
+        next = step(next, *octet, unit, numbers, content, seen);
     }
     next
 }
@@ -131,18 +132,19 @@ fn outcome(session: Session) -> Taken {
 
 // Reads once, and takes what was read.
 fn take_chunk(
+    rt: &impl Eprint,
     session: Session,
-    fd: i32,
-    path: &[u8],
+    from: &mut impl Read,
+    path: &str,
     unit: &mut [u8; line::MOST],
     numbers: &mut [u16],
     content: &mut [u8],
     seen: &mut [u16],
 ) -> Session {
-    let mut chunk = io::large_buffer();
+    let mut chunk = [0u8; CHUNK];
     let mut next = session;
     next.ended = true;
-    let Filled::Octets(n) = files::read_some(fd, path, &mut chunk) else {
+    let Filled::Octets(n) = files::read_some(rt, from, path, &mut chunk) else {
         next.failed = true;
         return next;
     };
@@ -154,22 +156,22 @@ fn take_chunk(
 }
 
 // Takes the units of a file to its end; the last line may lack its newline. A proved loop has to end, and nothing says that a file does: so
-// the loop counts its turns down, from a number that no run uses up.
+// the loop counts its turns, to a number that no run uses up.
 pub fn take(
-    fd: i32,
-    path: &[u8],
+    rt: &impl Eprint,
+    from: &mut impl Read,
+    path: &str,
     numbers: &mut [u16],
     content: &mut [u8],
     seen: &mut [u16],
 ) -> Taken {
     let mut unit = [0u8; line::MOST];
     let mut session = open();
-    let mut turns = u64::MAX;
-    let mut ended = false;
-    while 0 < turns && !ended {
-        turns -= 1;
-        session = take_chunk(session, fd, path, &mut unit, numbers, content, seen);
-        ended = session.ended;
+    for _ in 0..u64::MAX {
+        session = take_chunk(rt, session, from, path, &mut unit, numbers, content, seen);
+        if session.ended {
+            break;
+        }
     }
     outcome(finish(session, &unit, numbers, content, seen))
 }
