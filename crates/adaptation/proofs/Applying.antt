@@ -41,8 +41,7 @@ use Rattle.adaptation.specs.AL1.{pass_tests, passed}
 use Rattle.adaptation.specs.AL2 as al2
 use Rattle.adaptation.specs.AL2Claims.{is_numbered, as_failed, Counted}
 use Rattle.adaptation.specs.declared.al2.Due.{Due}
-use Rattle.adaptation.specs.declared.al2.Number.{Number}
-use Rattle.adaptation.specs.declared.al2.Number.TheVariants.{Numbered, Plain}
+use Rattle.std.specs.Prelude.{Option, Some, None}
 use Rattle.adaptation.specs.Limits.{AdaptationLimits}
 use Rattle.adaptation.specs.Exactly.{OfAL1M, OfUnits, WholeIs}
 
@@ -66,7 +65,7 @@ unfolding sent_length
 asked t b e s r = rw (s, r)
 
 -- m is how many octets the number takes
-pub whole_length : (n : Number) (u : List ℕ) (m : ℕ) → m ≡ length (al2.field n) → length (al2.whole n u) ≡ m + length u + 1
+pub whole_length : (n : Option ℕ) (u : List ℕ) (m : ℕ) → m ≡ length (al2.field n) → length (al2.whole n u) ≡ m + length u + 1
 unfolding octets_of check_of eight
 whole_length n u m e = rw e (length-append (al2.field n ++ u) _ ∙ ap (λ (k : ℕ). k + 1) (length-append (al2.field n) u))
 
@@ -87,8 +86,8 @@ adaptation_limits = record {
   eight_word = λ n e. two-at_most n 255 (1 + 1 + 2 * e) n;
   sixteen_word = λ n e. two-at_most n 255 (1 + 2 + 2 * e) n;
   passed = λ u. chain (alone 2 (is_unit 1024 u)) (two-at_most 1 (length u) (length u) 1024);
-  numbered = λ n u. rw (whole_length (Numbered n) u 1 refl) (two-at_most 1 (length u) (1 + length u + 1) 1024);
-  unnumbered = λ u. rw (whole_length Plain u 0 refl, zero-add (length u)) (two-at_most 1 (length u) (length u + 1) 1024);
+  numbered = λ n u. rw (whole_length (Some n) u 1 refl) (two-at_most 1 (length u) (1 + length u + 1) 1024);
+  unnumbered = λ u. rw (whole_length None u 0 refl, zero-add (length u)) (two-at_most 1 (length u) (length u + 1) 1024);
   numbered_whole = λ w. two-at_most (1 + 1 + 1) (length w) (length w) 1024;
   unnumbered_whole = λ w. two-at_most (1 + 1) (length w) (length w) 1024;
 }
@@ -141,7 +140,7 @@ passes u h l = rw (le-leb 1 (length u) h, le-leb (length u) 1024 l)
 pub whole_is : (n : ℕ) (u : List ℕ) → WholeIs n u
 whole_is n u = record { numbered = refl; unnumbered = refl }
 
-pub of_units : (n : Number) (s : Bool) (u out : List ℕ) → OfUnits n s u out
+pub of_units : (n : Option ℕ) (s : Bool) (u out : List ℕ) → OfUnits n s u out
 of_units n s u out = record {
   pass2 = chain (given_exactly 2 (pass_tests u) refl) (unit-not u);
   send2 = chain (given_exactly 2 (al2.send_tests n u out) refl) (is_false (al2.is_sendable n u));
@@ -157,22 +156,22 @@ unfolding none eight sixteen
 unchecked e = (rw (and-true (eqb e 0)) (equal e 0), (and-false (eqb e 0), and-false (eqb e 0)))
 
 -- a unit behind its number, if it has one, and before an octet
-parted : (n : Number) (u : List ℕ) (c : ℕ) → let w = (al2.field n ++ u) ++ c ∷ [] in
+parted : (n : Option ℕ) (u : List ℕ) (c : ℕ) → let w = (al2.field n ++ u) ++ c ∷ [] in
     let f = al2.field_length (is_numbered n) in take (length w - 1 - f) (drop f w) ≡ u
-parted (Numbered m) u c =
+parted (Some m) u c =
     let k : length ((m ∷ u) ++ c ∷ []) - 1 - 1 ≡ length u = omega (arith, length-append u (c ∷ [])) in
     ap (λ (j : ℕ). take j (u ++ c ∷ [])) k ∙ take_at u (c ∷ []) (length u) refl
-parted Plain u c =
+parted None u c =
     let k : length (u ++ c ∷ []) - 1 - 0 ≡ length u = omega (arith, length-append u (c ∷ [])) in
     ap (λ (j : ℕ). take j (u ++ c ∷ [])) k ∙ take_at u (c ∷ []) (length u) refl
 
-enough : (n : Number) (u : List ℕ) (c : ℕ) → 1 ≤ length u → al2.field_length (is_numbered n) + 1 + 1 ≤ length ((al2.field n ++ u) ++ c ∷ [])
-enough (Numbered m) u c h = omega (arith, length-append u (c ∷ []))
-enough Plain u c h = omega (arith, length-append u (c ∷ []))
+enough : (n : Option ℕ) (u : List ℕ) (c : ℕ) → 1 ≤ length u → al2.field_length (is_numbered n) + 1 + 1 ≤ length ((al2.field n ++ u) ++ c ∷ [])
+enough (Some m) u c h = omega (arith, length-append u (c ∷ []))
+enough None u c h = omega (arith, length-append u (c ∷ []))
 
-pub headed : (n : Number) (u x : List ℕ) → al2.number_of (is_numbered n) ((al2.field n ++ u) ++ x) ≡ n
-headed (Numbered m) u x = refl
-headed Plain u x = refl
+pub headed : (n : Option ℕ) (u x : List ℕ) → al2.number_of (is_numbered n) ((al2.field n ++ u) ++ x) ≡ n
+headed (Some m) u x = refl
+headed None u x = refl
 
 counted_as : (u : List ℕ) (e : Due) {j k : ℕ} → j ≡ k
     → al2.handed_up (as_failed u) 0 (record { expected = e.expected; failed = j }) ≡ al2.handed_up (as_failed u) 0 (record { expected = e.expected; failed = k })
@@ -182,12 +181,12 @@ capped : (c k : ℕ) → Counted true c k → min (c + 1) al2.most_failed ≡ k
 capped c k (inl (l, q)) = omega arith
 capped c k (inr (l, q)) = omega arith
 
-pub settled-failed : (n : Number) (u : List ℕ) (e : Due) (k : ℕ) → Counted (is_numbered n) e.failed k
+pub settled-failed : (n : Option ℕ) (u : List ℕ) (e : Due) (k : ℕ) → Counted (is_numbered n) e.failed k
     → al2.settled n false u e ≡ al2.handed_up (as_failed u) 0 (record { expected = e.expected; failed = k })
-settled-failed (Numbered n) u e k q = counted_as u e (capped e.failed k q)
-settled-failed Plain u e k q = counted_as u e (sym q)
+settled-failed (Some n) u e k q = counted_as u e (capped e.failed k q)
+settled-failed None u e k q = counted_as u e (sym q)
 
-pub failed : (n : Number) (u : List ℕ) (c k : ℕ) (e : Due) → 1 ≤ length u → length (al2.field n ++ u) + 1 ≤ 1024
+pub failed : (n : Option ℕ) (u : List ℕ) (c k : ℕ) (e : Due) → 1 ≤ length u → length (al2.field n ++ u) + 1 ≤ 1024
     → (c ∷ [] ≡ check_of eight (al2.field n ++ u) → ⊥) → Counted (is_numbered n) e.failed k
     → al2.received (is_numbered n) ((al2.field n ++ u) ++ c ∷ []) e
     ≡ told (al2.handed_up (record { badge = 3; changed = 0; unit = u }) 0 (record { expected = e.expected; failed = k }))

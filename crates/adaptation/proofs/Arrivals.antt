@@ -14,7 +14,7 @@ use borrow.Author.Tests.{le-leb, lt-leb}
 use Rattle.adaptation.specs.AL2.{distance, arrival}
 use Rattle.adaptation.specs.AL2Claims.{Less}
 use Rattle.adaptation.specs.declared.al2.Due.{Due}
-use Rattle.adaptation.specs.declared.al2.Arrival.TheVariants.{Taken, Misdelivered}
+use Rattle.std.specs.Prelude.{Some, None}
 
 pub less-is : (d c k : ℕ) → Less d c k → d - c ≡ k
 less-is d c k (inl e) = omega arith
@@ -27,10 +27,10 @@ module _ (e : Due) (d : ℕ) (he : e.expected < 256) (hd : d < 256) where
   pub distance_of : distance n e.expected ≡ d
   distance_of = omega arith
 
-  pub arrival-taken : (k : ℕ) → Less d e.failed k → d ≤ 127 → arrival n e ≡ Taken k (record { expected = (n + 1) % 256; failed = 0 })
+  pub arrival-taken : (k : ℕ) → Less d e.failed k → d ≤ 127 → arrival n e ≡ Some (record { missing = k; due = record { expected = (n + 1) % 256; failed = 0 } })
   unfolding arrival
   arrival-taken k h l = rw (distance_of, le-leb d 127 l, less-is d e.failed k h)
 
-  pub arrival_late : 127 < d → arrival n e ≡ Misdelivered
+  pub arrival_late : 127 < d → arrival n e ≡ None
   unfolding arrival
   arrival_late l = rw (distance_of, lt-leb d 127 l)

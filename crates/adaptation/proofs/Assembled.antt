@@ -17,7 +17,7 @@ use lib.Dec.{ltb}
 use lib.ListN.{length, take, drop}
 use lib.Seq.{take-take, take-add, take_at, drop_at}
 use Rattle.octets.specs.Written.{written_front, written_behind}
-use Rattle.calls.specs.declared.Length.TheVariants.{Octets}
+use Rattle.std.specs.Prelude.{Ok}
 use Rattle.checks.specs.Check.{Kind, check_of}
 use Rattle.checks.specs.Width.{kind_at}
 use Rattle.adaptation.specs.AL1M.{is_setting, is_sendable, sent_octets}
@@ -28,7 +28,7 @@ use Rattle.adaptation.proofs.Refusals.{refused_none}
 use Rattle.adaptation.proofs.Coding.{message-length}
 use Rattle.checks.proofs.Laws.{checks_exactly}
 
-module _ (b e m : ℕ) (u before after : List ℕ) (h : Sends b e u before (Octets m) after) where
+module _ (b e m : ℕ) (u before after : List ℕ) (h : Sends b e u before (Ok m) after) where
   abbrev κ : Kind
   κ = kind_at b
 

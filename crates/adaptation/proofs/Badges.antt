@@ -13,6 +13,7 @@ use mathlib.Core.Path.{◌≡◌, refl, sym, ap, ap₂, ◌∙◌, subst}
 use mathlib.Core.Bool.{Bool, true, false, not}
 use mathlib.Core.List.{List}
 use Prim.Native.Nat.{ℕ, zero, suc, ◌+◌, ◌-◌, ◌*◌, ◌≤◌}
+use Rattle.std.specs.Prelude.{Option, Some, None}
 use native.Mathlib.Omega.{arith}
 use borrow.Author.Tests.{leb-true, eqb-true}
 use lib.Dec.{leb, eqb}
@@ -23,8 +24,6 @@ use Rattle.octets.specs.Tests.{both_true, never}
 use Rattle.codeword.specs.CodeWord.{CodeWord, distance, Within, longest_word}
 use Rattle.codeword.specs.Claims.{RepairShows}
 use Rattle.codeword.specs.Repair.{RepairLent, has_repair_room, reads, Repaired, FoundIs, OutOfReachIs}
-use Rattle.codeword.specs.declared.Reach.{Reach}
-use Rattle.codeword.specs.declared.Reach.TheVariants as reach
 use Rattle.codeword.proofs.Laws.{distance_self, distance-zero, reads_true, found_is_it, without_parity}
 use Rattle.calls.specs.Refusal.{told, refusal}
 use Rattle.checks.specs.Check.{none, agrees}
@@ -71,28 +70,28 @@ module _ (e : ℕ) (w : List ℕ) (before after : RepairLent) (c : List ℕ) (k 
 
 -- ---- the badge, undone
 
-faultless : (b : Bool) (r : Reach) (a : Bool) → is_faulty (badge_of b r a) ≡ false → (k : ℕ) × (r ≡ reach.Found k) × (a ≡ true)
-faultless b reach.OutOfReach a h = never (cc)
-faultless b (reach.Found k) false h = never (cc)
-faultless b (reach.Found k) true h = (k, refl, refl)
+faultless : (b : Bool) (r : Option ℕ) (a : Bool) → is_faulty (badge_of b r a) ≡ false → (k : ℕ) × (r ≡ Some k) × (a ≡ true)
+faultless b None a h = never (cc)
+faultless b (Some k) false h = never (cc)
+faultless b (Some k) true h = (k, refl, refl)
 
 -- what each badge tells
-abbrev Tells : Bool → Reach → Bool → Badge → Type 0
-Tells b r a Clean = (r ≡ reach.Found 0) × (a ≡ true) × (b ≡ false)
-Tells b r a Corrected = (k : ℕ) × (r ≡ reach.Found (suc k)) × (a ≡ true)
-Tells b r a OutOfReach = r ≡ reach.OutOfReach
-Tells b r a CheckFailed = (k : ℕ) × (r ≡ reach.Found k) × (a ≡ false)
-Tells b r a Unchecked = (r ≡ reach.Found 0) × (a ≡ true) × (b ≡ true)
+abbrev Tells : Bool → Option ℕ → Bool → Badge → Type 0
+Tells b r a Clean = (r ≡ Some 0) × (a ≡ true) × (b ≡ false)
+Tells b r a Corrected = (k : ℕ) × (r ≡ Some (suc k)) × (a ≡ true)
+Tells b r a OutOfReach = r ≡ None
+Tells b r a CheckFailed = (k : ℕ) × (r ≡ Some k) × (a ≡ false)
+Tells b r a Unchecked = (r ≡ Some 0) × (a ≡ true) × (b ≡ true)
 
-tells : (b : Bool) (r : Reach) (a : Bool) → Tells b r a (badge_of b r a)
-tells b reach.OutOfReach a = refl
-tells b (reach.Found k) false = (k, refl, refl)
-tells true (reach.Found zero) true = (refl, refl, refl)
-tells false (reach.Found zero) true = (refl, refl, refl)
-tells b (reach.Found (suc k)) true = (k, refl, refl)
+tells : (b : Bool) (r : Option ℕ) (a : Bool) → Tells b r a (badge_of b r a)
+tells b None a = refl
+tells b (Some k) false = (k, refl, refl)
+tells true (Some zero) true = (refl, refl, refl)
+tells false (Some zero) true = (refl, refl, refl)
+tells b (Some (suc k)) true = (k, refl, refl)
 
 -- the part that the badge chooses
-chosen : (b : Bool) (k t : ℕ) (w after c : List ℕ) → (k ≡ 0 → w ≡ c) → take t after ≡ take t c → handed_unit (badge_of b (reach.Found k) true) w after t
+chosen : (b : Bool) (k t : ℕ) (w after c : List ℕ) → (k ≡ 0 → w ≡ c) → take t after ≡ take t c → handed_unit (badge_of b (Some k) true) w after t
     ≡ take t c
 chosen true zero t w after c z h = ap (take t) (z refl)
 chosen false zero t w after c z h = ap (take t) (z refl)
@@ -109,16 +108,16 @@ module _ (n e : ℕ) (w : List ℕ) (before after : RepairLent) (j : Judgement) 
   abbrev good : Bool
   good = agrees (kind_at n) (take (length w - 2 * e) after.repair)
 
-  as_found : (k : ℕ) → h.reach ≡ reach.Found k → FoundIs e w before k after
-  as_found k q = subst (λ (x : Reach). Repaired e w before x after) q h.repaired
+  as_found : (k : ℕ) → h.reach ≡ Some k → FoundIs e w before k after
+  as_found k q = subst (λ (x : Option ℕ). Repaired e w before x after) q h.repaired
 
   -- where a code word lies within e octets, it is found
-  has_found : (c : List ℕ) → Within e w c → (k : ℕ) × (h.reach ≡ reach.Found k)
+  has_found : (c : List ℕ) → Within e w c → (k : ℕ) × (h.reach ≡ Some k)
   has_found c near = go h.reach h.repaired
     where
-      go : (x : Reach) → Repaired e w before x after → (k : ℕ) × (x ≡ reach.Found k)
-      go (reach.Found k) f = (k, refl)
-      go reach.OutOfReach f = absurd (f.none (fits n e w before allowed) c near)
+      go : (x : Option ℕ) → Repaired e w before x after → (k : ℕ) × (x ≡ Some k)
+      go (Some k) f = (k, refl)
+      go None f = absurd (f.none (fits n e w before allowed) c near)
 
   module _ (c : List ℕ) (near : Within e w c) where
     count : ℕ
@@ -137,9 +136,9 @@ module _ (n e : ℕ) (w : List ℕ) (before after : RepairLent) (j : Judgement) 
     good-is : good ≡ is_agreeing n e c
     good-is = ap (agrees (kind_at n)) (front (length w - 2 * e) (omega arith)) ∙ ap (λ (l : ℕ). agrees (kind_at n) (take (l - 2 * e) c)) (sym near.long)
 
-    badge_found : (a : Bool) → is_agreeing n e c ≡ a → j.badge ≡ badge_of bare (reach.Found (distance w c)) a
+    badge_found : (a : Bool) → is_agreeing n e c ≡ a → j.badge ≡ badge_of bare (Some (distance w c)) a
     unfolding count
-    badge_found a g = h.badge_is ∙ ap₂ (badge_of bare) ((has_found c near).1 ∙ ap reach.Found changed_is) (good-is ∙ g)
+    badge_found a g = h.badge_is ∙ ap₂ (badge_of bare) ((has_found c near).1 ∙ ap Some changed_is) (good-is ∙ g)
 
     pub shown_found : RepairShows w c before j.changed after
     unfolding count
@@ -149,7 +148,7 @@ module _ (n e : ℕ) (w : List ℕ) (before after : RepairLent) (j : Judgement) 
       pub badge-sent : j.badge ≡ badge_of_sent (kind_at n) e (distance w c)
       badge-sent = badge_found true a ∙ go (distance w c)
         where
-          go : (k : ℕ) → badge_of bare (reach.Found k) true ≡ badge_of_sent (kind_at n) e k
+          go : (k : ℕ) → badge_of bare (Some k) true ≡ badge_of_sent (kind_at n) e k
           go zero = refl
           go (suc k) = refl
 
@@ -164,7 +163,7 @@ module _ (n e : ℕ) (w : List ℕ) (before after : RepairLent) (j : Judgement) 
   told-by x q = subst (Tells bare h.reach good) (sym h.badge_is ∙ q) (tells bare h.reach good)
 
   -- a word that was found with no octet changed is the received one
-  unchanged : h.reach ≡ reach.Found 0 → good ≡ true → CodeWord e w × (is_agreeing n e w ≡ true)
+  unchanged : h.reach ≡ Some 0 → good ≡ true → CodeWord e w × (is_agreeing n e w ≡ true)
   unchanged q a =
       let g = as_found 0 q in
       let same : g.found ≡ w = sym (distance-zero w g.found (sym g.within.long) (sym g.count)) in
@@ -181,7 +180,7 @@ module _ (n e : ℕ) (w : List ℕ) (before after : RepairLent) (j : Judgement) 
         sym (good-is g.found g.within) ∙ t.2,
       )
   given_for OutOfReach q =
-      let lost : OutOfReachIs e w before after = subst (λ (x : Reach). Repaired e w before x after) (told-by OutOfReach q) h.repaired in
+      let lost : OutOfReachIs e w before after = subst (λ (x : Option ℕ). Repaired e w before x after) (told-by OutOfReach q) h.repaired in
       lost.none (fits n e w before allowed)
   given_for CheckFailed q =
       let t = told-by CheckFailed q in
@@ -198,14 +197,14 @@ module _ (n e : ℕ) (w : List ℕ) (before after : RepairLent) (j : Judgement) 
   earned Clean (code, a, b) = badge_found w (itself code) true a ∙ (rw (distance_self w, b))
   earned Corrected (c, near, other, a) = badge_found c near true a ∙ go (distance w c) refl
     where
-      go : (k : ℕ) → distance w c ≡ k → badge_of bare (reach.Found k) true ≡ Corrected
+      go : (k : ℕ) → distance w c ≡ k → badge_of bare (Some k) true ≡ Corrected
       go zero z = absurd (other (sym (distance-zero w c (sym near.long) z)))
       go (suc k) z = refl
   earned OutOfReach far = h.badge_is ∙ go h.reach h.repaired
     where
-      go : (x : Reach) → Repaired e w before x after → badge_of bare x good ≡ OutOfReach
-      go (reach.Found k) p = absurd (far p.found p.within)
-      go reach.OutOfReach p = refl
+      go : (x : Option ℕ) → Repaired e w before x after → badge_of bare x good ≡ OutOfReach
+      go (Some k) p = absurd (far p.found p.within)
+      go None p = refl
   earned CheckFailed (c, near, a) = badge_found c near false a
   earned Unchecked (o, b) =
       let t = both_true (eqb e 0) (eqb (kind_at n).octets 0) b in
@@ -216,7 +215,7 @@ module _ (n e : ℕ) (w : List ℕ) (before after : RepairLent) (j : Judgement) 
 
   lost-leaves : j.badge ≡ OutOfReach → (j.changed ≡ 0) × (after ≡ before)
   lost-leaves q =
-      let lost : OutOfReachIs e w before after = subst (λ (x : Reach). Repaired e w before x after) (told-by OutOfReach q) h.repaired in
+      let lost : OutOfReachIs e w before after = subst (λ (x : Option ℕ). Repaired e w before x after) (told-by OutOfReach q) h.repaired in
       (h.changed_is ∙ ap changed_of (told-by OutOfReach q), lost.same)
 
 -- ---- the claims

@@ -4,20 +4,17 @@
 --   message_octets   .. it is octets where the unit is
 --   message_built    unit and check, written one behind the other into a buffer, are the message
 --   sent_is          what encoding it leaves is what the unit is sent as
---   coding-refused   what refuses to say a length refuses to send
---   coding_short     .. and so does too little room
---   coding-allowed   .. and nothing else
 --   coding-all       what is known of a length that was told
---   sent-at          what was sent by a width's check was sent by the width
 --
 -- Assumes nothing.
-use mathlib.Core.Path.{◌≡◌, sym, ap, ap₂, ◌∙◌, subst}
+use mathlib.Core.Path.{◌≡◌, sym, ap, ap₂, ◌∙◌}
 use mathlib.Core.Bool.{true}
 use mathlib.Core.List.{List, ◌++◌}
 use Prim.Native.Nat.{ℕ, ◌+◌, ◌*◌, ◌≤◌, ◌<◌}
+use Rattle.std.specs.Prelude.{Option}
 use native.Mathlib.Omega.{arith}
-use borrow.Author.Tests.{lt-ltb, le-ltb, leb-true}
-use lib.Dec.{leb, ltb}
+use borrow.Author.Tests.{leb-true}
+use lib.Dec.{leb}
 use lib.ListN.{length, take, length-append}
 use lib.Seq.{take-append_seam}
 use Rattle.octets.specs.Tests.{both_true}
@@ -25,13 +22,12 @@ use Rattle.octets.specs.Written.{written, written_front}
 use Rattle.codeword.specs.CodeWord.{Octets, longest_word}
 use Rattle.codeword.specs.Encoding.{Encoded}
 use Rattle.codeword.proofs.Laws.{octets-append, parity_code_word, encodes_true, encoded-is}
-use Rattle.calls.specs.Refusal.{refused, told, refusal}
+use Rattle.calls.specs.Refusal.{told}
 use Rattle.checks.specs.Check.{Kind, check_of}
-use Rattle.checks.specs.Width.{kind_at}
 use Rattle.adaptation.specs.AL1M.{is_setting, is_sendable, sent_octets, sent_length}
-use Rattle.adaptation.specs.Sending.{message, encode_tests, SentIs}
+use Rattle.adaptation.specs.Sending.{message, SentIs}
 use Rattle.checks.proofs.Laws.{check_octets, check-length, sealed-front}
-use Rattle.adaptation.proofs.Refusals.{refused-room, refused-not, refused_sooner, refused-later}
+use Rattle.adaptation.proofs.Refusals.{refused-later}
 
 module _ (κ : Kind) (u : List ℕ) where
   pub message-length : length (message κ u) ≡ length u + κ.octets
@@ -46,12 +42,12 @@ module _ (κ : Kind) (u : List ℕ) where
       ap₂ take (hk ∙ sym message-length) (hb ∙ ap (λ (x : List ℕ). written x (length u) (check_of κ (take (length u) x))) ha ∙ sealed-front κ u d (omega arith))
       ∙ written_front d (message κ u) (rw message-length h)
 
-  pub sent_is : (e : ℕ) (m before after : List ℕ) (n : ℕ) → Octets u → m ≡ message κ u → 0 < length u → length u + κ.octets + 2 * e ≤ longest_word
-      → length u + κ.octets + 2 * e ≤ length before → Encoded e m before n after → SentIs κ e u before (length u + κ.octets + 2 * e) after
-  sent_is e m before after n o is some all room p =
+  pub sent_is : (e : ℕ) (m before after : List ℕ) (r : Option ℕ) → Octets u → m ≡ message κ u → 0 < length u → length u + κ.octets + 2 * e ≤ longest_word
+      → length u + κ.octets + 2 * e ≤ length before → Encoded e m before r after → SentIs κ e u before (length u + κ.octets + 2 * e) after
+  sent_is e m before after r o is some all room p =
       let l = message-length in
       let fits = encodes_true (length (message κ u)) e (length before) (omega (arith, l)) (omega (arith, l)) (omega (arith, l)) in
-      let d = encoded-is e (message κ u) before after n fits (rw is at p) in
+      let d = (encoded-is e (message κ u) before after r fits (rw is at p)).2 in
       let long : length (message κ u ++ d.parity) ≡ length (message κ u) + 2 * e =
       length-append (message κ u) d.parity ∙ ap (λ (k : ℕ). length (message κ u) + k) d.right.long in
       record {
@@ -66,32 +62,13 @@ module _ (κ : Kind) (u : List ℕ) where
       }
 
 module _ (t n e : ℕ) where
-  pub coding-refused : (k room : ℕ) → refused k ≡ sent_length t n e → refusal (encode_tests t n e room) ≡ refused k
-  unfolding sent_length
-  coding-refused k room h = refused_sooner (sent_octets t n e) (is_setting n e) (is_sendable t n e) (ltb room (sent_octets t n e)) k h
-
   module _ (m : ℕ) (h : told m ≡ sent_length t n e) where
     known : (is_setting n e ≡ true) × (is_sendable t n e ≡ true) × (m ≡ sent_octets t n e)
     unfolding sent_length
     known = refused-later (sent_octets t n e) (is_setting n e) (is_sendable t n e) m h
-
-    pub coding_short : (room : ℕ) → room < m → refusal (encode_tests t n e room) ≡ refused 3
-    coding_short room l =
-        refused-room (is_setting n e) (is_sendable t n e) (ltb room (sent_octets t n e)) known.0 known.1
-        (lt-ltb room (sent_octets t n e) (omega (arith, known.2)))
-
-    pub coding-allowed : (room : ℕ) → m ≤ room → refusal (encode_tests t n e room) ≡ told tt
-    coding-allowed room l =
-        refused-not (is_setting n e) (is_sendable t n e) (ltb room (sent_octets t n e)) known.0 known.1
-        (le-ltb room (sent_octets t n e) (omega (arith, known.2)))
 
     pub coding-all : (0 < t) × (m ≡ sent_octets t n e) × (m ≤ longest_word)
     unfolding is_sendable
     coding-all =
         let b = both_true (leb 1 t) (leb (sent_octets t n e) longest_word) known.1 in
         (leb-true 1 t b.0, known.2, omega (arith, known.2, leb-true (sent_octets t n e) longest_word b.1))
-
-pub sent-at : (n e m : ℕ) (κ : Kind) (u before after : List ℕ) → kind_at n ≡ κ → m ≡ sent_octets (length u) n e
-    → SentIs κ e u before (length u + κ.octets + 2 * e) after → SentIs (kind_at n) e u before m after
-sent-at n e m κ u before after k h s =
-    subst (λ (x : ℕ). SentIs (kind_at n) e u before x after) (sym h) (subst (λ (x : Kind). SentIs x e u before (length u + x.octets + 2 * e) after) (sym k) s)

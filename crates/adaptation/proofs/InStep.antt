@@ -20,10 +20,12 @@ use native.Mathlib.Omega.{arith}
 use borrow.Author.Tests.{le-leb, leb-true, ltb-false, not-false}
 use lib.Dec.{T, leb}
 use lib.ListN.{length, take, drop, take-append-drop}
+use Rattle.std.specs.Prelude.{Option, Some, None}
 use Rattle.octets.specs.Same.{same-equal}
 use Rattle.octets.specs.Tests.{both_true, never}
 use Rattle.octets.specs.Written.{written, written_front, written_behind}
-use Rattle.calls.specs.Refusal.{Told, refused, told, Ended, leaving, refusing, None}
+use Rattle.calls.specs.Refusal.{Told, refused, told, Ended, leaving, refusing}
+use Rattle.calls.specs.Refusal as tests
 use Rattle.calls.proofs.Laws.{told-refused, told_same, leaving-same, by_test, by_tests}
 use Rattle.checks.specs.Check.{check_of, agrees, eight}
 use Rattle.adaptation.specs.Handed.{longest_unit, is_unit}
@@ -34,10 +36,7 @@ use Rattle.adaptation.specs.AL2Claims.{is_numbered, Less, SentIsWhole, ReadBack,
 use Rattle.adaptation.specs.AL2Claims.{PlainReceived, FailedCounted, wholes_from, number_after, due_next, receipts, due_after, are_sendable, InStep}
 use Rattle.adaptation.specs.declared.al2.Due.{Due}
 use Rattle.adaptation.specs.declared.al2.Numbers.{Numbers}
-use Rattle.adaptation.specs.declared.al2.Number.{Number}
-use Rattle.adaptation.specs.declared.al2.Number.TheVariants.{Numbered, Plain}
-use Rattle.adaptation.specs.declared.al2.Arrival.{Arrival}
-use Rattle.adaptation.specs.declared.al2.Arrival.TheVariants.{Taken, Misdelivered}
+use Rattle.adaptation.specs.declared.al2.Taken.{Taken}
 use Rattle.adaptation.proofs.Applying.{whole_length, settled-failed}
 use Rattle.adaptation.proofs.Arrivals.{arrival-taken, arrival_late}
 use Rattle.adaptation.proofs.Wholes.{whole_apart, whole-received}
@@ -45,13 +44,13 @@ use Rattle.adaptation.proofs.Wholes.{whole_apart, whole-received}
 pub numbers_rise : NumbersRise
 numbers_rise = record { first = refl; number = λ m. (refl, refl); rises = λ m. refl; stays = λ m. refl }
 
-settled_range : (n : Number) (b : Bool) (u : List ℕ) (e : Due) → DueInRange e → DueInRange (due_by (settled n b u e))
+settled_range : (n : Option ℕ) (b : Bool) (u : List ℕ) (e : Due) → DueInRange e → DueInRange (due_by (settled n b u e))
 unfolding arrival
-settled_range (Numbered n) false u e h = (h.0, omega arith)
-settled_range Plain false u e h = h
-settled_range (Numbered n) true u e h =
-    by_test (λ (a : Arrival). DueInRange (due_by (delivered a u e))) (leb (distance n e.expected) most_past) (λ t. (omega arith, omega arith)) (λ t. h)
-settled_range Plain true u e h = h
+settled_range (Some n) false u e h = (h.0, omega arith)
+settled_range None false u e h = h
+settled_range (Some n) true u e h =
+    by_test (λ (a : Option Taken). DueInRange (due_by (delivered a u e))) (leb (distance n e.expected) most_past) (λ t. (omega arith, omega arith)) (λ t. h)
+settled_range None true u e h = h
 
 risen_range : (numbered : Bool) (m : Numbers) → NumbersInRange m → NumbersInRange (risen numbered m)
 risen_range true m h = (omega arith, h.1)
@@ -66,7 +65,7 @@ range_kept = record {
 
 -- ---- a unit that may be sent
 
-pub sizes : (n : Number) (u : List ℕ) → is_sendable n u ≡ true → (0 < length u) × (length (whole n u) ≤ longest_unit)
+pub sizes : (n : Option ℕ) (u : List ℕ) → is_sendable n u ≡ true → (0 < length u) × (length (whole n u) ≤ longest_unit)
 sizes n u h =
     let b = both_true (leb 1 (length u)) (leb (length (whole n u)) longest_unit) h in
     (leb-true 1 (length u) b.0, leb-true (length (whole n u)) longest_unit b.1)
@@ -84,7 +83,7 @@ sent_is_whole n u out after m =
     Is : Type 0
     Is = (is_sendable n u ≡ true) × (m ≡ length (whole n u)) × (take m after ≡ whole n u) × (drop m after ≡ drop m out)
 
-    written_is : None (send_tests n u out) → leaving (length (whole n u)) (written out 0 (whole n u)) ≡ leaving m after
+    written_is : tests.None (send_tests n u out) → leaving (length (whole n u)) (written out 0 (whole n u)) ≡ leaving m after
         → Is
     written_is (a, (b, c)) e =
         let room : length (whole n u) ≤ length out = ltb-false (length out) (length (whole n u)) b in
@@ -147,20 +146,20 @@ read_parts s n w p =
     (λ none e. subst Said (told_same (parts_of s (n ∷ w)) p e) (refl, refl))
   where
     Said : Parts → Type 0
-    Said q = (q.number ≡ cond s (Numbered n) Plain) × (q.agreeing ≡ agrees eight (n ∷ w))
+    Said q = (q.number ≡ cond s (Some n) None) × (q.agreeing ≡ agrees eight (n ∷ w))
 
 -- ---- what becomes of a unit
 
 -- by what becomes of its number
-module _ (u : List ℕ) (e : Due) (n : ℕ) (h : is_sendable (Numbered n) u ≡ true) where
-  arrived : (a : Arrival) → arrival n e ≡ a → received true (whole (Numbered n) u) e ≡ told (delivered a u e)
-  arrived a q = whole-received (Numbered n) u e (sizes (Numbered n) u h).0 (sizes (Numbered n) u h).1 ∙ ap (λ (x : Arrival). told (delivered x u e)) q
+module _ (u : List ℕ) (e : Due) (n : ℕ) (h : is_sendable (Some n) u ≡ true) where
+  arrived : (a : Option Taken) → arrival n e ≡ a → received true (whole (Some n) u) e ≡ told (delivered a u e)
+  arrived a q = whole-received (Some n) u e (sizes (Some n) u h).0 (sizes (Some n) u h).1 ∙ ap (λ (x : Option Taken). told (delivered x u e)) q
 
 pub arrival_is : ArrivalIs
 arrival_is e d n k (he, hd, is) less = (λ l. rw is (arrival-taken e d he hd k less l), λ l. rw is (arrival_late e d he hd (omega arith)))
 
 pub missing_told : MissingTold
-missing_told u e d n k past l less h = arrived u e n h (Taken k (accepting n)) ((arrival_is e d n k past less).0 l)
+missing_told u e d n k past l less h = arrived u e n h (Some (record { missing = k; due = accepting n })) ((arrival_is e d n k past less).0 l)
 
 -- none is missing before the number expected, whatever failed
 none-less : (c : ℕ) → Less 0 c 0
@@ -171,10 +170,10 @@ pub next_in_order : NextInOrder
 next_in_order u e he h = missing_told u e 0 e.expected 0 (he, omega arith, omega arith) (omega arith) (none-less e.failed) h
 
 pub late_discarded : LateDiscarded
-late_discarded u e d n (he, hd, is) l h = arrived u e n h Misdelivered (rw is (arrival_late e d he hd (omega arith)))
+late_discarded u e d n (he, hd, is) l h = arrived u e n h None (rw is (arrival_late e d he hd (omega arith)))
 
 pub plain_received : PlainReceived
-plain_received u e h = whole-received Plain u e (sizes Plain u h).0 (sizes Plain u h).1
+plain_received u e h = whole-received None u e (sizes None u h).0 (sizes None u h).1
 
 pub failed_counted : FailedCounted
 unfolding received
@@ -186,15 +185,15 @@ missing_by : Receipt → ℕ
 missing_by (handed_up u k e) = k
 missing_by (discarded k e) = k
 
-delivered_late : (a : Arrival) (u : List ℕ) (e x : Due) (k : ℕ) → delivered a u e ≡ discarded k x → (k ≡ 0) × (x ≡ e)
+delivered_late : (a : Option Taken) (u : List ℕ) (e x : Due) (k : ℕ) → delivered a u e ≡ discarded k x → (k ≡ 0) × (x ≡ e)
 unfolding missing_by
-delivered_late (Taken j y) u e x k q = never (cc)
-delivered_late Misdelivered u e x k q = (sym (ap missing_by q), sym (ap due_by q))
+delivered_late (Some t) u e x k q = never (cc)
+delivered_late None u e x k q = (sym (ap missing_by q), sym (ap due_by q))
 
-settled_late : (n : Number) (b : Bool) (u : List ℕ) (e x : Due) (k : ℕ) → settled n b u e ≡ discarded k x → (k ≡ 0) × (x ≡ e)
+settled_late : (n : Option ℕ) (b : Bool) (u : List ℕ) (e x : Due) (k : ℕ) → settled n b u e ≡ discarded k x → (k ≡ 0) × (x ≡ e)
 settled_late n false u e x k q = never (cc)
-settled_late (Numbered n) true u e x k q = delivered_late (arrival n e) u e x k q
-settled_late Plain true u e x k q = never (cc)
+settled_late (Some n) true u e x k q = delivered_late (arrival n e) u e x k q
+settled_late None true u e x k q = never (cc)
 
 pub discard_leaves : DiscardLeaves
 unfolding received
@@ -218,15 +217,15 @@ answers_say u e = record {
 
 -- ---- one after another
 
-pub sendable : (i : ℕ) (u : List ℕ) → is_unit (longest_unit - 2) u ≡ true → is_sendable (Numbered i) u ≡ true
+pub sendable : (i : ℕ) (u : List ℕ) → is_unit (longest_unit - 2) u ≡ true → is_sendable (Some i) u ≡ true
 sendable i u h =
     let b = both_true (leb 1 (length u)) (leb (length u) (longest_unit - 2)) h in
-    let l = whole_length (Numbered i) u 1 refl in
-    rw (b.0, le-leb (length (whole (Numbered i) u)) longest_unit (omega (arith, l, leb-true (length u) (longest_unit - 2) b.1)))
+    let l = whole_length (Some i) u 1 refl in
+    rw (b.0, le-leb (length (whole (Some i) u)) longest_unit (omega (arith, l, leb-true (length u) (longest_unit - 2) b.1)))
 
 pub wholes_from-append : (i : ℕ) (l m : List (List ℕ)) → wholes_from i (l ++ m) ≡ wholes_from i l ++ wholes_from (number_after i l) m
 wholes_from-append i [] m = refl
-wholes_from-append i (u ∷ l) m = ap (λ (x : List (List ℕ)). whole (Numbered i) u ∷ x) (wholes_from-append ((i + 1) % 256) l m)
+wholes_from-append i (u ∷ l) m = ap (λ (x : List (List ℕ)). whole (Some i) u ∷ x) (wholes_from-append ((i + 1) % 256) l m)
 
 pub number_after-append : (i : ℕ) (l m : List (List ℕ)) → number_after i (l ++ m) ≡ number_after (number_after i l) m
 number_after-append i [] m = refl
@@ -247,7 +246,7 @@ in_step i c [] hi all = (refl, refl)
 in_step i c (u ∷ l) hi all =
     let b = both_true (is_unit (longest_unit - 2) u) (are_sendable l) all in
     let e : Due = record { expected = i; failed = c } in
-    let w = whole (Numbered i) u in
+    let w = whole (Some i) u in
     let first = next_in_order u e hi (sendable i u b.0) in
     let next : due_next (received true w e) e ≡ accepting i = ap (λ (t : Told Receipt). due_next t e) first in
     let rest = in_step ((i + 1) % 256) 0 l (omega arith) b.1 in (

@@ -1,9 +1,8 @@
 pub mod Applying
 pub mod Assembled
 pub mod Coding
-pub mod Judging
 pub mod Settings
-pub mod Sendable
+pub mod Deciding
 pub mod Arrivals
 pub mod Wholes
 pub mod InStep

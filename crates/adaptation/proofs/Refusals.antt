@@ -1,13 +1,9 @@
 -- Refusals (document 01, "Refusal numbers"): they leave everything as it came, and the first that applies decides.
 --
 --   sent-leaves      AL2's sending leaves the output
---   refused_setting  AL1M's three tests: the first that fails decides
---   refused-length
---   refused-room
---   refused-not      .. and where none fails, none refuses
+--   refused-not      AL1M's three tests: where none holds, none refuses
 --   refused_none     .. and only there
---   refused_sooner   without a room: what refuses then refuses with any
---   refused-later    .. and where nothing does, settings and length are right
+--   refused-later    .. without a room: where nothing is refused, settings and length are right
 --
 -- Assumes nothing.
 use mathlib.Core.Path.{◌≡◌, refl, sym, ap, ◌∙◌}
@@ -20,10 +16,10 @@ use Rattle.octets.specs.Written.{written}
 use Rattle.calls.specs.Refusal.{refused, told, Ended, checked, refusal, ended}
 use Rattle.adaptation.specs.AL1M.{al1m_tests}
 use Rattle.adaptation.specs.AL2.{whole, send_tests, sent}
-use Rattle.adaptation.specs.declared.al2.Number.{Number}
+use Rattle.std.specs.Prelude.{Option}
 use Rattle.calls.proofs.Laws.{checked_leaves}
 
-pub sent-leaves : (n : Number) (u out : List ℕ) (k : ℕ) (x : List ℕ) → ended (refused k) x ≡ sent n u out → x ≡ out
+pub sent-leaves : (n : Option ℕ) (u out : List ℕ) (k : ℕ) (x : List ℕ) → ended (refused k) x ≡ sent n u out → x ≡ out
 unfolding sent
 sent-leaves n u out k x e =
     ap (λ (r : Ended ℕ (List ℕ)). r.left) e
@@ -32,15 +28,6 @@ sent-leaves n u out k x e =
 -- ---- AL1M's three tests in their order: the settings s, the length r, and a room x that is too small
 
 module _ (s r x : Bool) where
-  pub refused_setting : s ≡ false → refusal (al1m_tests s r x) ≡ refused 1
-  refused_setting h = rw h
-
-  pub refused-length : s ≡ true → r ≡ false → refusal (al1m_tests s r x) ≡ refused 2
-  refused-length h l = rw (h, l)
-
-  pub refused-room : s ≡ true → r ≡ true → x ≡ true → refusal (al1m_tests s r x) ≡ refused 3
-  refused-room h l o = rw (h, l, o)
-
   pub refused-not : s ≡ true → r ≡ true → x ≡ false → refusal (al1m_tests s r x) ≡ told tt
   refused-not h l o = rw (h, l, o)
 
@@ -51,11 +38,6 @@ refused_none true false x h = never (cc)
 refused_none false r x h = never (cc)
 
 module _ {A : Type 0} (a : A) where
-  pub refused_sooner : (s r x : Bool) (k : ℕ) → refused k ≡ checked refused (al1m_tests s r false) (told a) → refusal (al1m_tests s r x) ≡ refused k
-  refused_sooner true true x k h = never (cc)
-  refused_sooner true false x k h = cc
-  refused_sooner false r x k h = cc
-
   pub refused-later : (s r : Bool) (b : A) → told b ≡ checked refused (al1m_tests s r false) (told a) → (s ≡ true) × (r ≡ true) × (b ≡ a)
   refused-later true true b h = (refl, refl, cc)
   refused-later true false b h = never (cc)

@@ -9,6 +9,7 @@ use mathlib.Core.Path.{◌≡◌, sym, ap, ap₂, ◌∙◌}
 use mathlib.Core.Bool.{true, not}
 use mathlib.Core.List.{List}
 use Prim.Native.Nat.{ℕ, ◌-◌, ◌*◌, ◌≤◌, ◌<◌}
+use Rattle.std.specs.Prelude.{Option, Some, None}
 use native.Mathlib.Omega.{arith}
 use borrow.Author.Tests.{le-leb, leb-true}
 use lib.Dec.{leb}
@@ -18,22 +19,19 @@ use Rattle.octets.specs.Written.{written}
 use Rattle.codeword.specs.CodeWord.{distance, Within, longest_word}
 use Rattle.codeword.specs.Changed.{changed_places}
 use Rattle.codeword.specs.Repair.{RepairLent, has_repair_room, Repaired}
-use Rattle.codeword.specs.declared.Reach.{Reach}
-use Rattle.codeword.specs.declared.Reach.TheVariants as reach
 use Rattle.codeword.proofs.Laws.{code_word_only, repaired_unique}
-use Rattle.calls.specs.Refusal.{Told, refused, told, refusal}
-use Rattle.calls.proofs.Laws.{told-refused}
+use Rattle.calls.specs.Refusal.{Told, refused, told, refusal, number}
+use Rattle.calls.proofs.Laws.{told-refused, number-once}
 use Rattle.checks.specs.Check.{agrees}
 use Rattle.checks.specs.Width.{is_width, kind_at}
 use Rattle.adaptation.specs.AL1M.{is_setting, is_sendable, sent_octets}
 use Rattle.adaptation.specs.Sending.{message, Coded, Sends}
 use Rattle.adaptation.specs.Receiving.{is_word, receive_tests, is_bare, badge_of, changed_of, handed_unit, Receives}
 use Rattle.adaptation.specs.Claims.{badge_of_sent, is_agreeing, SentIsHandedUp, EncodedUnique, ReceivedUnique, RefusalLeaves}
-use Rattle.calls.specs.declared.Length.TheVariants as sends
+use Rattle.calls.specs.declared.Refusal.{Refusal}
+use Rattle.std.specs.Prelude.{Result, Ok, Err}
 use Rattle.adaptation.specs.declared.Badge.{Badge}
 use Rattle.adaptation.specs.declared.al1m.Judgement.{Judgement}
-use Rattle.adaptation.specs.declared.al1m.Received.{Received}
-use Rattle.adaptation.specs.declared.al1m.Received.TheVariants as receive
 use Rattle.adaptation.proofs.Assembled.{sendable, long, word, unit-sent}
 use Rattle.adaptation.proofs.Badges.{passed, word-is, shown_found, badge-sent, unit_found}
 use Rattle.checks.proofs.Laws.{agrees_own}
@@ -50,7 +48,7 @@ unfolding judgement
 judgement-same j b k t p q r =
     ap (λ (x : Badge). judgement x j.changed j.length) p ∙ ap₂ (judgement b) q r
 
-module _ (n e m : ℕ) (u room sent : List ℕ) (s : Sends n e u room (sends.Octets m) sent) where
+module _ (n e m : ℕ) (u room sent : List ℕ) (s : Sends n e u room (Ok m) sent) where
   coded : Coded (kind_at n) e u s.1.sent
   coded = s.1.coded
 
@@ -88,17 +86,17 @@ module _ (n e m : ℕ) (u room sent : List ℕ) (s : Sends n e u room (sends.Oct
     abbrev badge : Badge
     badge = badge_of_sent (kind_at n) e (distance w (take m sent))
 
-    handed : (r : Received) → Receives n e w before r after
-        → (r ≡ receive.Unit (judgement badge (distance w (take m sent)) (length u))) × (handed_unit badge w after.repair (length u) ≡ u)
+    handed : (r : Result Judgement Refusal) → Receives n e w before r after
+        → (r ≡ Ok (judgement badge (distance w (take m sent)) (length u))) × (handed_unit badge w after.repair (length u) ≡ u)
         × (take (distance w (take m sent)) after.places ≡ changed_places w (take m sent))
-    handed (receive.Refused k) p = told-refused allowed p.first
-    handed (receive.Unit j) (a, h) =
+    handed (Err k) p = told-refused allowed p.first
+    handed (Ok j) (a, h) =
         let c = s.1.sent in
         let t : j.length ≡ length u = h.length_is ∙ omega (arith, l, sent-long) in
         let d : j.changed ≡ distance w (take m sent) = (shown_found n e w before after j a h c within).count ∙ ap (distance w) (sym sent_front) in
         let b : j.badge ≡ badge =
         badge-sent n e w before after j a h c within agrees-sent ∙ ap (λ (x : List ℕ). badge_of_sent (kind_at n) e (distance w x)) (sym sent_front) in (
-          ap receive.Unit (judgement-same j badge (distance w (take m sent)) (length u) b d t),
+          ap Ok (judgement-same j badge (distance w (take m sent)) (length u) b d t),
           ap₂ (λ (x : Badge) (i : ℕ). handed_unit x w after.repair i) (sym b) (sym t) ∙ unit_found n e w before after j a h c within agrees-sent
               ∙ ap (λ (i : ℕ). take i c) t ∙ unit-sent n e m u room sent s,
           ap (λ (i : ℕ). take i after.places) (sym d) ∙ (shown_found n e w before after j a h c within).places ∙ ap (changed_places w) (sym sent_front),
@@ -110,10 +108,10 @@ sent_is_handed_up n e m u room sent w before after r s l near fits lists p = han
 
 -- ---- how large the numbers are
 
-pub sent-small : (n e m : ℕ) (u room sent : List ℕ) → Sends n e u room (sends.Octets m) sent → m ≤ longest_word
+pub sent-small : (n e m : ℕ) (u room sent : List ℕ) → Sends n e u room (Ok m) sent → m ≤ longest_word
 sent-small n e m u room sent s = (sizes n e m u room sent s).1
 
-pub handed-small : (n e : ℕ) (w : List ℕ) (before after : RepairLent) (j : Judgement) → Receives n e w before (receive.Unit j) after
+pub handed-small : (n e : ℕ) (w : List ℕ) (before after : RepairLent) (j : Judgement) → Receives n e w before (Ok j) after
     → (j.changed ≤ 127) × (j.length ≤ longest_word)
 unfolding is_setting
 handed-small n e w before after j (allowed, h) = (
@@ -127,9 +125,9 @@ handed-small n e w before after j (allowed, h) = (
   omega (arith, h.length_is, (word-is n e w before allowed).0),
 )
   where
-    changed : (x : Reach) → Repaired e w before x after → changed_of x ≤ e
-    changed (reach.Found k) f = omega (arith, f.count, f.within.near)
-    changed reach.OutOfReach f = omega arith
+    changed : (x : Option ℕ) → Repaired e w before x after → changed_of x ≤ e
+    changed (Some k) f = omega (arith, f.count, f.within.near)
+    changed None f = omega arith
 
 -- ---- answers are unique
 
@@ -137,32 +135,32 @@ pub refusal_leaves : RefusalLeaves
 refusal_leaves = (λ n e k u before after p. p.same, λ n e k w before after p. p.same)
 
 -- two refusals of one list of tests are the same
-first-same : (t : Told (Unit {0})) (k i : ℕ) → t ≡ refused k → t ≡ refused i → k ≡ i
-first-same t k i p q = cc
+first-same : (t : Told (Unit {0})) (k i : Refusal) → t ≡ refused (number k) → t ≡ refused (number i) → k ≡ i
+first-same t k i p q = number-once k i (cc)
 
 pub encoded_unique : EncodedUnique
-encoded_unique n e u before after left (sends.Octets m) (sends.Octets i) (a, p) (b, q) =
+encoded_unique n e u before after left (Ok m) (Ok i) (a, p) (b, q) =
     let same : p.sent ≡ q.sent =
     code_word_only e (message (kind_at n) u) p.sent q.sent p.coded.long q.coded.long p.coded.code q.coded.code p.coded.begins
     q.coded.begins in
-    (ap sends.Octets (p.count ∙ ap length same ∙ sym q.count), p.written_is ∙ ap (written before 0) same ∙ sym q.written_is)
-encoded_unique n e u before after left (sends.Octets m) (sends.Refused k) (a, p) q = told-refused a q.first
-encoded_unique n e u before after left (sends.Refused k) (sends.Octets m) p (b, q) = told-refused b p.first
-encoded_unique n e u before after left (sends.Refused k) (sends.Refused i) p q =
-    (ap sends.Refused (first-same _ k i p.first q.first), p.same ∙ sym q.same)
+    (ap Ok (p.count ∙ ap length same ∙ sym q.count), p.written_is ∙ ap (written before 0) same ∙ sym q.written_is)
+encoded_unique n e u before after left (Ok m) (Err k) (a, p) q = told-refused a q.first
+encoded_unique n e u before after left (Err k) (Ok m) p (b, q) = told-refused b p.first
+encoded_unique n e u before after left (Err k) (Err i) p q =
+    (ap Err (first-same _ k i p.first q.first), p.same ∙ sym q.same)
 
 pub received_unique : ReceivedUnique
 unfolding judgement
-received_unique n e w before after left (receive.Unit j) (receive.Unit i) (a, p) (b, q) =
+received_unique n e w before after left (Ok j) (Ok i) (a, p) (b, q) =
     let both = repaired_unique e w before p.reach q.reach after left p.repaired q.repaired in
     let badge : j.badge ≡ i.badge =
-    p.badge_is ∙ ap₂ (λ (x : Reach) (y : RepairLent). badge_of (is_bare (kind_at n) e) x (agrees (kind_at n) (take (length w - 2 * e) y.repair))) both.0 both.1
+    p.badge_is ∙ ap₂ (λ (x : Option ℕ) (y : RepairLent). badge_of (is_bare (kind_at n) e) x (agrees (kind_at n) (take (length w - 2 * e) y.repair))) both.0 both.1
     ∙ sym q.badge_is in (
-      ap receive.Unit (judgement-same j i.badge i.changed i.length badge (p.changed_is ∙ ap changed_of both.0 ∙ sym q.changed_is)
+      ap Ok (judgement-same j i.badge i.changed i.length badge (p.changed_is ∙ ap changed_of both.0 ∙ sym q.changed_is)
           (p.length_is ∙ sym q.length_is)),
       both.1,
     )
-received_unique n e w before after left (receive.Unit j) (receive.Refused k) (a, p) q = told-refused a q.first
-received_unique n e w before after left (receive.Refused k) (receive.Unit j) p (b, q) = told-refused b p.first
-received_unique n e w before after left (receive.Refused k) (receive.Refused i) p q =
-    (ap receive.Refused (first-same _ k i p.first q.first), p.same ∙ sym q.same)
+received_unique n e w before after left (Ok j) (Err k) (a, p) q = told-refused a q.first
+received_unique n e w before after left (Err k) (Ok j) p (b, q) = told-refused b p.first
+received_unique n e w before after left (Err k) (Err i) p q =
+    (ap Err (first-same _ k i p.first q.first), p.same ∙ sym q.same)

@@ -8,26 +8,25 @@
 --   received-once    .. so there is one
 --
 -- The other promises are equations `r ≡ ..`, for which `p ∙ sym q` is the proof. Assumes nothing.
-use mathlib.Core.Path.{◌≡◌, refl, sym, ap, ◌∙◌}
+use mathlib.Core.Path.{◌≡◌, refl, sym, ap, ap₂, ◌∙◌}
 use mathlib.Core.Bool.{Bool, cond}
+use Rattle.std.specs.Prelude.{Option, Some, None, Result, Ok, Err}
+use Rattle.octets.specs.Tests.{never}
 use mathlib.Core.List.{List}
 use Prim.Native.Nat.{ℕ, ◌≤◌}
 use native.Mathlib.Omega.{arith}
 use lib.Dec.{eqb}
-use Rattle.calls.specs.Refusal.{Told, refused, told}
-use Rattle.calls.proofs.Laws.{once}
-use Rattle.adaptation.specs.Handed.{badge_number, Handed}
+use Rattle.calls.specs.Refusal.{told}
+use Rattle.calls.specs.declared.Refusal.{Refusal}
+use Rattle.calls.proofs.Laws.{told_same, once, number-once}
+use Rattle.adaptation.specs.Handed.{badge_number, Handed, handed}
 use Rattle.adaptation.specs.AL1 as al1
-use Rattle.adaptation.specs.AL2.{Parts, Receipt, handed_up, discarded, unit_of, apart, received, apart_says, received_says}
+use Rattle.adaptation.specs.AL2.{Parts, unit_of, apart, received, apart_says, receipt_says, received_says}
 use Rattle.adaptation.specs.declared.al2.Due.{Due}
 use Rattle.adaptation.specs.declared.Badge.{Badge}
 use Rattle.adaptation.specs.declared.Badge.TheVariants.{Clean, Corrected, OutOfReach, CheckFailed, Unchecked}
-use Rattle.adaptation.specs.declared.al1.Passed.{Passed}
-use Rattle.adaptation.specs.declared.al1.Passed.TheVariants as pass
 use Rattle.adaptation.specs.declared.al2.Apart.{Apart}
-use Rattle.adaptation.specs.declared.al2.Apart.TheVariants as read
-use Rattle.adaptation.specs.declared.al2.Received.{Received}
-use Rattle.adaptation.specs.declared.al2.Received.TheVariants as receive
+use Rattle.adaptation.specs.declared.al2.Delivery.{Delivery}
 
 -- ---- badges
 
@@ -54,47 +53,48 @@ badge-once = once badge_number badge_at badge-back
 
 -- ---- AL1
 
-passed_back : Told Handed → Passed
-passed_back (told h) = pass.Unit (badge_at h.badge)
-passed_back (refused k) = pass.Refused k
+handed_badges : (a b : Badge) (u : List ℕ) → told (handed a u) ≡ told (handed b u) → badge_number a ≡ badge_number b
+handed_badges a b u h = ap (λ (x : Handed). x.badge) (told_same (handed a u) (handed b u) h)
 
-pub passed-once : (u : List ℕ) (a b : Passed) → al1.passed_says a u ≡ al1.passed u → al1.passed_says b u ≡ al1.passed u → a ≡ b
-unfolding passed_back
-passed-once u a b = once (λ (r : Passed). al1.passed_says r u) passed_back back a b (al1.passed u)
-  where
-    back : (r : Passed) → passed_back (al1.passed_says r u) ≡ r
-    back (pass.Unit b) = ap pass.Unit (badge-back b)
-    back (pass.Refused k) = refl
+pub passed-once : (u : List ℕ) (a b : Result Badge Refusal) → al1.passed_says a u ≡ al1.passed u → al1.passed_says b u ≡ al1.passed u → a ≡ b
+passed-once u (Ok a) (Ok b) p q = ap Ok (badge-once a b (badge_number b) (handed_badges a b u (p ∙ sym q)) refl)
+passed-once u (Ok a) (Err s) p q = never (cc)
+passed-once u (Err r) (Ok b) p q = never (cc)
+passed-once u (Err r) (Err s) p q = ap Err (number-once r s (cc))
 
 -- ---- AL2
 
-apart_back : Told Parts → Apart
-apart_back (told p) = read.Parts p.number p.agreeing
-apart_back (refused k) = read.Refused k
-
-pub read-once : (s : Bool) (w : List ℕ) (a b : Apart)
+pub read-once : (s : Bool) (w : List ℕ) (a b : Result Apart Refusal)
     → apart_says a (unit_of s w) ≡ apart s w → apart_says b (unit_of s w) ≡ apart s w → a ≡ b
-unfolding apart_back
-read-once s w a b = once (λ (r : Apart). apart_says r (unit_of s w)) apart_back back a b (apart s w)
-  where
-    back : (r : Apart) → apart_back (apart_says r (unit_of s w)) ≡ r
-    back (read.Parts n t) = refl
-    back (read.Refused k) = refl
+read-once s w (Ok a) (Ok b) p q =
+    let same = told_same (record { number = a.number; agreeing = a.agrees; unit = unit_of s w }) (record { number = b.number; agreeing = b.agrees; unit = unit_of s w }) (p ∙ sym q) in
+    ap₂ (λ (n : Option ℕ) (t : Bool). Ok (record { number = n; agrees = t })) (ap (λ (x : Parts). x.number) same) (ap (λ (x : Parts). x.agreeing) same)
+read-once s w (Ok a) (Err t) p q = never (cc)
+read-once s w (Err r) (Ok b) p q = never (cc)
+read-once s w (Err r) (Err t) p q = ap Err (number-once r t (cc))
 
-received_back : Told Receipt → Received
-received_back (told (handed_up h d x)) = receive.Unit (badge_at h.badge) d x
-received_back (told (discarded d e)) = receive.Discarded
-received_back (refused k) = receive.Refused k
+delivery : Badge → ℕ → Due → Delivery
+delivery b k e = record { badge = b; missing = k; due = e }
 
-received-back : (u : List ℕ) (e : Due) (r : Received) → received_back (received_says r u e) ≡ r
-unfolding received_back
-received-back u e (receive.Unit b d x) = ap (λ (c : Badge). receive.Unit c d x) (badge-back b)
-received-back u e receive.Discarded = refl
-received-back u e (receive.Refused k) = refl
+receipt-once : (u : List ℕ) (e : Due) (a b : Option Delivery) → receipt_says a u e ≡ receipt_says b u e → a ≡ b
+unfolding delivery
+receipt-once u e (Some a) (Some b) h =
+    let shown : handed a.badge u ≡ handed b.badge u = cc in
+    let badge : badge_number a.badge ≡ badge_number b.badge = ap (λ (x : Handed). x.badge) shown in
+    let missing : a.missing ≡ b.missing = cc in
+    let due : a.due ≡ b.due = cc in
+    let same : a ≡ b = ap (λ (x : Badge). delivery x a.missing a.due) (badge-once a.badge b.badge (badge_number b.badge) badge refl) ∙ ap₂ (delivery b.badge) missing due in
+    ap Some same
+receipt-once u e (Some a) None h = never (cc)
+receipt-once u e None (Some b) h = never (cc)
+receipt-once u e None None h = refl
 
-pub says-once : (u : List ℕ) (e : Due) (a b : Received) → received_says a u e ≡ received_says b u e → a ≡ b
-says-once u e a b h = once (λ (r : Received). received_says r u e) received_back (received-back u e) a b (received_says b u e) h refl
+pub says-once : (u : List ℕ) (e : Due) (a b : Result (Option Delivery) Refusal) → received_says a u e ≡ received_says b u e → a ≡ b
+says-once u e (Ok a) (Ok b) h = ap Ok (receipt-once u e a b (cc))
+says-once u e (Ok a) (Err s) h = never (cc)
+says-once u e (Err r) (Ok b) h = never (cc)
+says-once u e (Err r) (Err s) h = ap Err (number-once r s (cc))
 
-pub received-once : (s : Bool) (w : List ℕ) (e : Due) (a b : Received)
+pub received-once : (s : Bool) (w : List ℕ) (e : Due) (a b : Result (Option Delivery) Refusal)
     → received_says a (unit_of s w) e ≡ received s w e → received_says b (unit_of s w) e ≡ received s w e → a ≡ b
 received-once s w e a b p q = says-once (unit_of s w) e a b (p ∙ sym q)

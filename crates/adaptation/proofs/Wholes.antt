@@ -1,20 +1,19 @@
 -- AL2's wholes: what each operation answers case by case, and that reading undoes putting together.
 --
---   field_most, field_length_most   a number takes at most one octet
+--   field_is                       the slice of a number is its field
 --   sent_empty, sent-long          refusal 2: no unit, or a whole that is too long
 --   sent-room                      refusal 3: too little room
 --   sent-parts                     else the whole is written, part after part
---   apart_short, apart-long        refusal 2: a whole that is too short, or too long
---   apart_read                     else it is read
+--   apart_read                     a whole that is neither too short nor too long is read
 --   by_parts t e                     receiving, by what reading told
---   received-apart                 .. is that
+--   received_apart                 .. is that
 --   whole_apart                    a whole that was put together is read as what it was put together from, and its check agrees
 --   whole-received                 so its unit is handed up as it was, clean, or discarded for its number
 --
 -- Assumes nothing.
 use mathlib.Core.Path.{◌≡◌, refl, sym, ap, ap₂, ◌∙◌}
-use mathlib.Core.Bool.{Bool, true, false, and-false}
-use mathlib.Core.List.{List, ◌∷◌, ◌++◌}
+use mathlib.Core.Bool.{Bool, true, and-false}
+use mathlib.Core.List.{List, [], ◌∷◌, ◌++◌}
 use Prim.Native.Nat.{ℕ, ◌+◌, ◌-◌, ◌≤◌, ◌<◌}
 use native.Mathlib.Omega.{arith}
 use borrow.Author.Tests.{le-leb, lt-leb, le-ltb, lt-ltb}
@@ -30,23 +29,18 @@ use Rattle.adaptation.specs.AL2.{field, whole, is_sendable, sent, field_length, 
 use Rattle.adaptation.specs.AL2.{settled, received}
 use Rattle.adaptation.specs.AL2Claims.{is_numbered}
 use Rattle.adaptation.specs.declared.al2.Due.{Due}
-use Rattle.adaptation.specs.declared.al2.Number.{Number}
-use Rattle.adaptation.specs.declared.al2.Number.TheVariants.{Numbered, Plain}
+use Rattle.std.specs.Prelude.{Option, Some, None, MatchOption}
 use Rattle.adaptation.proofs.Applying.{whole_length, headed}
 use Rattle.checks.proofs.Laws.{sealed-front, agrees_own}
 
-pub field_most : (n : Number) → length (field n) ≤ 1
-field_most (Numbered n) = omega arith
-field_most Plain = omega arith
-
-pub field_length_most : (s : Bool) → field_length s ≤ 1
-field_length_most true = omega arith
-field_length_most false = omega arith
+pub field_is : (n : Option ℕ) (v : List ℕ) → MatchOption n (v ≡ []) (λ a. v ≡ a ∷ []) → v ≡ field n
+field_is (Some a) v h = h
+field_is None v h = h
 
 -- ---- sending
 
 -- m is how many octets the number takes
-module _ (n : Number) (u : List ℕ) (m : ℕ) (e : m ≡ length (field n)) where
+module _ (n : Option ℕ) (u : List ℕ) (m : ℕ) (e : m ≡ length (field n)) where
   long : length (whole n u) ≡ m + length u + 1
   long = whole_length n u m e
 
@@ -86,15 +80,7 @@ module _ (n : Number) (u : List ℕ) (m : ℕ) (e : m ≡ length (field n)) wher
 -- ---- reading
 
 module _ (s : Bool) (w : List ℕ) where
-  pub apart_short : length w < field_length s + 1 + 1 → apart s w ≡ refused 2
-  unfolding apart
-  apart_short l = rw (lt-leb (field_length s + 1 + 1) (length w) l)
-
-  pub apart-long : longest_unit < length w → apart s w ≡ refused 2
-  unfolding apart
-  apart-long l = rw (lt-leb (length w) longest_unit l, and-false (leb (field_length s + 1 + 1) (length w)))
-
-  pub apart_read : (n : Number) (t : Bool) → field_length s + 1 + 1 ≤ length w → length w ≤ longest_unit → number_of s w ≡ n → agrees eight w ≡ t
+  pub apart_read : (n : Option ℕ) (t : Bool) → field_length s + 1 + 1 ≤ length w → length w ≤ longest_unit → number_of s w ≡ n → agrees eight w ≡ t
       → apart s w ≡ told (record { number = n; agreeing = t; unit = unit_of s w })
   unfolding apart
   apart_read n t l m e a = rw (le-leb (field_length s + 1 + 1) (length w) l, le-leb (length w) longest_unit m, e, a)
@@ -104,32 +90,32 @@ abbrev pub by_parts : Told Parts → Due → Told Receipt
 by_parts (refused k) e = refused k
 by_parts (told p) e = told (settled p.number p.agreeing p.unit e)
 
-pub received-apart : (s : Bool) (w : List ℕ) (e : Due) → received s w e ≡ by_parts (apart s w) e
+pub received_apart : (s : Bool) (w : List ℕ) (e : Due) → received s w e ≡ by_parts (apart s w) e
 unfolding received apart
-received-apart s w e = sym (checked_through (λ (t : Told Parts). by_parts t e) refused (read_tests s w) (told (parts_of s w)))
+received_apart s w e = sym (checked_through (λ (t : Told Parts). by_parts t e) refused (read_tests s w) (told (parts_of s w)))
 
 -- ---- both
 
-unit-whole : (n : Number) (u : List ℕ) → unit_of (is_numbered n) (whole n u) ≡ u
-unit-whole (Numbered n) u =
-    let m : length (whole (Numbered n) u) - 1 - 1 ≡ length u = omega (arith, whole_length (Numbered n) u 1 refl) in
+unit-whole : (n : Option ℕ) (u : List ℕ) → unit_of (is_numbered n) (whole n u) ≡ u
+unit-whole (Some n) u =
+    let m : length (whole (Some n) u) - 1 - 1 ≡ length u = omega (arith, whole_length (Some n) u 1 refl) in
     ap (λ (k : ℕ). take k (u ++ check_of eight (n ∷ u))) m ∙ take_at u _ (length u) refl
-unit-whole Plain u =
-    let m : length (whole Plain u) - 1 - 0 ≡ length u = omega (arith, whole_length Plain u 0 refl) in
+unit-whole None u =
+    let m : length (whole None u) - 1 - 0 ≡ length u = omega (arith, whole_length None u 0 refl) in
     ap (λ (k : ℕ). take k (u ++ check_of eight u)) m ∙ take_at u _ (length u) refl
 
-field_length-is : (n : Number) → field_length (is_numbered n) ≡ length (field n)
-field_length-is (Numbered n) = refl
-field_length-is Plain = refl
+field_length-is : (n : Option ℕ) → field_length (is_numbered n) ≡ length (field n)
+field_length-is (Some n) = refl
+field_length-is None = refl
 
-pub whole_apart : (n : Number) (u : List ℕ) → 0 < length u → length (whole n u) ≤ longest_unit
+pub whole_apart : (n : Option ℕ) (u : List ℕ) → 0 < length u → length (whole n u) ≤ longest_unit
     → apart (is_numbered n) (whole n u) ≡ told (record { number = n; agreeing = true; unit = u })
 whole_apart n u p l =
     apart_read (is_numbered n) (whole n u) n true (omega (arith, whole_length n u (length (field n)) refl, field_length-is n)) l (headed n u (check_of eight (field n ++ u)))
     (agrees_own eight (field n ++ u))
     ∙ ap (λ (v : List ℕ). told (record { number = n; agreeing = true; unit = v })) (unit-whole n u)
 
-pub whole-received : (n : Number) (u : List ℕ) (e : Due) → 0 < length u → length (whole n u) ≤ longest_unit
+pub whole-received : (n : Option ℕ) (u : List ℕ) (e : Due) → 0 < length u → length (whole n u) ≤ longest_unit
     → received (is_numbered n) (whole n u) e ≡ told (settled n true u e)
 unfolding received
-whole-received n u e p l = received-apart (is_numbered n) (whole n u) e ∙ ap (λ (t : Told Parts). by_parts t e) (whole_apart n u p l)
+whole-received n u e p l = received_apart (is_numbered n) (whole n u) e ∙ ap (λ (t : Told Parts). by_parts t e) (whole_apart n u p l)

@@ -2,7 +2,6 @@
 --
 --   most_repairs        the largest e
 --   is_setting b e      a check of b bits and e repairs may be asked for
---   setting_of b e      .. that check
 --   sent_octets t b e   a unit of t octets, its check of l octets and the parity: t + l + 2e
 --   is_sendable t b e   such a unit may be sent
 --   al1m_tests s r x    what refuses, in this order: settings that are not s, a length that is not r, a room that is x, too small
@@ -10,21 +9,16 @@
 --   sent_length t b e   the answer to it
 --
 -- Assumes nothing.
-use Rattle.std.specs.Prelude.{Bool, false, cond, not, ◌&&◌, List, [], ◌∷◌, ℕ, ◌+◌, ◌*◌, leb}
+use Rattle.std.specs.Prelude.{Bool, false, not, ◌&&◌, List, [], ◌∷◌, ℕ, ◌+◌, ◌*◌, leb}
 use Rattle.codeword.specs.CodeWord.{longest_word}
 use Rattle.calls.specs.Refusal.{Told, refused, told, Test, ◌when◌, checked}
-use Rattle.checks.specs.Width.{width_of, is_width, kind_at}
-use Rattle.checks.specs.declared.Asked.{Asked}
-use Rattle.checks.specs.declared.Asked.TheVariants.{Unknown}
+use Rattle.checks.specs.Width.{is_width, kind_at}
 
 abbrev pub most_repairs : ℕ
 most_repairs = 127
 
 unfoldable pub is_setting : ℕ → ℕ → Bool
 is_setting b e = is_width b && leb e most_repairs
-
-unfoldable pub setting_of : ℕ → ℕ → Asked
-setting_of b e = cond (leb e most_repairs) (width_of b) Unknown
 
 abbrev pub sent_octets : ℕ → ℕ → ℕ → ℕ
 sent_octets t b e = t + (kind_at b).octets + 2 * e

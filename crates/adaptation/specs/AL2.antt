@@ -32,53 +32,50 @@
 --   settled         .. by its parts: the check first, then the number if there is one
 --   receipt_of s w e .. by the octets w, where e is due
 --   received s w e  how receiving w ends, where e is due
---   apart_says, received_says   what each answer of the functions says
+--   apart_says, receipt_says, received_says   what each answer of the functions says
 --
 -- Assumes nothing.
 use Rattle.std.specs.Prelude.{Bool, true, false, cond, not, ◌&&◌, List, [], ◌∷◌, ◌++◌, ℕ, ◌+◌, ◌-◌, ◌%◌, min, leb, ltb, length, get_or, take, drop}
+use Rattle.std.specs.Prelude.{Option, Some, None, Result, Ok, Err}
 use Rattle.octets.specs.Written.{written}
-use Rattle.calls.specs.Refusal.{Told, refused, told, Ended, leaving, refusing, Test, ◌when◌, checked}
+use Rattle.calls.specs.Refusal.{Told, refused, told, Ended, leaving, refusing, Test, ◌when◌, checked, number}
+use Rattle.calls.specs.declared.Refusal.{Refusal}
 use Rattle.checks.specs.Check.{check_of, agrees, eight}
 use Rattle.adaptation.specs.Handed.{longest_unit, Handed, handed}
 use Rattle.adaptation.specs.declared.Badge.TheVariants.{Clean, CheckFailed}
 use Rattle.adaptation.specs.declared.al2.Due.{Due}
 use Rattle.adaptation.specs.declared.al2.Numbers.{Numbers}
-use Rattle.adaptation.specs.declared.al2.Number.{Number}
-use Rattle.adaptation.specs.declared.al2.Number.TheVariants.{Numbered, Plain}
 use Rattle.adaptation.specs.declared.al2.Apart.{Apart}
-use Rattle.adaptation.specs.declared.al2.Apart.TheVariants as read
-use Rattle.adaptation.specs.declared.al2.Arrival.{Arrival}
-use Rattle.adaptation.specs.declared.al2.Arrival.TheVariants.{Taken, Misdelivered}
-use Rattle.adaptation.specs.declared.al2.Received.{Received}
-use Rattle.adaptation.specs.declared.al2.Received.TheVariants.{Unit, Discarded, Refused}
+use Rattle.adaptation.specs.declared.al2.Taken.{Taken}
+use Rattle.adaptation.specs.declared.al2.Delivery.{Delivery}
 
 -- ---- a channel's numbers
 
 abbrev pub first_numbers : Numbers
 first_numbers = record { sent = 0; due = record { expected = 0; failed = 0 } }
 
-abbrev pub number_as : Bool → Numbers → Number
-number_as s m = cond s (Numbered m.sent) Plain
+abbrev pub number_as : Bool → Numbers → Option ℕ
+number_as s m = cond s (Some m.sent) None
 
 abbrev pub risen : Bool → Numbers → Numbers
 risen s m = cond s (record { sent = (m.sent + 1) % 256; due = m.due }) m
 
 -- ---- sending
 
-abbrev pub field : Number → List ℕ
-field (Numbered n) = n ∷ []
-field Plain = []
+abbrev pub field : Option ℕ → List ℕ
+field (Some n) = n ∷ []
+field None = []
 
-abbrev pub whole : Number → List ℕ → List ℕ
+abbrev pub whole : Option ℕ → List ℕ → List ℕ
 whole n u = (field n ++ u) ++ check_of eight (field n ++ u)
 
-abbrev pub is_sendable : Number → List ℕ → Bool
+abbrev pub is_sendable : Option ℕ → List ℕ → Bool
 is_sendable n u = leb 1 (length u) && leb (length (whole n u)) longest_unit
 
-abbrev pub send_tests : Number → List ℕ → List ℕ → List Test
+abbrev pub send_tests : Option ℕ → List ℕ → List ℕ → List Test
 send_tests n u out = 2 when not (is_sendable n u) ∷ 3 when ltb (length out) (length (whole n u)) ∷ []
 
-unfoldable pub sent : Number → List ℕ → List ℕ → Ended ℕ (List ℕ)
+unfoldable pub sent : Option ℕ → List ℕ → List ℕ → Ended ℕ (List ℕ)
 sent n u out = checked (refusing out) (send_tests n u out) (leaving (length (whole n u)) (written out 0 (whole n u)))
 
 -- ---- reading
@@ -89,14 +86,14 @@ field_length s = cond s 1 0
 abbrev pub is_whole : Bool → List ℕ → Bool
 is_whole s w = leb (field_length s + 1 + 1) (length w) && leb (length w) longest_unit
 
-abbrev pub number_of : Bool → List ℕ → Number
-number_of s w = cond s (Numbered (get_or w 0 0)) Plain
+abbrev pub number_of : Bool → List ℕ → Option ℕ
+number_of s w = cond s (Some (get_or w 0 0)) None
 
 abbrev pub unit_of : Bool → List ℕ → List ℕ
 unit_of s w = take (length w - 1 - field_length s) (drop (field_length s) w)
 
 pub record Parts : Type 0 where
-  pub number : Number
+  pub number : Option ℕ
   pub agreeing : Bool
   pub unit : List ℕ
 
@@ -126,15 +123,15 @@ accepting n = record { expected = (n + 1) % 256; failed = 0 }
 abbrev pub counting : Due → Due
 counting e = record { expected = e.expected; failed = min (e.failed + 1) most_failed }
 
-abbrev pub failing : Number → Due → Due
-failing (Numbered n) e = counting e
-failing Plain e = e
+abbrev pub failing : Option ℕ → Due → Due
+failing (Some n) e = counting e
+failing None e = e
 
 -- a difference of natural numbers is never below 0
-unfoldable pub arrival : ℕ → Due → Arrival
+unfoldable pub arrival : ℕ → Due → Option Taken
 arrival n e =
     let d = distance n e.expected in
-    cond (leb d most_past) (Taken (d - e.failed) (accepting n)) Misdelivered
+    cond (leb d most_past) (Some (record { missing = d - e.failed; due = accepting n })) None
 
 pub data Receipt : Type 0 where
   handed_up : Handed → (missing : ℕ) → Due → Receipt
@@ -144,14 +141,14 @@ abbrev pub due_by : Receipt → Due
 due_by (handed_up u missing e) = e
 due_by (discarded missing e) = e
 
-abbrev pub delivered : Arrival → List ℕ → Due → Receipt
-delivered (Taken k x) u e = handed_up (handed Clean u) k x
-delivered Misdelivered u e = discarded 0 e
+abbrev pub delivered : Option Taken → List ℕ → Due → Receipt
+delivered (Some t) u e = handed_up (handed Clean u) t.missing t.due
+delivered None u e = discarded 0 e
 
-abbrev pub settled : Number → Bool → List ℕ → Due → Receipt
+abbrev pub settled : Option ℕ → Bool → List ℕ → Due → Receipt
 settled n false u e = handed_up (handed CheckFailed u) 0 (failing n e)
-settled (Numbered n) true u e = delivered (arrival n e) u e
-settled Plain true u e = handed_up (handed Clean u) 0 e
+settled (Some n) true u e = delivered (arrival n e) u e
+settled None true u e = handed_up (handed Clean u) 0 e
 
 abbrev pub receipt_of : Bool → List ℕ → Due → Receipt
 receipt_of s w e = settled (number_of s w) (agrees eight w) (unit_of s w) e
@@ -161,12 +158,15 @@ received s w e = checked refused (read_tests s w) (told (receipt_of s w e))
 
 -- ---- what each answer says
 
-abbrev pub apart_says : Apart → List ℕ → Told Parts
-apart_says (read.Parts n t) u = told (record { number = n; agreeing = t; unit = u })
-apart_says (read.Refused k) u = refused k
+abbrev pub apart_says : Result Apart Refusal → List ℕ → Told Parts
+apart_says (Ok a) u = told (record { number = a.number; agreeing = a.agrees; unit = u })
+apart_says (Err r) u = refused (number r)
 
 -- u is the unit, and e what was due
-abbrev pub received_says : Received → List ℕ → Due → Told Receipt
-received_says (Unit b k x) u e = told (handed_up (handed b u) k x)
-received_says Discarded u e = told (discarded 0 e)
-received_says (Refused k) u e = refused k
+abbrev pub receipt_says : Option Delivery → List ℕ → Due → Receipt
+receipt_says (Some d) u e = handed_up (handed d.badge u) d.missing d.due
+receipt_says None u e = discarded 0 e
+
+abbrev pub received_says : Result (Option Delivery) Refusal → List ℕ → Due → Told Receipt
+received_says (Ok d) u e = told (receipt_says d u e)
+received_says (Err r) u e = refused (number r)

@@ -40,24 +40,21 @@
 --
 -- Assumes nothing.
 use Rattle.std.specs.Prelude.{◌≡◌, ◌⊎◌, Bool, true, false, cond, ◌&&◌, List, [], ◌∷◌, ℕ, ◌+◌, ◌-◌, ◌%◌, ◌≤◌, ◌<◌, length, take, drop}
-use Rattle.calls.specs.Refusal.{Told, refused, told, leaving}
+use Rattle.std.specs.Prelude.{Option, Some, None, Ok, Err}
+use Rattle.calls.specs.Refusal.{Told, refused, told, leaving, number}
+use Rattle.calls.specs.declared.Refusal.{Refusal}
 use Rattle.checks.specs.Check.{agrees, eight}
 use Rattle.adaptation.specs.Handed.{longest_unit, is_unit, badge_number, Handed}
 use Rattle.adaptation.specs.AL2.{first_numbers, number_as, risen, whole, is_sendable, sent, is_whole, unit_of, Parts, apart}
 use Rattle.adaptation.specs.AL2.{arrival, Receipt, handed_up, discarded, due_by, receipt_of, received, apart_says, received_says}
 use Rattle.adaptation.specs.declared.Badge.{Badge}
 use Rattle.adaptation.specs.declared.Badge.TheVariants.{Clean, CheckFailed}
-use Rattle.adaptation.specs.declared.al2.Apart.TheVariants as reading
-use Rattle.adaptation.specs.declared.al2.Arrival.TheVariants.{Taken, Misdelivered}
-use Rattle.adaptation.specs.declared.al2.Received.TheVariants as answered
 use Rattle.adaptation.specs.declared.al2.Due.{Due}
 use Rattle.adaptation.specs.declared.al2.Numbers.{Numbers}
-use Rattle.adaptation.specs.declared.al2.Number.{Number}
-use Rattle.adaptation.specs.declared.al2.Number.TheVariants.{Numbered, Plain}
 
-abbrev pub is_numbered : Number → Bool
-is_numbered (Numbered n) = true
-is_numbered Plain = false
+abbrev pub is_numbered : Option ℕ → Bool
+is_numbered (Some n) = true
+is_numbered None = false
 
 abbrev pub as_sent : List ℕ → Handed
 as_sent u = record { badge = 0; changed = 0; unit = u }
@@ -69,7 +66,7 @@ as_failed u = record { badge = 3; changed = 0; unit = u }
 
 pub record NumbersRise : Type 0 where
   pub first : first_numbers ≡ record { sent = 0; due = record { expected = 0; failed = 0 } }
-  pub number : (m : Numbers) → (number_as true m ≡ Numbered m.sent) × (number_as false m ≡ Plain)
+  pub number : (m : Numbers) → (number_as true m ≡ Some m.sent) × (number_as false m ≡ None)
   pub rises : (m : Numbers) → risen true m ≡ record { sent = (m.sent + 1) % 256; due = m.due }
   pub stays : (m : Numbers) → risen false m ≡ m
 
@@ -88,12 +85,12 @@ pub record RangeKept : Type 0 where
 
 abbrev pub SentIsWhole : Type 0
 SentIsWhole =
-    (n : Number) (u out after : List ℕ) (m : ℕ) → sent n u out ≡ leaving m after
+    (n : Option ℕ) (u out after : List ℕ) (m : ℕ) → sent n u out ≡ leaving m after
     → (is_sendable n u ≡ true) × (m ≡ length (whole n u)) × (take m after ≡ whole n u) × (drop m after ≡ drop m out)
 
 abbrev pub ReadBack : Type 0
 ReadBack =
-    (n : Number) (u : List ℕ) → is_sendable n u ≡ true
+    (n : Option ℕ) (u : List ℕ) → is_sendable n u ≡ true
     → apart (is_numbered n) (whole n u) ≡ told (record { number = n; agreeing = true; unit = u })
 
 abbrev pub ReadIsWhole : Type 0
@@ -104,7 +101,7 @@ ReadIsWhole =
 abbrev pub ReadParts : Type 0
 ReadParts =
     (s : Bool) (n : ℕ) (w : List ℕ) (p : Parts) → apart s (n ∷ w) ≡ told p
-    → (p.number ≡ cond s (Numbered n) Plain) × (p.agreeing ≡ agrees eight (n ∷ w))
+    → (p.number ≡ cond s (Some n) None) × (p.agreeing ≡ agrees eight (n ∷ w))
 
 -- ---- receiving what was sent
 
@@ -121,25 +118,25 @@ Counted false c k = k ≡ c
 abbrev pub ArrivalIs : Type 0
 ArrivalIs =
     (e : Due) (d n k : ℕ) → Past e.expected d n → Less d e.failed k
-    → (d ≤ 127 → arrival n e ≡ Taken k (record { expected = (n + 1) % 256; failed = 0 })) × (128 ≤ d → arrival n e ≡ Misdelivered)
+    → (d ≤ 127 → arrival n e ≡ Some (record { missing = k; due = record { expected = (n + 1) % 256; failed = 0 } })) × (128 ≤ d → arrival n e ≡ None)
 
 abbrev pub MissingTold : Type 0
 MissingTold =
-    (u : List ℕ) (e : Due) (d n k : ℕ) → Past e.expected d n → d ≤ 127 → Less d e.failed k → is_sendable (Numbered n) u ≡ true
-    → received true (whole (Numbered n) u) e ≡ told (handed_up (as_sent u) k (record { expected = (n + 1) % 256; failed = 0 }))
+    (u : List ℕ) (e : Due) (d n k : ℕ) → Past e.expected d n → d ≤ 127 → Less d e.failed k → is_sendable (Some n) u ≡ true
+    → received true (whole (Some n) u) e ≡ told (handed_up (as_sent u) k (record { expected = (n + 1) % 256; failed = 0 }))
 
 abbrev pub NextInOrder : Type 0
 NextInOrder =
-    (u : List ℕ) (e : Due) → e.expected < 256 → is_sendable (Numbered e.expected) u ≡ true
-    → received true (whole (Numbered e.expected) u) e ≡ told (handed_up (as_sent u) 0 (record { expected = (e.expected + 1) % 256; failed = 0 }))
+    (u : List ℕ) (e : Due) → e.expected < 256 → is_sendable (Some e.expected) u ≡ true
+    → received true (whole (Some e.expected) u) e ≡ told (handed_up (as_sent u) 0 (record { expected = (e.expected + 1) % 256; failed = 0 }))
 
 abbrev pub LateDiscarded : Type 0
 LateDiscarded =
-    (u : List ℕ) (e : Due) (d n : ℕ) → Past e.expected d n → 128 ≤ d → is_sendable (Numbered n) u ≡ true
-    → received true (whole (Numbered n) u) e ≡ told (discarded 0 e)
+    (u : List ℕ) (e : Due) (d n : ℕ) → Past e.expected d n → 128 ≤ d → is_sendable (Some n) u ≡ true
+    → received true (whole (Some n) u) e ≡ told (discarded 0 e)
 
 abbrev pub PlainReceived : Type 0
-PlainReceived = (u : List ℕ) (e : Due) → is_sendable Plain u ≡ true → received false (whole Plain u) e ≡ told (handed_up (as_sent u) 0 e)
+PlainReceived = (u : List ℕ) (e : Due) → is_sendable None u ≡ true → received false (whole None u) e ≡ told (handed_up (as_sent u) 0 e)
 
 abbrev pub FailedCounted : Type 0
 FailedCounted =
@@ -154,19 +151,19 @@ DueIs = (h : Handed) (k : ℕ) (e : Due) → (due_by (handed_up h k e) ≡ e) ×
 
 -- u is the unit's part of the whole, and e what was due
 pub record AnswersSay (u : List ℕ) (e : Due) : Type 0 where
-  pub unit : (b : Badge) (k : ℕ) (x : Due) → received_says (answered.Unit b k x) u e ≡ told (handed_up (record { badge = badge_number b; changed = 0; unit = u }) k x)
-  pub clean : (k : ℕ) (x : Due) → received_says (answered.Unit Clean k x) u e ≡ told (handed_up (as_sent u) k x)
-  pub failed : (k : ℕ) (x : Due) → received_says (answered.Unit CheckFailed k x) u e ≡ told (handed_up (as_failed u) k x)
-  pub late : received_says answered.Discarded u e ≡ told (discarded 0 e)
-  pub unheard : (k : ℕ) → received_says (answered.Refused k) u e ≡ refused k
-  pub parts : (n : Number) (t : Bool) → apart_says (reading.Parts n t) u ≡ told (record { number = n; agreeing = t; unit = u })
-  pub unread : (k : ℕ) → apart_says (reading.Refused k) u ≡ refused k
+  pub unit : (b : Badge) (k : ℕ) (x : Due) → received_says (Ok (Some (record { badge = b; missing = k; due = x }))) u e ≡ told (handed_up (record { badge = badge_number b; changed = 0; unit = u }) k x)
+  pub clean : (k : ℕ) (x : Due) → received_says (Ok (Some (record { badge = Clean; missing = k; due = x }))) u e ≡ told (handed_up (as_sent u) k x)
+  pub failed : (k : ℕ) (x : Due) → received_says (Ok (Some (record { badge = CheckFailed; missing = k; due = x }))) u e ≡ told (handed_up (as_failed u) k x)
+  pub late : received_says (Ok None) u e ≡ told (discarded 0 e)
+  pub unheard : (r : Refusal) → received_says (Err r) u e ≡ refused (number r)
+  pub parts : (n : Option ℕ) (t : Bool) → apart_says (Ok (record { number = n; agrees = t })) u ≡ told (record { number = n; agreeing = t; unit = u })
+  pub unread : (r : Refusal) → apart_says (Err r) u ≡ refused (number r)
 
 -- ---- one after another
 
 abbrev pub wholes_from : ℕ → List (List ℕ) → List (List ℕ)
 wholes_from i [] = []
-wholes_from i (u ∷ l) = whole (Numbered i) u ∷ wholes_from ((i + 1) % 256) l
+wholes_from i (u ∷ l) = whole (Some i) u ∷ wholes_from ((i + 1) % 256) l
 
 abbrev pub number_after : ℕ → List (List ℕ) → ℕ
 number_after i [] = i

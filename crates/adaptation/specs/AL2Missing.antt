@@ -12,13 +12,12 @@
 --   MissingIsLost     what is shown of units that are sent from the expected number on, where no unit failed before, is that
 --
 -- Assumes nothing.
-use Rattle.std.specs.Prelude.{◌≡◌, true, false, List, [], ◌∷◌, ℕ, ◌+◌, ◌-◌, ◌%◌, ◌≤◌, ◌<◌}
+use Rattle.std.specs.Prelude.{◌≡◌, true, false, List, [], ◌∷◌, ℕ, ◌+◌, ◌-◌, ◌%◌, ◌≤◌, ◌<◌, Some}
 use Rattle.calls.specs.Refusal.{Told, refused, told}
 use Rattle.checks.specs.Check.{agrees, eight}
 use Rattle.adaptation.specs.Handed.{longest_unit, is_unit, Handed}
 use Rattle.adaptation.specs.AL2.{whole, is_whole, unit_of, Receipt, handed_up, discarded}
 use Rattle.adaptation.specs.AL2Claims.{as_sent, as_failed, receipts}
-use Rattle.adaptation.specs.declared.al2.Number.TheVariants.{Numbered}
 
 pub data Passage : Type 0 where
   intact : (u : List ℕ) → Passage
@@ -27,7 +26,7 @@ pub data Passage : Type 0 where
 
 abbrev pub arriving : ℕ → List Passage → List (List ℕ)
 arriving i [] = []
-arriving i (intact u ∷ l) = whole (Numbered i) u ∷ arriving ((i + 1) % 256) l
+arriving i (intact u ∷ l) = whole (Some i) u ∷ arriving ((i + 1) % 256) l
 arriving i (damaged w ∷ l) = w ∷ arriving ((i + 1) % 256) l
 arriving i (lost ∷ l) = arriving ((i + 1) % 256) l
 

@@ -25,7 +25,7 @@
 --   RefusalLeaves         a refusal leaves every lent octet and the lent list as they came
 --
 -- Assumes nothing.
-use Rattle.std.specs.Prelude.{◌≡◌, ◌≢◌, ◌↔◌, Bool, true, false, cond, List, ℕ, zero, suc, ◌-◌, ◌*◌, ◌≤◌, length, take}
+use Rattle.std.specs.Prelude.{◌≡◌, ◌≢◌, ◌↔◌, Bool, true, false, cond, List, ℕ, zero, suc, ◌-◌, ◌*◌, ◌≤◌, length, take, Result, Ok, Err}
 use Rattle.codeword.specs.Changed.{changed_places}
 use Rattle.codeword.specs.Claims.{RepairShows}
 use Rattle.codeword.specs.CodeWord.{Octets, CodeWord, distance, Within}
@@ -34,13 +34,10 @@ use Rattle.checks.specs.Check.{Kind, none, agrees}
 use Rattle.checks.specs.Width.{kind_at}
 use Rattle.adaptation.specs.Sending.{Sends}
 use Rattle.adaptation.specs.Receiving.{is_bare, handed_unit, Receives}
-use Rattle.calls.specs.declared.Length.{Length}
-use Rattle.calls.specs.declared.Length.TheVariants as sends
+use Rattle.calls.specs.declared.Refusal.{Refusal}
 use Rattle.adaptation.specs.declared.Badge.{Badge}
 use Rattle.adaptation.specs.declared.Badge.TheVariants.{Clean, Corrected, OutOfReach, CheckFailed, Unchecked}
 use Rattle.adaptation.specs.declared.al1m.Judgement.{Judgement}
-use Rattle.adaptation.specs.declared.al1m.Received.{Received}
-use Rattle.adaptation.specs.declared.al1m.Received.TheVariants.{Unit, Refused}
 
 abbrev pub is_faulty : Badge → Bool
 is_faulty Clean = false
@@ -55,9 +52,9 @@ badge_of_sent κ e (suc k) = Corrected
 
 abbrev pub SentIsHandedUp : Type 0
 SentIsHandedUp =
-    (b e m : ℕ) (u room whole w : List ℕ) (before after : RepairLent) (r : Received) → Sends b e u room (sends.Octets m) whole
+    (b e m : ℕ) (u room whole w : List ℕ) (before after : RepairLent) (r : Result Judgement Refusal) → Sends b e u room (Ok m) whole
     → length w ≡ m → distance w (take m whole) ≤ e → m ≤ length before.repair → e ≤ length before.places → Receives b e w before r after
-    → (r ≡ Unit (record { badge = badge_of_sent (kind_at b) e (distance w (take m whole)); changed = distance w (take m whole); length = length u }))
+    → (r ≡ Ok (record { badge = badge_of_sent (kind_at b) e (distance w (take m whole)); changed = distance w (take m whole); length = length u }))
     × (handed_unit (badge_of_sent (kind_at b) e (distance w (take m whole))) w after.repair (length u) ≡ u)
     × (take (distance w (take m whole)) after.places ≡ changed_places w (take m whole))
 
@@ -66,7 +63,7 @@ is_agreeing b e c = agrees (kind_at b) (take (length c - 2 * e) c)
 
 abbrev pub FoundIsShown : Type 0
 FoundIsShown =
-    (b e : ℕ) (w : List ℕ) (before after : RepairLent) (j : Judgement) → Receives b e w before (Unit j) after
+    (b e : ℕ) (w : List ℕ) (before after : RepairLent) (j : Judgement) → Receives b e w before (Ok j) after
     → (c : List ℕ) → Within e w c → RepairShows w c before j.changed after
 
 pub record Faultless (b e : ℕ) (w : List ℕ) (after : RepairLent) (c : List ℕ) (j : Judgement) : Type 0 where
@@ -78,7 +75,7 @@ pub record Faultless (b e : ℕ) (w : List ℕ) (after : RepairLent) (c : List �
 
 abbrev pub FaultlessIsCodeWord : Type 0
 FaultlessIsCodeWord =
-    (b e : ℕ) (w : List ℕ) (before after : RepairLent) (j : Judgement) → Receives b e w before (Unit j) after → is_faulty j.badge ≡ false
+    (b e : ℕ) (w : List ℕ) (before after : RepairLent) (j : Judgement) → Receives b e w before (Ok j) after → is_faulty j.badge ≡ false
     → (c : List ℕ) × Faultless b e w after c j
 
 -- ---- each badge
@@ -91,7 +88,7 @@ Earns b e w CheckFailed = (c : List ℕ) × Within e w c × (is_agreeing b e c �
 Earns b e w Unchecked = Octets w × (is_bare (kind_at b) e ≡ true)
 
 abbrev pub Exactly : Badge → Type 0
-Exactly x = (b e : ℕ) (w : List ℕ) (before after : RepairLent) (j : Judgement) → Receives b e w before (Unit j) after → j.badge ≡ x ↔ Earns b e w x
+Exactly x = (b e : ℕ) (w : List ℕ) (before after : RepairLent) (j : Judgement) → Receives b e w before (Ok j) after → j.badge ≡ x ↔ Earns b e w x
 
 abbrev pub CleanExactly : Type 0
 CleanExactly = Exactly Clean
@@ -110,7 +107,7 @@ UncheckedExactly = Exactly Unchecked
 
 abbrev pub OutOfReachLeaves : Type 0
 OutOfReachLeaves =
-    (b e : ℕ) (w : List ℕ) (before after : RepairLent) (j : Judgement) → Receives b e w before (Unit j) after
+    (b e : ℕ) (w : List ℕ) (before after : RepairLent) (j : Judgement) → Receives b e w before (Ok j) after
     → j.badge ≡ OutOfReach → (j.changed ≡ 0) × (after ≡ before)
 
 -- ---- the rest
@@ -120,13 +117,13 @@ NoCheckAgrees = (w : List ℕ) → agrees none w ≡ true
 
 abbrev pub EncodedUnique : Type 0
 EncodedUnique =
-    (b e : ℕ) (u before after left : List ℕ) (r q : Length) → Sends b e u before r after → Sends b e u before q left → (r ≡ q) × (after ≡ left)
+    (b e : ℕ) (u before after left : List ℕ) (r q : Result ℕ Refusal) → Sends b e u before r after → Sends b e u before q left → (r ≡ q) × (after ≡ left)
 
 abbrev pub ReceivedUnique : Type 0
 ReceivedUnique =
-    (b e : ℕ) (w : List ℕ) (before after left : RepairLent) (r q : Received) → Receives b e w before r after → Receives b e w before q left → (r ≡ q) × (after ≡ left)
+    (b e : ℕ) (w : List ℕ) (before after left : RepairLent) (r q : Result Judgement Refusal) → Receives b e w before r after → Receives b e w before q left → (r ≡ q) × (after ≡ left)
 
 abbrev pub RefusalLeaves : Type 0
 RefusalLeaves =
-    ((b e k : ℕ) (u before after : List ℕ) → Sends b e u before (sends.Refused k) after → after ≡ before)
-    × ((b e k : ℕ) (w : List ℕ) (before after : RepairLent) → Receives b e w before (Refused k) after → after ≡ before)
+    ((b e : ℕ) (k : Refusal) (u before after : List ℕ) → Sends b e u before (Err k) after → after ≡ before)
+    × ((b e : ℕ) (k : Refusal) (w : List ℕ) (before after : RepairLent) → Receives b e w before (Err k) after → after ≡ before)

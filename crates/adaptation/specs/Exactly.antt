@@ -13,11 +13,10 @@
 --   AdaptationExactly        all of it; proofs/Applying.antt and proofs/Assembled.antt prove it
 --
 -- Assumes nothing.
-use Rattle.std.specs.Prelude.{◌≡◌, ◌↔◌, ◌⊎◌, Bool, true, false, List, [], ◌∷◌, ◌++◌, ℕ, ◌+◌, ◌≤◌, ◌<◌, length, take, drop}
+use Rattle.std.specs.Prelude.{◌≡◌, ◌↔◌, ◌⊎◌, Bool, true, false, List, [], ◌∷◌, ◌++◌, ℕ, ◌+◌, ◌≤◌, ◌<◌, length, take, drop, Option, Some, None, Ok}
 use Rattle.codeword.specs.CodeWord.{CodeWord}
 use Rattle.codeword.specs.Repair.{RepairLent}
 use Rattle.calls.specs.Refusal.{told, Gives}
-use Rattle.calls.specs.declared.Length.TheVariants.{Octets}
 use Rattle.checks.specs.Check.{none, eight, sixteen, check_of}
 use Rattle.checks.specs.Width.{kind_at}
 use Rattle.checks.specs.Exactly.{ChecksExactly}
@@ -28,8 +27,6 @@ use Rattle.adaptation.specs.AL1.{pass_tests, passed}
 use Rattle.adaptation.specs.AL2 as al2
 use Rattle.adaptation.specs.AL2Claims.{is_numbered, Counted}
 use Rattle.adaptation.specs.declared.al2.Due.{Due}
-use Rattle.adaptation.specs.declared.al2.Number.{Number}
-use Rattle.adaptation.specs.declared.al2.Number.TheVariants.{Numbered, Plain}
 
 -- "AL1M units"
 pub record OfAL1M (t n b e k : ℕ) (lent : RepairLent) : Type 0 where
@@ -48,7 +45,7 @@ pub record OfAL1M (t n b e k : ℕ) (lent : RepairLent) : Type 0 where
       ↔ ((al1m.is_setting b e ≡ true) × ((is_word n b e ≡ true) × ((length lent.repair < n) ⊎ (length lent.places < e))))
 
 -- "AL1 and AL2", without the channel that AL2's calls name
-pub record OfUnits (n : Number) (s : Bool) (u out : List ℕ) : Type 0 where
+pub record OfUnits (n : Option ℕ) (s : Bool) (u out : List ℕ) : Type 0 where
   pub pass2 : Gives (pass_tests u) 2 ↔ ((1 ≤ length u) × (length u ≤ 1024) → ⊥)
   pub send2 : Gives (al2.send_tests n u out) 2 ↔ (al2.is_sendable n u ≡ false)
   pub send3 : Gives (al2.send_tests n u out) 3 ↔ ((al2.is_sendable n u ≡ true) × (length out < length (al2.whole n u)))
@@ -65,14 +62,14 @@ pub record SentLeaves (b e : ℕ) (u before : List ℕ) (m : ℕ) (after : List 
   pub past : drop m after ≡ drop m before
 
 pub record WholeIs (n : ℕ) (u : List ℕ) : Type 0 where
-  pub numbered : al2.whole (Numbered n) u ≡ (n ∷ u) ++ check_of eight (n ∷ u)
-  pub unnumbered : al2.whole Plain u ≡ u ++ check_of eight u
+  pub numbered : al2.whole (Some n) u ≡ (n ∷ u) ++ check_of eight (n ∷ u)
+  pub unnumbered : al2.whole None u ≡ u ++ check_of eight u
 
 pub record AdaptationExactly : Type 0 where
   pub al1m : (t n b e k : ℕ) (lent : RepairLent) → OfAL1M t n b e k lent
   -- a repair buffer of 255 octets and a list of 127 places are never too small
   pub enough : (n b e : ℕ) (lent : RepairLent) → 255 ≤ length lent.repair → 127 ≤ length lent.places → Gives (receive_tests n b e lent) 3 → ⊥
-  pub units : (n : Number) (s : Bool) (u out : List ℕ) → OfUnits n s u out
+  pub units : (n : Option ℕ) (s : Bool) (u out : List ℕ) → OfUnits n s u out
   -- AL1 passes a unit of 1 to 1,024 octets as it is, badge 4
   pub passes : (u : List ℕ) → 1 ≤ length u → length u ≤ 1024 → passed u ≡ told (record { badge = 4; changed = 0; unit = u })
   pub whole : (n : ℕ) (u : List ℕ) → WholeIs n u
@@ -83,8 +80,8 @@ pub record AdaptationExactly : Type 0 where
   -- "if it disagrees, the unit is handed up with badge 3 and the expected number stays": the unit u, whole, behind a number or none and
   -- before an octet c that is not their check; none of its octets is changed, and no unit is missing. With a number it is counted, without
   -- one it is not (document 02, ticket 5)
-  pub failed : (n : Number) (u : List ℕ) (c k : ℕ) (e : Due) → 1 ≤ length u → length (al2.field n ++ u) + 1 ≤ 1024
+  pub failed : (n : Option ℕ) (u : List ℕ) (c k : ℕ) (e : Due) → 1 ≤ length u → length (al2.field n ++ u) + 1 ≤ 1024
       → (c ∷ [] ≡ check_of eight (al2.field n ++ u) → ⊥) → Counted (is_numbered n) e.failed k
       → al2.received (is_numbered n) ((al2.field n ++ u) ++ c ∷ []) e
       ≡ told (al2.handed_up (record { badge = 3; changed = 0; unit = u }) 0 (record { expected = e.expected; failed = k }))
-  pub sends : (b e m : ℕ) (u before after : List ℕ) → Sends b e u before (Octets m) after → SentLeaves b e u before m after
+  pub sends : (b e m : ℕ) (u before after : List ℕ) → Sends b e u before (Ok m) after → SentLeaves b e u before m after

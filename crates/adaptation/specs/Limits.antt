@@ -4,13 +4,12 @@
 --   AdaptationLimits     the numbers; proofs/Applying.antt proves it
 --
 -- Assumes nothing.
-use Rattle.std.specs.Prelude.{◌≡◌, ◌↔◌, ◌⊎◌, true, false, List, ℕ, ◌+◌, ◌*◌, ◌≤◌, length}
+use Rattle.std.specs.Prelude.{◌≡◌, ◌↔◌, ◌⊎◌, true, false, List, ℕ, ◌+◌, ◌*◌, ◌≤◌, length, Some, None}
 use Rattle.calls.specs.Refusal.{told, refusal}
 use Rattle.adaptation.specs.AL1M as al1m
 use Rattle.adaptation.specs.Receiving.{is_word}
 use Rattle.adaptation.specs.AL1.{pass_tests}
 use Rattle.adaptation.specs.AL2 as al2
-use Rattle.adaptation.specs.declared.al2.Number.TheVariants.{Numbered, Plain}
 
 pub record AdaptationLimits : Type 0 where
   -- refusal 1: the check's width is not 0, 8 or 16, or e is over 127
@@ -27,8 +26,8 @@ pub record AdaptationLimits : Type 0 where
   pub sixteen_word : (n e : ℕ) → is_word n 16 e ≡ true ↔ ((n ≤ 255) × (1 + 2 + 2 * e ≤ n))
   -- "AL1 and AL2": units have at least 1 octet, the whole at most 1,024
   pub passed : (u : List ℕ) → refusal (pass_tests u) ≡ told tt ↔ ((1 ≤ length u) × (length u ≤ 1024))
-  pub numbered : (n : ℕ) (u : List ℕ) → al2.is_sendable (Numbered n) u ≡ true ↔ ((1 ≤ length u) × (1 + length u + 1 ≤ 1024))
-  pub unnumbered : (u : List ℕ) → al2.is_sendable Plain u ≡ true ↔ ((1 ≤ length u) × (length u + 1 ≤ 1024))
+  pub numbered : (n : ℕ) (u : List ℕ) → al2.is_sendable (Some n) u ≡ true ↔ ((1 ≤ length u) × (1 + length u + 1 ≤ 1024))
+  pub unnumbered : (u : List ℕ) → al2.is_sendable None u ≡ true ↔ ((1 ≤ length u) × (length u + 1 ≤ 1024))
   -- .. received: a number if there is one, a unit and a check
   pub numbered_whole : (w : List ℕ) → al2.is_whole true w ≡ true ↔ ((1 + 1 + 1 ≤ length w) × (length w ≤ 1024))
   pub unnumbered_whole : (w : List ℕ) → al2.is_whole false w ≡ true ↔ ((1 + 1 ≤ length w) × (length w ≤ 1024))

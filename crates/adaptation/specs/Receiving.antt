@@ -18,21 +18,18 @@
 --                                    lent list, both unchanged where none was found; or it is refused, and nothing changes
 --
 -- Assumes nothing.
-use Rattle.std.specs.Prelude.{◌≡◌, Bool, true, false, cond, not, ◌&&◌, List, ℕ, zero, suc, ◌+◌, ◌-◌, ◌*◌, eqb, leb, length, take}
+use Rattle.std.specs.Prelude.{◌≡◌, Bool, true, false, cond, not, ◌&&◌, Option, Some, None, Result, Ok, Err, List, ℕ, zero, suc, ◌+◌, ◌-◌, ◌*◌, eqb, leb, length, take}
 use Rattle.codeword.specs.CodeWord.{longest_word}
 use Rattle.codeword.specs.Repair.{Repaired}
 pub use Rattle.codeword.specs.Repair.{RepairLent, lending, has_repair_room}
-use Rattle.codeword.specs.declared.Reach.{Reach}
-use Rattle.codeword.specs.declared.Reach.TheVariants as reach
-use Rattle.calls.specs.Refusal.{told, Test, refusal, RefusedIs}
+use Rattle.calls.specs.Refusal.{told, Test, refusal, RefusedIs, number}
+use Rattle.calls.specs.declared.Refusal.{Refusal}
 use Rattle.checks.specs.Check.{Kind, agrees}
 use Rattle.checks.specs.Width.{kind_at}
 use Rattle.adaptation.specs.AL1M.{al1m_tests, is_setting}
 use Rattle.adaptation.specs.declared.Badge.{Badge}
 use Rattle.adaptation.specs.declared.Badge.TheVariants.{Clean, Corrected, OutOfReach, CheckFailed, Unchecked}
 use Rattle.adaptation.specs.declared.al1m.Judgement.{Judgement}
-use Rattle.adaptation.specs.declared.al1m.Received.{Received}
-use Rattle.adaptation.specs.declared.al1m.Received.TheVariants.{Unit, Refused}
 
 unfoldable pub is_word : ℕ → ℕ → ℕ → Bool
 is_word n b e = leb n longest_word && leb (1 + (kind_at b).octets + 2 * e) n
@@ -43,15 +40,15 @@ receive_tests n b e lent = al1m_tests (is_setting b e) (is_word n b e) (not (has
 abbrev pub is_bare : Kind → ℕ → Bool
 is_bare κ e = eqb e 0 && eqb κ.octets 0
 
-abbrev pub badge_of : Bool → Reach → Bool → Badge
-badge_of x reach.OutOfReach a = OutOfReach
-badge_of x (reach.Found k) false = CheckFailed
-badge_of x (reach.Found zero) true = cond x Unchecked Clean
-badge_of x (reach.Found (suc k)) true = Corrected
+abbrev pub badge_of : Bool → Option ℕ → Bool → Badge
+badge_of x None a = OutOfReach
+badge_of x (Some k) false = CheckFailed
+badge_of x (Some zero) true = cond x Unchecked Clean
+badge_of x (Some (suc k)) true = Corrected
 
-abbrev pub changed_of : Reach → ℕ
-changed_of (reach.Found k) = k
-changed_of reach.OutOfReach = 0
+abbrev pub changed_of : Option ℕ → ℕ
+changed_of (Some k) = k
+changed_of None = 0
 
 abbrev pub unit_length : Kind → ℕ → ℕ → ℕ
 unit_length κ e n = n - 2 * e - κ.octets
@@ -67,12 +64,12 @@ abbrev pub handed_unit : Badge → List ℕ → List ℕ → ℕ → List ℕ
 handed_unit x w after t = take t (cond (is_corrected x) after w)
 
 pub record HandedIs (κ : Kind) (e : ℕ) (w : List ℕ) (before : RepairLent) (j : Judgement) (after : RepairLent) : Type 0 where
-  pub reach : Reach
+  pub reach : Option ℕ
   pub repaired : Repaired e w before reach after
   pub badge_is : j.badge ≡ badge_of (is_bare κ e) reach (agrees κ (take (length w - 2 * e) after.repair))
   pub changed_is : j.changed ≡ changed_of reach
   pub length_is : j.length ≡ unit_length κ e (length w)
 
-abbrev pub Receives : ℕ → ℕ → List ℕ → RepairLent → Received → RepairLent → Type 0
-Receives b e w before (Unit j) after = (refusal (receive_tests (length w) b e before) ≡ told tt) × HandedIs (kind_at b) e w before j after
-Receives b e w before (Refused k) after = RefusedIs (receive_tests (length w) b e before) k before after
+abbrev pub Receives : ℕ → ℕ → List ℕ → RepairLent → Result Judgement Refusal → RepairLent → Type 0
+Receives b e w before (Ok j) after = (refusal (receive_tests (length w) b e before) ≡ told tt) × HandedIs (kind_at b) e w before j after
+Receives b e w before (Err r) after = RefusedIs (receive_tests (length w) b e before) (number r) before after

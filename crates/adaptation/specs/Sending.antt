@@ -9,15 +9,14 @@
 --                                   front, and its length told; or it is refused, and nothing changes
 --
 -- Assumes nothing.
-use Rattle.std.specs.Prelude.{◌≡◌, List, ◌++◌, ℕ, ◌+◌, ◌*◌, ltb, length, take}
+use Rattle.std.specs.Prelude.{◌≡◌, List, ◌++◌, ℕ, ◌+◌, ◌*◌, ltb, length, take, Result, Ok, Err}
 use Rattle.octets.specs.Written.{written}
 use Rattle.codeword.specs.CodeWord.{CodeWord}
-use Rattle.calls.specs.Refusal.{told, Test, refusal, RefusedIs}
+use Rattle.calls.specs.Refusal.{told, Test, refusal, RefusedIs, number}
+use Rattle.calls.specs.declared.Refusal.{Refusal}
 use Rattle.checks.specs.Check.{Kind, check_of}
 use Rattle.checks.specs.Width.{kind_at}
 use Rattle.adaptation.specs.AL1M.{al1m_tests, is_setting, is_sendable, sent_octets}
-use Rattle.calls.specs.declared.Length.{Length}
-use Rattle.calls.specs.declared.Length.TheVariants.{Octets, Refused}
 
 abbrev pub message : Kind → List ℕ → List ℕ
 message κ u = u ++ check_of κ u
@@ -36,6 +35,6 @@ pub record SentIs (κ : Kind) (e : ℕ) (u before : List ℕ) (m : ℕ) (after :
   pub count : m ≡ length sent
   pub written_is : after ≡ written before 0 sent
 
-abbrev pub Sends : ℕ → ℕ → List ℕ → List ℕ → Length → List ℕ → Type 0
-Sends b e u before (Octets m) after = (refusal (encode_tests (length u) b e (length before)) ≡ told tt) × SentIs (kind_at b) e u before m after
-Sends b e u before (Refused k) after = RefusedIs (encode_tests (length u) b e (length before)) k before after
+abbrev pub Sends : ℕ → ℕ → List ℕ → List ℕ → Result ℕ Refusal → List ℕ → Type 0
+Sends b e u before (Ok m) after = (refusal (encode_tests (length u) b e (length before)) ≡ told tt) × SentIs (kind_at b) e u before m after
+Sends b e u before (Err r) after = RefusedIs (encode_tests (length u) b e (length before)) (number r) before after

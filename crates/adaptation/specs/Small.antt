@@ -6,7 +6,7 @@
 --   A9 lengths: unit 47, check 16, e = 2: 53; with e = 101: 251; with e = 104: refusal 2
 --
 -- Assumes nothing.
-use Rattle.std.specs.Prelude.{◌≡◌, refl, List, [], ◌∷◌, ℕ}
+use Rattle.std.specs.Prelude.{◌≡◌, refl, List, [], ◌∷◌, ℕ, Some, None}
 use Rattle.std.proofs.Common.{ap}
 use Rattle.calls.specs.Refusal.{refused, told}
 use Rattle.checks.specs.Check.{eight, sixteen}
@@ -14,11 +14,10 @@ use Rattle.checks.specs.Width.{width_of}
 use Rattle.checks.specs.Small as checks
 use Rattle.adaptation.specs.AL1M.{is_setting, is_sendable, sent_length}
 use Rattle.adaptation.specs.AL2.{whole}
-use Rattle.adaptation.specs.declared.al2.Number.TheVariants.{Numbered, Plain}
 
 pub small :
-    (whole (Numbered 0x10) (0x80 ∷ []) ≡ 0x10 ∷ 0x80 ∷ 0xF5 ∷ [])
-    × (whole Plain (0x10 ∷ 0x80 ∷ []) ≡ 0x10 ∷ 0x80 ∷ 0xF5 ∷ [])
+    (whole (Some 0x10) (0x80 ∷ []) ≡ 0x10 ∷ 0x80 ∷ 0xF5 ∷ [])
+    × (whole None (0x10 ∷ 0x80 ∷ []) ≡ 0x10 ∷ 0x80 ∷ 0xF5 ∷ [])
     × (sent_length 47 16 2 ≡ told 53)
     × (sent_length 47 16 101 ≡ told 251)
     × (sent_length 47 16 104 ≡ refused 2)

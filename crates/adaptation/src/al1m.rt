@@ -1,18 +1,17 @@
 // AL1M (003, Annex D): a unit with its check and the code's parity behind it.
-ghost use Rattle.std.specs.Prelude.{◌≡◌, ◌+◌, ◌*◌, ◌≤◌, ◌<◌, length};
+ghost use Rattle.std.specs.Prelude.{◌≡◌, Some, ◌+◌, ◌*◌, ◌≤◌, ◌<◌, length};
 ghost use Rattle.codeword.specs.CodeWord.{longest_word};
-ghost use Rattle.codeword.specs.declared.Reach.TheVariants.{Found};
-ghost use Rattle.calls.specs.Refusal.{length_says};
-ghost use Rattle.checks.specs.Check.{Kind};
+ghost use Rattle.calls.specs.Refusal.{says};
 ghost use Rattle.checks.specs.Width.{kind_of};
-ghost use Rattle.adaptation.specs.AL1M.{setting_of, sent_length};
+ghost use Rattle.adaptation.specs.AL1M.{sent_length};
 ghost use Rattle.adaptation.specs.Sending.{SentIs, Sends};
 ghost use Rattle.adaptation.specs.Receiving.{badge_of, is_bare, handed_unit, HandedIs, Receives};
 
 use crate::Badge;
-use calls::Length;
-use checks::{Asked, Width, seals};
-use codeword::{LONGEST_WORD, Reach};
+use crate::setting::Setting;
+use calls::Refusal;
+use checks::seals;
+use codeword::LONGEST_WORD;
 
 // The most octets of a code word that may be repaired (003, D.4.1.7.3).
 pub const MOST_REPAIRS: u32 = 127;
@@ -21,127 +20,91 @@ pub const MOST_REPAIRS: u32 = 127;
 pub const MOST_PLACES: usize = MOST_REPAIRS as usize;
 
 // A unit that is handed up: its badge, how many octets of the word were changed, and its length.
-#[derive(Clone, Copy)]
+#[derive(Clone, Copy, Debug, PartialEq, Eq)]
 pub struct Judgement {
     pub badge: Badge,
     pub changed: usize,
     pub length: usize,
 }
 
-// What receiving answers: the unit is handed up, or document 01's refusal number.
-#[derive(Clone, Copy)]
-pub enum Received {
-    Unit(Judgement),
-    Refused(u8),
-}
-
-// The check of width bits, where it and e repairs may be asked for: else refusal 1.
-fn setting_of(width: u32, e: u32) -> Asked
-    ensures { result ≡ setting_of width e }
-{
-    if MOST_REPAIRS < e {
-        return Asked::Unknown;
-    }
-    checks::width_of(width)
-}
-
 // How many octets a unit is sent in, with a check of width bits and a code that repairs e octets: refusals 1, 2.
-pub fn sent_length(unit: usize, width: u32, e: u32) -> Length
-    ensures { length_says result ≡ sent_length unit width e }
+#[tactic(auto, using(crate::proofs::Deciding::decides), unfolding(crate::specs::AL1M::sent_length, crate::specs::AL1M::is_sendable))]
+pub fn sent_length(unit: usize, width: u32, e: u32) -> Result<usize, Refusal>
+    ensures { says result ≡ sent_length unit width e }
 {
-    let Asked::Known(w) = setting_of(width, e) else {
-        return Length::Refused(1);
-    };
-    if unit == 0 {
-        return Length::Refused(2);
+    let behind = Setting::asked(width, e)?.behind();
+    if unit == 0 || LONGEST_WORD < unit || LONGEST_WORD < unit + behind {
+        return Err(Refusal::BadLength);
     }
-    if LONGEST_WORD < unit {
-        return Length::Refused(2);
-    }
-    let n = unit + checks::octets_of(w) + 2 * (e as usize);
-    if LONGEST_WORD < n {
-        return Length::Refused(2);
-    }
-    Length::Octets(n)
+    Ok(unit + behind)
 }
 
 // Writes the unit, its check and the parity to the front of `sent`.
-fn put(unit: &[u8], w: Width, e: usize, sent: &mut [u8])
-    requires { (0 < length unit.now) × (length unit.now + (kind_of w).octets + 2 * e ≤ longest_word)
-        × (length unit.now + (kind_of w).octets + 2 * e ≤ length sent.old) }
-    ensures { SentIs (kind_of w) e unit.now sent.old
-        (length unit.now + (kind_of w).octets + 2 * e) sent.new }
+fn put(unit: &[u8], s: Setting, sent: &mut [u8])
+    requires { (0 < length unit.now) × (length unit.now + (kind_of s.width).octets + 2 * s.repairs ≤ longest_word)
+        × (length unit.now + (kind_of s.width).octets + 2 * s.repairs ≤ length sent.old) }
+    ensures { SentIs (kind_of s.width) s.repairs unit.now sent.old
+        (length unit.now + (kind_of s.width).octets + 2 * s.repairs) sent.new }
 {
     let t = unit.len();
     let mut message = [0u8; LONGEST_WORD];
     octets::write(&mut message, 0, unit);
-    seals::seal(&mut message, t, w);
-    let k = t + checks::octets_of(w);
-    codeword::encode(&message[..k], e, sent);
+    seals::seal(&mut message, t, s.width);
+    let k = t + checks::octets_of(s.width);
+    codeword::encode(&message[..k], s.repairs, sent);
 }
 
 // The unit, its check and the parity into the front of `sent`: refusals 1, 2, 3.
-pub fn encode(unit: &[u8], width: u32, e: u32, sent: &mut [u8]) -> Length
+#[tactic(auto, using(crate::proofs::Deciding::decides), unfolding(crate::specs::AL1M::sent_length, crate::specs::AL1M::is_sendable))]
+pub fn encode(unit: &[u8], width: u32, e: u32, sent: &mut [u8]) -> Result<usize, Refusal>
     ensures { Sends width e unit.now sent.old result sent.new }
 {
-    let Asked::Known(w) = setting_of(width, e) else {
-        return Length::Refused(1);
-    };
-    match sent_length(unit.len(), width, e) {
-        Length::Refused(k) => Length::Refused(k),
-        Length::Octets(n) => {
-            if sent.len() < n {
-                return Length::Refused(3);
-            }
-            put(unit, w, e as usize, sent);
-            Length::Octets(n)
-        }
+    let s = Setting::asked(width, e)?;
+    let n = sent_length(unit.len(), width, e)?;
+    if sent.len() < n {
+        return Err(Refusal::NoRoom);
     }
+    put(unit, s, sent);
+    Ok(n)
 }
 
-// Whether there is neither a check of l octets nor a code that repairs e.
-fn is_bare(l: usize, e: usize) -> bool
-    ensures { (κ : Kind) → l ≡ κ.octets → result ≡ is_bare κ e }
+// Whether there is neither a check nor a code.
+fn is_bare(s: Setting) -> bool
+    ensures { result ≡ is_bare (kind_of s.width) s.repairs }
 {
-    if e == 0 { l == 0 } else { false }
+    s.repairs == 0 && checks::octets_of(s.width) == 0
 }
 
 // The badge of a word of which a code word was found.
 fn badge_of(bare: bool, changed: usize, agrees: bool) -> Badge
-    ensures { result ≡ badge_of bare (Found changed) agrees }
+    ensures { result ≡ badge_of bare (Some changed) agrees }
 {
-    if agrees {
-        if 0 < changed {
-            return Badge::Corrected;
-        }
-        if bare {
-            return Badge::Unchecked;
-        }
-        return Badge::Clean;
+    match (agrees, changed, bare) {
+        (false, _, _) => Badge::CheckFailed,
+        (true, 0, true) => Badge::Unchecked,
+        (true, 0, false) => Badge::Clean,
+        (true, _, _) => Badge::Corrected,
     }
-    Badge::CheckFailed
 }
 
 // Looks for the code word, and judges the unit by it.
-fn judge(received: &[u8], w: Width, e: usize, repair: &mut [u8], places: &mut [u8]) -> Judgement
-    requires { (length received.now ≤ longest_word) × ((kind_of w).octets + 2 * e < length received.now)
+fn judge(received: &[u8], s: Setting, repair: &mut [u8], places: &mut [u8]) -> Judgement
+    requires { (length received.now ≤ longest_word) × ((kind_of s.width).octets + 2 * s.repairs < length received.now)
         × (length received.now ≤ length repair.old) }
-    ensures { HandedIs (kind_of w) e received.now (record { repair = repair.old; places = places.old }) result
+    ensures { HandedIs (kind_of s.width) s.repairs received.now (record { repair = repair.old; places = places.old }) result
         (record { repair = repair.new; places = places.new }) }
 {
-    let l = checks::octets_of(w);
-    let k = received.len() - 2 * e;
-    let length = k - l;
-    let Reach::Found(changed) = codeword::repair(received, e, repair, places) else {
+    let length = received.len() - s.behind();
+    let Some(changed) = codeword::repair(received, s.repairs, repair, places) else {
         return Judgement {
             badge: Badge::OutOfReach,
             changed: 0,
             length,
         };
     };
-    let word = &repair[..];
-    let agrees = seals::is_sealed(octets::front(word, k), w);
-    let badge = badge_of(is_bare(l, e), changed, agrees);
+    let k = received.len() - 2 * s.repairs;
+    let agrees = seals::is_sealed(octets::front(repair, k), s.width);
+    let badge = badge_of(is_bare(s), changed, agrees);
     Judgement {
         badge,
         changed,
@@ -151,42 +114,34 @@ fn judge(received: &[u8], w: Width, e: usize, repair: &mut [u8], places: &mut [u
 
 // Repairs a received word into the front of `repair`, lists the changed places at the front of `places`, and judges the word: refusals 1,
 // 2, 3. The unit that is handed up is what `unit` returns.
+#[tactic(auto, using(crate::proofs::Deciding::decides), unfolding(crate::specs::Receiving::is_word))]
 pub fn receive(
     received: &[u8],
     width: u32,
     e: u32,
     repair: &mut [u8],
     places: &mut [u8],
-) -> Received
+) -> Result<Judgement, Refusal>
     ensures { Receives width e received.now (record { repair = repair.old; places = places.old }) result
         (record { repair = repair.new; places = places.new }) }
 {
-    let Asked::Known(w) = setting_of(width, e) else {
-        return Received::Refused(1);
-    };
     let n = received.len();
-    if LONGEST_WORD < n {
-        return Received::Refused(2);
+    let s = Setting::asked(width, e)?;
+    if LONGEST_WORD < n || n <= s.behind() {
+        return Err(Refusal::BadLength);
     }
-    if n <= checks::octets_of(w) + 2 * (e as usize) {
-        return Received::Refused(2);
+    if repair.len() < n || places.len() < s.repairs {
+        return Err(Refusal::NoRoom);
     }
-    if repair.len() < n {
-        return Received::Refused(3);
-    }
-    if places.len() < e as usize {
-        return Received::Refused(3);
-    }
-    let j = judge(received, w, e as usize, repair, places);
-    Received::Unit(j)
+    Ok(judge(received, s, repair, places))
 }
 
 // The unit's part of the repair buffer when corrected, and of the received word otherwise; what is not there is left out.
 pub fn unit<'a>(received: &'a [u8], repair: &'a [u8], badge: Badge, t: usize) -> &'a [u8]
     ensures { result.now ≡ handed_unit badge received.now repair.now t }
 {
-    let Badge::Corrected = badge else {
-        return octets::front(received, t);
-    };
-    octets::front(repair, t)
+    match badge {
+        Badge::Corrected => octets::front(repair, t),
+        _ => octets::front(received, t),
+    }
 }

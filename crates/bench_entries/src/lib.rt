@@ -4,8 +4,6 @@
 ghost use Rattle.std.specs.Prelude.{◌≤◌};
 
 use channels::{ALL_OCTETS, ChannelNumber, Channels, PLACE_OCTETS};
-use multiplex::demultiplexer::Finished;
-use multiplex::multiplexer::Made;
 use multiplex::{demultiplexer, multiplexer};
 use table::{Code, TABLE_NUMBERS};
 
@@ -14,40 +12,40 @@ const CODE: u32 = 1;
 
 // Channel 1, whole, and channels 2 and 3, segmentable; the entry lent.
 fn set_up(table: &mut [u16; TABLE_NUMBERS], entry: &[u16]) -> Channels {
-    table::replace(table, Code(CODE), entry);
-    let mut s = channels::new();
-    s = channels::open(s, ChannelNumber(1), false).channels;
-    s = channels::open(s, ChannelNumber(2), true).channels;
-    channels::open(s, ChannelNumber(3), true).channels
+    let _ = table::replace(table, Code(CODE), entry);
+    let mut s = Channels::new();
+    for (number, segmentable) in [(1, false), (2, true), (3, true)] {
+        let _ = s.open(ChannelNumber(number), segmentable);
+    }
+    s
 }
 
 // Units wait on every channel: 4 octets on channel 1, as many as a place has on the others.
-fn fill(s: Channels, waiting: &mut [u8; ALL_OCTETS]) -> Channels {
+fn fill(mut s: Channels, waiting: &mut [u8; ALL_OCTETS]) -> Channels {
     let unit = [0u8; PLACE_OCTETS];
-    let mut next = channels::post(s, waiting, ChannelNumber(0), &unit).channels;
-    next = channels::post(next, waiting, ChannelNumber(1), &unit[..4]).channels;
-    next = channels::post(next, waiting, ChannelNumber(2), &unit).channels;
-    channels::post(next, waiting, ChannelNumber(3), &unit).channels
+    for (number, posted) in [
+        (0, &unit[..]),
+        (1, &unit[..4]),
+        (2, &unit[..]),
+        (3, &unit[..]),
+    ] {
+        let _ = s.post(waiting, ChannelNumber(number), posted);
+    }
+    s
 }
 
-// 1 for a payload that was accepted.
-fn accepts(finished: Finished) -> u32
-    ensures { result ≤ 1 }
+// How many of so many rounds succeed.
+fn count<F: FnMut() -> bool>(rounds: u32, mut succeeds: F) -> u32
+    requires { F.IsAlwaysCallable succeeds }
+    ensures { result ≤ rounds }
 {
-    match finished {
-        Finished::Units(_) => 1,
-        Finished::Refused(_) => 0,
+    let mut n = 0;
+    for _ in 0..rounds {
+        if succeeds() {
+            n += 1;
+        }
     }
-}
-
-// 1 for a payload that was made.
-fn makes(made: Made) -> u32
-    ensures { result ≤ 1 }
-{
-    match made {
-        Made::Payload { octets: _, mark: _ } => 1,
-        Made::Refused(_) => 0,
-    }
+    n
 }
 
 // Gives the payload to the demultiplexer so many times, and tells how often it was accepted.
@@ -64,11 +62,10 @@ pub extern "C" fn bench_demux(
 {
     let mut table = [0u16; TABLE_NUMBERS];
     let s = set_up(&mut table, entry);
-    let mut accepted = 0;
-    let mut done = 0;
-    while done < rounds {
-        let r = demultiplexer::demultiplex(
-            s,
+    count(rounds, || {
+        let mut after = s;
+        demultiplexer::demultiplex(
+            &mut after,
             held,
             &table,
             Code(CODE),
@@ -76,12 +73,9 @@ pub extern "C" fn bench_demux(
             payload,
             output,
             units,
-        );
-        let finished = r.finished;
-        accepted += accepts(finished);
-        done += 1;
-    }
-    accepted
+        )
+        .is_ok()
+    })
 }
 
 // Asks the multiplexer so many times for a payload that fills the room lent, and tells how often there was one.
@@ -96,13 +90,9 @@ pub extern "C" fn bench_mux(
 {
     let mut table = [0u16; TABLE_NUMBERS];
     let s = fill(set_up(&mut table, entry), waiting);
-    let mut made = 0;
-    let mut done = 0;
-    while done < rounds {
-        let r = multiplexer::multiplex(s, waiting, &table, Code(CODE), payload.len(), payload);
-        let last = r.made;
-        made += makes(last);
-        done += 1;
-    }
-    made
+    let room = payload.len();
+    count(rounds, || {
+        let mut after = s;
+        multiplexer::multiplex(&mut after, waiting, &table, Code(CODE), room, payload).is_ok()
+    })
 }

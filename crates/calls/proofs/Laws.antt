@@ -16,9 +16,9 @@
 --   Given, is_once, given_exactly   a call is refused with a number exactly where the test of that number holds, and none before it (Given)
 --   once               two things of which something says the same are equal, where the saying can be undone
 --   both-once          two answers of which a saying and what is left say the same, where the saying can be undone
---   outcome-once       the answers that are outcomes, and what is left beside them
---   length-once        the answers that are lengths
---   lengths-once       .. and what is left beside them
+--   number-once        two refusals of one number are one
+--   says-once          two results that say the same are equal
+--   both_say-once      .. and what is left beside them
 --
 -- Assumes nothing.
 use mathlib.Core.Path.{◌≡◌, refl, sym, ap, ◌∙◌}
@@ -27,11 +27,10 @@ use mathlib.Core.List.{List, [], ◌∷◌}
 use Prim.Native.Nat.{ℕ}
 use Rattle.octets.specs.Tests.{never}
 use Rattle.calls.specs.Refusal.{Told, refused, told, Ended, ended, leaving, refusing, Test, ◌when◌, checked, refusal, None, Refuses}
-use Rattle.calls.specs.Refusal.{outcome_says, length_says}
-use Rattle.calls.specs.declared.Outcome.{Outcome}
-use Rattle.calls.specs.declared.Outcome.TheVariants as outcome
-use Rattle.calls.specs.declared.Length.{Length}
-use Rattle.calls.specs.declared.Length.TheVariants.{Octets, Refused}
+use Rattle.calls.specs.Refusal.{number, says}
+use Rattle.calls.specs.declared.Refusal.{Refusal}
+use Rattle.calls.specs.declared.Refusal.TheVariants.{BadSetting, BadLength, NoRoom, NoEntry, NotOpen, PastEntry, BadMark, HeldTooLong, NothingWaits, BadEntry, AlreadyWaiting, NoPlace, AlreadyOpen, Fixed, BadForm, BadHeader}
+use Rattle.std.specs.Prelude.{Result, Ok, Err, get_or}
 pub use Rattle.calls.proofs.Given.{Given, is_once, given_exactly}
 
 pub told-refused : {A B : Type 0} {t : Told A} {a : A} {k : ℕ} → t ≡ told a → t ≡ refused k → B
@@ -118,30 +117,50 @@ module _ {R A X : Type 0} (says : R → Told A) (undo : Told A → R) (back : (r
     ap (λ (r : Ended A X). r.left) (p ∙ sym q),
   )
 
-outcome_back : Told (Unit {0}) → Outcome
-outcome_back (told u) = outcome.Done
-outcome_back (refused k) = outcome.Refused k
+-- the refusals by their numbers; there is none of number 0, nor of 16
+numbered : List Refusal
+numbered =
+    Fixed ∷ BadSetting ∷ BadLength ∷ NoRoom ∷ NoEntry ∷ NotOpen ∷ PastEntry ∷ BadMark ∷ HeldTooLong ∷ NothingWaits ∷ BadEntry ∷ AlreadyWaiting
+    ∷ NoPlace ∷ AlreadyOpen ∷ Fixed ∷ BadForm ∷ Fixed ∷ BadHeader ∷ []
 
-pub outcome-once : {X : Type 0} (a b : Outcome) (x y : X) (z : Ended (Unit {0}) X) → ended (outcome_says a) x ≡ z → ended (outcome_says b) y ≡ z
-    → (a ≡ b) × (x ≡ y)
-unfolding outcome_back
-outcome-once = both-once outcome_says outcome_back back
-  where
-    back : (r : Outcome) → outcome_back (outcome_says r) ≡ r
-    back outcome.Done = refl
-    back (outcome.Refused k) = refl
+of_number : ℕ → Refusal
+of_number k = get_or numbered k Fixed
 
-back_length : Told ℕ → Length
-back_length (told n) = Octets n
-back_length (refused k) = Refused k
+number_back : (r : Refusal) → of_number (number r) ≡ r
+unfolding of_number numbered
+number_back BadSetting = refl
+number_back BadLength = refl
+number_back NoRoom = refl
+number_back NoEntry = refl
+number_back NotOpen = refl
+number_back PastEntry = refl
+number_back BadMark = refl
+number_back HeldTooLong = refl
+number_back NothingWaits = refl
+number_back BadEntry = refl
+number_back AlreadyWaiting = refl
+number_back NoPlace = refl
+number_back AlreadyOpen = refl
+number_back Fixed = refl
+number_back BadForm = refl
+number_back BadHeader = refl
 
-length_back : (r : Length) → back_length (length_says r) ≡ r
-unfolding back_length
-length_back (Octets n) = refl
-length_back (Refused k) = refl
+pub number-once : (r s : Refusal) → number r ≡ number s → r ≡ s
+number-once r s e = sym (number_back r) ∙ ap of_number e ∙ number_back s
 
-pub length-once : (a b : Length) (x : Told ℕ) → length_says a ≡ x → length_says b ≡ x → a ≡ b
-length-once = once length_says back_length length_back
+module _ {A : Type 0} where
+  unsaid : Told A → Result A Refusal
+  unsaid (told a) = Ok a
+  unsaid (refused k) = Err (of_number k)
 
-pub lengths-once : {X : Type 0} (a b : Length) (x y : X) (z : Ended ℕ X) → ended (length_says a) x ≡ z → ended (length_says b) y ≡ z → (a ≡ b) × (x ≡ y)
-lengths-once = both-once length_says back_length length_back
+  said_back : (r : Result A Refusal) → unsaid (says r) ≡ r
+  unfolding unsaid
+  said_back (Ok a) = refl
+  said_back (Err r) = rw number_back
+
+  pub says-once : (a b : Result A Refusal) (x : Told A) → says a ≡ x → says b ≡ x → a ≡ b
+  says-once = once says unsaid said_back
+
+  pub both_say-once : {X : Type 0} (a b : Result A Refusal) (x y : X) (z : Ended A X) → ended (says a) x ≡ z → ended (says b) y ≡ z
+      → (a ≡ b) × (x ≡ y)
+  both_say-once = both-once says unsaid said_back

@@ -1,12 +1,13 @@
 -- The claims of specs/Claims.antt.
 --
---   first_refuses, none_answers, answers_say   each of them
+--   first_refuses, none_answers, results_say, one_number   each of them
 --
 -- Assumes nothing.
 use mathlib.Core.Path.{refl}
 use mathlib.Core.List.{[], ◌∷◌}
 use Rattle.calls.specs.Refusal.{◌when◌}
-use Rattle.calls.specs.Claims.{FirstRefuses, NoneAnswers, AnswersSay}
+use Rattle.calls.specs.Claims.{FirstRefuses, NoneAnswers, ResultsSay, OneNumber}
+use Rattle.calls.proofs.Laws.{number-once}
 
 pub first_refuses : FirstRefuses
 first_refuses [] after k none = refl
@@ -16,5 +17,8 @@ pub none_answers : NoneAnswers
 none_answers [] none = refl
 none_answers ((i when b) ∷ l) none = rw none.0 (none_answers l none.1)
 
-pub answers_say : AnswersSay
-answers_say = record { done = refl; undone = λ k. refl; octets = λ n. refl; none = λ k. refl }
+pub results_say : (A : Type 0) → ResultsSay A
+results_say A = record { answers = λ a. refl; refuses = λ r. refl }
+
+pub one_number : OneNumber
+one_number = number-once

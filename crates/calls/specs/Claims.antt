@@ -2,13 +2,13 @@
 --
 --   FirstRefuses    the first test that holds gives its number, whatever stands after it
 --   NoneAnswers     where no test holds, nothing is refused
---   AnswersSay      an outcome or a length that a function answers says what it is: done, so many octets, or refused with this number
+--   ResultsSay A    a result that a function answers says what it is: its value, or refused with the refusal's number
+--   OneNumber       no two refusals have one number
 --
 -- Assumes nothing.
-use Rattle.std.specs.Prelude.{◌≡◌, true, List, ◌∷◌, ◌++◌, ℕ}
-use Rattle.calls.specs.declared.Outcome.TheVariants as outcome
-use Rattle.calls.specs.declared.Length.TheVariants as lengths
-use Rattle.calls.specs.Refusal.{refused, told, Test, ◌when◌, refusal, None, outcome_says, length_says}
+use Rattle.std.specs.Prelude.{◌≡◌, true, List, ◌∷◌, ◌++◌, ℕ, Ok, Err}
+use Rattle.calls.specs.declared.Refusal.{Refusal}
+use Rattle.calls.specs.Refusal.{refused, told, Test, ◌when◌, refusal, None, number, says}
 
 abbrev pub FirstRefuses : Type 0
 FirstRefuses = (before after : List Test) (k : ℕ) → None before → refusal (before ++ k when true ∷ after) ≡ refused k
@@ -16,8 +16,9 @@ FirstRefuses = (before after : List Test) (k : ℕ) → None before → refusal 
 abbrev pub NoneAnswers : Type 0
 NoneAnswers = (l : List Test) → None l → refusal l ≡ told tt
 
-pub record AnswersSay : Type 0 where
-  pub done : outcome_says outcome.Done ≡ told tt
-  pub undone : (k : ℕ) → outcome_says (outcome.Refused k) ≡ refused k
-  pub octets : (n : ℕ) → length_says (lengths.Octets n) ≡ told n
-  pub none : (k : ℕ) → length_says (lengths.Refused k) ≡ refused k
+pub record ResultsSay (A : Type 0) : Type 0 where
+  pub answers : (a : A) → says (Ok a) ≡ told a
+  pub refuses : (r : Refusal) → says {A = A} (Err r) ≡ refused (number r)
+
+abbrev pub OneNumber : Type 0
+OneNumber = (r s : Refusal) → number r ≡ number s → r ≡ s

@@ -13,15 +13,13 @@
 --   RefusedIs l k before after   k is that one, and what was lent is as it came
 --   Refuses d l x   a call that ends as d is refused with the first of the refusals l whose test holds, exactly where one does, and
 --                   then leaves x, as it came
---   outcome_says r   what a value of `Outcome` says
---   length_says r    .. and one of `Length`
+--   number r        the number of a refusal
+--   says r          what a result says: it tells its value, or the refusal's number
 --
 -- Assumes nothing.
-use Rattle.std.specs.Prelude.{◌≡◌, ◌↔◌, Bool, false, cond, List, [], ◌∷◌, ℕ}
-use Rattle.calls.specs.declared.Outcome.{Outcome}
-use Rattle.calls.specs.declared.Outcome.TheVariants as outcome
-use Rattle.calls.specs.declared.Length.{Length}
-use Rattle.calls.specs.declared.Length.TheVariants.{Octets, Refused}
+use Rattle.std.specs.Prelude.{◌≡◌, ◌↔◌, Bool, false, cond, List, [], ◌∷◌, ℕ, Result, Ok, Err}
+use Rattle.calls.specs.declared.Refusal.{Refusal}
+use Rattle.calls.specs.declared.Refusal.TheVariants.{BadSetting, BadLength, NoRoom, NoEntry, NotOpen, PastEntry, BadMark, HeldTooLong, NothingWaits, BadEntry, AlreadyWaiting, NoPlace, AlreadyOpen, Fixed, BadForm, BadHeader}
 
 infix 68 ◌when◌
 pub data Told (A : Type 0) : Type 0 where
@@ -70,10 +68,24 @@ pub record Refuses {A X : Type 0} (d : Ended A X) (l : List Test) (x : X) : Type
 
 -- ---- what the answers say
 
-abbrev pub outcome_says : Outcome → Told (Unit {0})
-outcome_says outcome.Done = told tt
-outcome_says (outcome.Refused k) = refused k
+abbrev pub number : Refusal → ℕ
+number BadSetting = 1
+number BadLength = 2
+number NoRoom = 3
+number NoEntry = 4
+number NotOpen = 5
+number PastEntry = 6
+number BadMark = 7
+number HeldTooLong = 8
+number NothingWaits = 9
+number BadEntry = 10
+number AlreadyWaiting = 11
+number NoPlace = 12
+number AlreadyOpen = 13
+number Fixed = 14
+number BadForm = 15
+number BadHeader = 17
 
-abbrev pub length_says : Length → Told ℕ
-length_says (Octets n) = told n
-length_says (Refused k) = refused k
+abbrev pub says : {A : Type 0} → Result A Refusal → Told A
+says (Ok a) = told a
+says (Err r) = refused (number r)

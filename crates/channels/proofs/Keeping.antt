@@ -23,7 +23,7 @@ use Rattle.calls.proofs.Laws.{told-refused, leaving-same, by_tests}
 use Rattle.adaptation.specs.AL2.{number_as, risen, whole, is_sendable, Receipt, handed_up, due_by, received}
 use Rattle.adaptation.specs.declared.al2.Due.{Due}
 use Rattle.adaptation.specs.declared.al2.Numbers.{Numbers}
-use Rattle.adaptation.specs.declared.al2.Number.TheVariants.{Numbered}
+use Rattle.std.specs.Prelude.{Some}
 use Rattle.adaptation.specs.AL2Claims.{as_sent}
 use Rattle.adaptation.proofs.Laws.{next_in_order, plain_received}
 use Rattle.channels.specs.declared.Channel.{Channel}
@@ -51,7 +51,7 @@ in_order : (numbered : Bool) (m : Numbers) (e : Due) (u : List ℕ) → m.sent <
     → received numbered (whole (number_as numbered m) u) e
     ≡ told (handed_up (as_sent u) 0 (record { expected = (risen numbered m).sent; failed = cond numbered 0 e.failed }))
 in_order true m e u l q h =
-    subst (λ (i : ℕ). received true (whole (Numbered i) u) e ≡ told (handed_up (as_sent u) 0 (record { expected = (i + 1) % 256; failed = 0 }))) q
+    subst (λ (i : ℕ). received true (whole (Some i) u) e ≡ told (handed_up (as_sent u) 0 (record { expected = (i + 1) % 256; failed = 0 }))) q
     (next_in_order u e (rw q l) (rw q h))
 in_order false m e u l q h = plain_received u e h ∙ ap (λ (i : ℕ). told (handed_up (as_sent u) 0 (record { expected = i; failed = e.failed }))) q
 

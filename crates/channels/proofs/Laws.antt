@@ -2,7 +2,7 @@
 --
 --   Seat, seat, seats, place-seats, free-seats, seat-at, seats-put, seats-length, place-number,
 --   place_unique, vacant-behind, put-there, put-elsewhere, segmentable-place, place-new, place-old, place-not_free, number-seats   places, and what the two ends have alike (Seats)
---   sought-place, in-placed                                     numbers replaced by places (Placing)
+--   seat-sought, in_place, not_in, in-placed                    places found, and numbers replaced by places (Placing)
 --   held_at, orderly-put, filled-room, held_grown, held_else, orderly_joined, orderly_emptied   what a place holds (Holding)
 --   seated-kept, seated-put                                     the seats (Seating)
 --   waits-put, numbers-put, bounded-put                         the bounds (Bounds)
@@ -16,7 +16,7 @@
 -- Assumes nothing.
 pub use Rattle.channels.proofs.Seats.{Seat, seat, seats, place-seats, free-seats, seat-at, seats-put}
 pub use Rattle.channels.proofs.Seats.{seats-length, place-number, place_unique, vacant-behind, put-there, put-elsewhere, segmentable-place, place-new, place-old, place-not_free, number-seats}
-pub use Rattle.channels.proofs.Placing.{sought-place, in-placed}
+pub use Rattle.channels.proofs.Placing.{seat-sought, in_place, not_in, in-placed}
 pub use Rattle.channels.proofs.Holding.{held_at, orderly-put, filled-room, held_grown, held_else, orderly_joined, orderly_emptied}
 pub use Rattle.channels.proofs.Seating.{seated-kept, seated-put}
 pub use Rattle.channels.proofs.Bounds.{waits-put, numbers-put, bounded-put}

@@ -1,22 +1,16 @@
--- AL2 by channel, in each case, at the place p that the search gave; and the part of a list where a unit lies.
+-- AL2 by channel, in each case, at the place p that the search gave.
 --
---   sending-closed    the channel is not open
 --   sending-refused   AL2 refuses the unit: nothing is changed
 --   sending-sent      AL2 sends it: the channel's number rises
---   taking-closed     the channel is not open
 --   taken_by           what AL2's own end of receiving leads to, at a place
 --   taking-by         else it goes by what AL2 says of the unit
---   part-within       a part that lies within the list
---   part_without      .. and one that does not
 --
 -- Assumes nothing.
 use mathlib.Core.Path.{◌≡◌, ap, ◌∙◌}
 use mathlib.Core.Bool.{Bool}
-use mathlib.Core.List.{List, []}
-use Prim.Native.Nat.{ℕ, ◌+◌, ◌-◌, ◌≤◌, ◌<◌}
-use native.Mathlib.Nat.{add-sub_cancel_left}
-use borrow.Author.Tests.{lt-ltb, le-ltb, le-leb, lt-leb}
-use lib.ListN.{length, take, drop}
+use mathlib.Core.List.{List}
+use Prim.Native.Nat.{ℕ, ◌<◌}
+use borrow.Author.Tests.{lt-ltb}
 use Rattle.calls.specs.Refusal.{Told, refused, told, Ended, ended, leaving, refusing}
 use Rattle.calls.proofs.Laws.{checked_through}
 use Rattle.adaptation.specs.AL2.{number_as, risen, send_tests, read_tests, sent, received, Receipt, due_by}
@@ -25,7 +19,6 @@ use Rattle.channels.specs.declared.Channel.{Channel}
 use Rattle.channels.specs.declared.Channels.{Channels}
 use Rattle.channels.specs.Channels.{place_count, place_of, channel_at, put, numbering}
 use Rattle.channels.specs.Layers.{SendLent, expecting, sending, taking}
-use Rattle.channels.specs.Parts.{part_at}
 
 -- what AL2's own end leads to, at place p
 sent_by : SendLent → (p : ℕ) → Channel → Ended ℕ (List ℕ) → Ended ℕ SendLent
@@ -40,10 +33,6 @@ taken_by s p c (refused k) = refusing s k
 taken_by s p c (told r) = leaving r (put s p (expecting c (due_by r)))
 
 module _ (x : SendLent) (n : ℕ) (numbered : Bool) (u : List ℕ) (p : ℕ) (e : p ≡ place_of x.channels n) where
-  pub sending-closed : place_count ≤ p → refusing x 5 ≡ sending x n numbered u
-  unfolding sending
-  sending-closed h = rw (← e, le-ltb _ _ h)
-
   module _ (h : p < place_count) (out : List ℕ) where
     abbrev c : Channel
     c = channel_at x.channels p
@@ -68,21 +57,8 @@ module _ (x : SendLent) (n : ℕ) (numbered : Bool) (u : List ℕ) (p : ℕ) (e 
     sending-sent k f = by (ended (told k) out) f
 
 module _ (s : Channels) (n : ℕ) (numbered : Bool) (w : List ℕ) (p : ℕ) (e : p ≡ place_of s n) where
-  pub taking-closed : place_count ≤ p → refusing s 5 ≡ taking s n numbered w
-  unfolding taking
-  taking-closed h = rw (← e, le-ltb _ _ h)
-
   pub taking-by : p < place_count → (r : Told Receipt) → r ≡ received numbered w (channel_at s p).numbers.due → taken_by s p (channel_at s p) r
       ≡ taking s n numbered w
   unfolding taking received
   taking-by h r f =
       ap (taken_by s p (channel_at s p)) f ∙ checked_through (taken_by s p (channel_at s p)) refused (read_tests numbered w) _ ∙ rw (← e, lt-ltb _ _ h)
-
-module _ (xs : List ℕ) (start n : ℕ) where
-  pub part-within : start + n ≤ length xs → take (start + n - start) (drop start xs) ≡ part_at xs start n
-  unfolding part_at
-  part-within h = rw (le-leb _ _ h, add-sub_cancel_left start n)
-
-  pub part_without : length xs < start + n → [] ≡ part_at xs start n
-  unfolding part_at
-  part_without h = rw (lt-leb _ _ h)

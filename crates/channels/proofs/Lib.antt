@@ -1,5 +1,4 @@
 pub mod Applying
-pub mod Search
 pub mod Placing
 pub mod Layering
 pub mod Seats

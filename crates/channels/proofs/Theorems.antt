@@ -6,19 +6,15 @@
 --   promises_say                                       what the promises say
 --
 -- Assumes nothing.
-use mathlib.Core.Path.{sym, ap, ap₂, ◌∙◌}
+use mathlib.Core.Path.{sym, ap, ◌∙◌}
 use mathlib.Core.Bool.{Bool}
 use mathlib.Core.List.{List}
 use Prim.Native.Nat.{ℕ}
 use Rattle.calls.specs.Refusal.{Ended}
-use Rattle.calls.specs.declared.Outcome.{Outcome}
-use Rattle.calls.specs.declared.Length.{Length}
-use Rattle.calls.proofs.Laws.{outcome-once, lengths-once}
+use Rattle.calls.proofs.Laws.{both_say-once}
 use Rattle.adaptation.specs.AL2.{Receipt, unit_of}
-use Rattle.adaptation.specs.declared.al2.Received.{Received}
 use Rattle.adaptation.proofs.Laws.{says-once}
 use Rattle.channels.specs.declared.Channels.{Channels}
-use Rattle.channels.specs.declared.After.{After}
 use Rattle.channels.specs.Channels.{Post, place_of, channel_at, posted}
 use Rattle.channels.specs.Layers.{SendLent, sending}
 use Rattle.channels.specs.Claims.{StartBounded, CallsKeepBounds, TakenAsSent, AfterUnique, PostUnique, SendUnique, TakeUnique, PromisesSay}
@@ -34,36 +30,27 @@ calls_keep_bounds = keeps_bounds
 pub taken_as_sent : TakenAsSent
 taken_as_sent = taken_as-sent
 
-after : Outcome → Channels → After
-after o s = record { outcome = o; channels = s }
-
 pub after_unique : AfterUnique
-unfolding after
-after_unique a b z p q =
-    let e = outcome-once a.outcome b.outcome a.channels b.channels z p q in
-    ap₂ after e.0 e.1
+after_unique = both_say-once
 
 pub post_unique : PostUnique
-unfolding after
-post_unique s w n u v t a b p q =
-    let e =
-    outcome-once a.outcome b.outcome (record { channels = a.channels; octets = v }) (record { channels = b.channels; octets = t })
-    (posted s w n u) p q in
-    (ap₂ after e.0 (ap (λ (x : Post). x.channels) e.1), ap (λ (x : Post). x.octets) e.1)
+post_unique s w n u v t a b x y p q =
+    let e = both_say-once a b (record { channels = x; octets = v }) (record { channels = y; octets = t }) (posted s w n u) p q in
+    (e.0, ap (λ (z : Post). z.channels) e.1, ap (λ (z : Post). z.octets) e.1)
 
 pub send_unique : SendUnique
-send_unique s out n numbered u v t a b p q =
-    let f =
-    lengths-once a.length b.length (record { channels = a.channels; output = v }) (record { channels = b.channels; output = t })
+send_unique s out n numbered u v t a b x y p q =
+    let e =
+    both_say-once a b (record { channels = x; output = v }) (record { channels = y; output = t })
     (sending (record { channels = s; output = out }) n numbered u) p q in
-    (ap₂ (λ (r : Length) (y : SendLent). record { length = r; channels = y.channels }) f.0 f.1, ap (λ (y : SendLent). y.output) f.1)
+    (e.0, ap (λ (z : SendLent). z.channels) e.1, ap (λ (z : SendLent). z.output) e.1)
 
 pub take_unique : TakeUnique
-take_unique s n numbered w a b p q =
-    let e = p ∙ sym q in
-    ap₂ (λ (r : Received) (y : Channels). record { received = r; channels = y })
-    (says-once (unit_of numbered w) (channel_at s (place_of s n)).numbers.due a.received b.received (ap (λ (r : Ended Receipt Channels). r.answer) e))
-    (ap (λ (r : Ended Receipt Channels). r.left) e)
+take_unique s n numbered w a b x y p q =
+    let e = p ∙ sym q in (
+      says-once (unit_of numbered w) (channel_at s (place_of s n)).numbers.due a b (ap (λ (r : Ended Receipt Channels). r.answer) e),
+      ap (λ (r : Ended Receipt Channels). r.left) e,
+    )
 
 pub promises_say : (s : Channels) (n : ℕ) (numbered : Bool) (u : List ℕ) → PromisesSay s n numbered u
-promises_say s n numbered u = record { posts = λ w v r p. p; sends = λ out v r p. p; takes = λ r p. p }
+promises_say s n numbered u = record { posts = λ w v t r p. p; sends = λ out v t r p. p; takes = λ t r p. p }

@@ -25,16 +25,16 @@
 --   opened, closed, reset   how these calls end
 --   Post              what posting leaves: the channels, and the octets that wait
 --   posted            how posting ends
---   Posts             .. as the function answers, and leaves the octets that wait
+--   Posts             .. as the method answers, and leaves the channels and the octets that wait
 --
 -- Assumes nothing.
-use Rattle.std.specs.Prelude.{◌≡◌, Bool, true, false, cond, not, ◌&&◌, List, [], ◌∷◌, ℕ, ◌+◌, ◌*◌, ◌-◌, min, leb, ltb, eqb, length, get_or, set, take, drop, replicate}
+use Rattle.std.specs.Prelude.{◌≡◌, Bool, true, false, cond, not, ◌&&◌, List, [], ◌∷◌, ℕ, ◌+◌, ◌*◌, ◌-◌, min, leb, ltb, eqb, length, get_or, set, take, drop, replicate, Result}
 use Rattle.octets.specs.Written.{written}
-use Rattle.calls.specs.Refusal.{Ended, ended, leaving, refusing, Test, ◌when◌, checked, outcome_says}
+use Rattle.calls.specs.Refusal.{Ended, ended, leaving, refusing, Test, ◌when◌, checked, says}
+use Rattle.calls.specs.declared.Refusal.{Refusal}
 use Rattle.adaptation.specs.Handed.{is_unit}
 use Rattle.adaptation.specs.AL2.{first_numbers}
 use Rattle.adaptation.specs.declared.al2.Numbers.{Numbers}
-use Rattle.channels.specs.declared.After.{After}
 use Rattle.channels.specs.declared.Channel.{Channel}
 use Rattle.channels.specs.declared.Channels.{Channels}
 use Rattle.channels.specs.Search.{first}
@@ -149,5 +149,5 @@ posted s w n u =
       octets = written w (place_octets * place_of s n + (place_octets - length u)) u;
     }))
 
-abbrev pub Posts : Channels → List ℕ → (n : ℕ) → (unit : List ℕ) → After → List ℕ → Type 0
-Posts s w n u r v = ended (outcome_says r.outcome) (record { channels = r.channels; octets = v }) ≡ posted s w n u
+abbrev pub Posts : Channels → List ℕ → (n : ℕ) → (unit : List ℕ) → Result (Unit {0}) Refusal → Channels → List ℕ → Type 0
+Posts s w n u r t v = ended (says r) (record { channels = t; octets = v }) ≡ posted s w n u

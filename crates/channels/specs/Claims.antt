@@ -19,16 +19,15 @@
 --   PromisesSay       what the promises of posting, of sending and of receiving by AL2 say of an answer: it is how that call ends
 --
 -- Assumes nothing.
-use Rattle.std.specs.Prelude.{◌≡◌, Bool, true, false, cond, List, ℕ, ◌≤◌, ◌<◌, length, take, drop}
-use Rattle.calls.specs.Refusal.{told, Ended, ended, leaving, outcome_says, length_says}
+use Rattle.std.specs.Prelude.{◌≡◌, Bool, true, false, cond, List, ℕ, ◌≤◌, ◌<◌, length, take, drop, Option, Result}
+use Rattle.calls.specs.Refusal.{told, Ended, ended, leaving, says}
+use Rattle.calls.specs.declared.Refusal.{Refusal}
 use Rattle.adaptation.specs.AL2.{number_as, handed_up, whole, unit_of, received_says}
 use Rattle.adaptation.specs.declared.al2.Due.{Due}
+use Rattle.adaptation.specs.declared.al2.Delivery.{Delivery}
 use Rattle.adaptation.specs.AL2Claims.{as_sent, NumbersInRange}
 use Rattle.channels.specs.declared.Channel.{Channel}
 use Rattle.channels.specs.declared.Channels.{Channels}
-use Rattle.channels.specs.declared.After.{After}
-use Rattle.channels.specs.declared.layers.Sent.{Sent}
-use Rattle.channels.specs.declared.layers.Taken.{Taken}
 use Rattle.channels.specs.Channels.{place_count, place_octets, all_octets, vacant, start, place_of, is_in, channel_at, opened, closed, reset, posted, Posts}
 use Rattle.channels.specs.Layers.{sending, SendsOn, taking, TakesOn}
 
@@ -91,29 +90,30 @@ SendingLeaves =
 
 abbrev pub AfterUnique : Type 0
 AfterUnique =
-    (a b : After) (z : Ended (Unit {0}) Channels)
-    → ended (outcome_says a.outcome) a.channels ≡ z → ended (outcome_says b.outcome) b.channels ≡ z → a ≡ b
+    (a b : Result (Unit {0}) Refusal) (s t : Channels) (z : Ended (Unit {0}) Channels)
+    → ended (says a) s ≡ z → ended (says b) t ≡ z → (a ≡ b) × (s ≡ t)
 
 abbrev pub PostUnique : Type 0
 PostUnique =
-    (s : Channels) (w : List ℕ) (n : ℕ) (u v t : List ℕ) (a b : After)
-    → Posts s w n u a v → Posts s w n u b t → (a ≡ b) × (v ≡ t)
+    (s : Channels) (w : List ℕ) (n : ℕ) (u v t : List ℕ) (a b : Result (Unit {0}) Refusal) (x y : Channels)
+    → Posts s w n u a x v → Posts s w n u b y t → (a ≡ b) × (x ≡ y) × (v ≡ t)
 
 abbrev pub SendUnique : Type 0
 SendUnique =
-    (s : Channels) (out : List ℕ) (n : ℕ) (numbered : Bool) (u v t : List ℕ) (a b : Sent)
-    → SendsOn s n numbered u out a v → SendsOn s n numbered u out b t → (a ≡ b) × (v ≡ t)
+    (s : Channels) (out : List ℕ) (n : ℕ) (numbered : Bool) (u v t : List ℕ) (a b : Result ℕ Refusal) (x y : Channels)
+    → SendsOn s n numbered u out a x v → SendsOn s n numbered u out b y t → (a ≡ b) × (x ≡ y) × (v ≡ t)
 
 abbrev pub TakeUnique : Type 0
 TakeUnique =
-    (s : Channels) (n : ℕ) (numbered : Bool) (w : List ℕ) (a b : Taken) → TakesOn s n numbered w a → TakesOn s n numbered w b → a ≡ b
+    (s : Channels) (n : ℕ) (numbered : Bool) (w : List ℕ) (a b : Result (Option Delivery) Refusal) (x y : Channels) → TakesOn s n numbered w a x
+    → TakesOn s n numbered w b y → (a ≡ b) × (x ≡ y)
 
 -- ---- what the promises say is how the calls end
 
 pub record PromisesSay (s : Channels) (n : ℕ) (numbered : Bool) (u : List ℕ) : Type 0 where
-  pub posts : (w v : List ℕ) (r : After) → Posts s w n u r v
-      → ended (outcome_says r.outcome) (record { channels = r.channels; octets = v }) ≡ posted s w n u
-  pub sends : (out v : List ℕ) (r : Sent) → SendsOn s n numbered u out r v
-      → ended (length_says r.length) (record { channels = r.channels; output = v }) ≡ sending (record { channels = s; output = out }) n numbered u
-  pub takes : (r : Taken) → TakesOn s n numbered u r
-      → ended (received_says r.received (unit_of numbered u) (channel_of s n).numbers.due) r.channels ≡ taking s n numbered u
+  pub posts : (w v : List ℕ) (t : Channels) (r : Result (Unit {0}) Refusal) → Posts s w n u r t v
+      → ended (says r) (record { channels = t; octets = v }) ≡ posted s w n u
+  pub sends : (out v : List ℕ) (t : Channels) (r : Result ℕ Refusal) → SendsOn s n numbered u out r t v
+      → ended (says r) (record { channels = t; output = v }) ≡ sending (record { channels = s; output = out }) n numbered u
+  pub takes : (t : Channels) (r : Result (Option Delivery) Refusal) → TakesOn s n numbered u r t
+      → ended (received_says r (unit_of numbered u) (channel_of s n).numbers.due) t ≡ taking s n numbered u

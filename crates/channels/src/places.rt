@@ -1,72 +1,67 @@
 // Where channels are: searches by number, for one and for all slots of a payload.
-ghost use Rattle.std.specs.Prelude.{◌≡◌, map, eqb};
-ghost use Rattle.channels.specs.Search.{first};
-ghost use Rattle.channels.specs.Channels.{place_of, all_open};
-ghost use Rattle.channels.specs.Places.{number_of};
+ghost use Rattle.std.specs.Prelude.{◌≡◌, map, eqb, position};
+ghost use Rattle.channels.specs.Channels.{place_of, all_open, free_place};
+ghost use Rattle.channels.specs.Places.{number_of, place_in, free_in};
 
 use crate::{Channel, ChannelNumber, Channels, PLACES};
+use std::array;
 
 // What no channel has as its number.
 const NO_NUMBER: u32 = 65536;
 
 // A channel's number as a search knows it; where none is open, one that no channel has.
-fn number_of(c: Channel) -> u32
-    ensures { result ≡ number_of c }
+fn number_of(c: &Channel) -> u32
+    ensures { result ≡ number_of c.now }
 {
-    if c.open { c.number.0 as u32 } else { NO_NUMBER }
-}
-
-// The numbers by place: a search then takes no copy of the channels.
-pub fn numbers_of(s: Channels) -> [u32; PLACES]
-    ensures { result ≡ map number_of s.at }
-{
-    let mut all = [0u32; PLACES];
-    let mut i = 0;
-    while i < PLACES {
-        let c = s.at[i];
-        all[i] = number_of(c);
-        i += 1;
+    if c.open {
+        u32::from(c.number.0)
+    } else {
+        NO_NUMBER
     }
-    all
 }
 
-// The first place of a number, or how many places there are.
-pub fn seek(numbers: &[u32], n: u32) -> usize
-    ensures { result ≡ first (λ m. eqb m n) numbers.now }
+// The first place of a number, if it is there.
+pub fn seek(numbers: &[u32], n: u32) -> Option<usize>
+    ensures { result ≡ position (λ m. eqb m n) numbers.now }
 {
-    let mut i = 0;
-    while i < numbers.len() {
-        if numbers[i] == n {
-            return i;
+    numbers.iter().position(|m| *m == n)
+}
+
+impl Channels {
+    // The numbers by place: of many searches, each goes over 16 numbers in a row and not over the channels.
+    pub fn numbers(&self) -> [u32; PLACES]
+        ensures { result ≡ map number_of self.now.at }
+    {
+        array::from_fn(|k| number_of(&self.at[k]))
+    }
+
+    // The place of an open channel, if it is open.
+    #[tactic(auto, using(crate::proofs::Placing::sought_in))]
+    pub fn place_of(&self, number: ChannelNumber) -> Option<usize>
+        ensures { result ≡ place_in self.now number.0 }
+    {
+        self.at.iter().position(|c| c.open && c.number == number)
+    }
+
+    // The first free place, if there is one.
+    #[tactic(auto, using(crate::proofs::Placing::freed_in))]
+    pub fn free_place(&self) -> Option<usize>
+        ensures { result ≡ free_in self.now }
+    {
+        self.at.iter().position(|c| !c.open)
+    }
+
+    // Puts each channel's place instead of its number, and tells whether all of them are open.
+    pub fn find(&self, numbers: &mut [u16]) -> bool
+        ensures { (result ≡ all_open self.now numbers.old) × (numbers.new ≡ map (place_of self.now) numbers.old) }
+    {
+        let seats = self.numbers();
+        let mut all = true;
+        for n in numbers.iter_mut() {
+            let p = seek(&seats, u32::from(*n)).unwrap_or(PLACES);
+            all &= p < PLACES;
+            *n = p as u16;
         }
-        i += 1;
+        all
     }
-    i
-}
-
-// The place of an open channel, or how many places there are.
-pub fn place_of(s: Channels, number: ChannelNumber) -> usize
-    ensures { result ≡ place_of s number.0 }
-{
-    let numbers = numbers_of(s);
-    seek(&numbers, number.0 as u32)
-}
-
-// Puts each channel's place instead of its number, and tells whether all of them are open.
-pub fn find(s: Channels, numbers: &mut [u16]) -> bool
-    ensures { (result ≡ all_open s numbers.old) × (numbers.new ≡ map (place_of s) numbers.old) }
-{
-    let seats = numbers_of(s);
-    let mut all = true;
-    let mut j = 0;
-    while j < numbers.len() {
-        let n = numbers[j];
-        let p = seek(&seats, n as u32);
-        if PLACES <= p {
-            all = false;
-        }
-        numbers[j] = p as u16;
-        j += 1;
-    }
-    all
 }

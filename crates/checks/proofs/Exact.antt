@@ -18,29 +18,29 @@ use lib.Seq.{take_at, drop_at}
 use Rattle.octets.specs.Tests.{never}
 use Rattle.octets.specs.Same.{same, same_self, same-equal}
 use Rattle.checks.specs.Check.{Kind, none, eight, sixteen, check_of, agrees}
-use Rattle.checks.specs.Width.{width_of, is_known, kind_at}
+use Rattle.checks.specs.Width.{width_of, kind_at}
 use Rattle.checks.specs.declared.Width.TheVariants.{Zero, Eight, Sixteen}
-use Rattle.checks.specs.declared.Asked.TheVariants.{Known, Unknown}
+use Rattle.std.specs.Prelude.{Some, None, is_some}
 use Rattle.checks.specs.Exactly.{ChecksExactly}
 
-known : (b : ℕ) → is_known (width_of b) ≡ true → (b ≡ 0) ⊎ ((b ≡ 8) ⊎ (b ≡ 16))
+known : (b : ℕ) → is_some (width_of b) ≡ true → (b ≡ 0) ⊎ ((b ≡ 8) ⊎ (b ≡ 16))
 unfolding width_of
 known b = zero (eqb b 0) refl
   where
-    sixteenth : (t : Bool) → eqb b 16 ≡ t → is_known (cond t (Known Sixteen) Unknown) ≡ true → (b ≡ 0) ⊎ ((b ≡ 8) ⊎ (b ≡ 16))
+    sixteenth : (t : Bool) → eqb b 16 ≡ t → is_some (cond t (Some Sixteen) None) ≡ true → (b ≡ 0) ⊎ ((b ≡ 8) ⊎ (b ≡ 16))
     sixteenth true e h = inr (inr (eqb-true b 16 e))
     sixteenth false e h = never (cc)
 
-    eighth : (t : Bool) → eqb b 8 ≡ t → is_known (cond t (Known Eight) (cond (eqb b 16) (Known Sixteen) Unknown)) ≡ true → (b ≡ 0) ⊎ ((b ≡ 8) ⊎ (b ≡ 16))
+    eighth : (t : Bool) → eqb b 8 ≡ t → is_some (cond t (Some Eight) (cond (eqb b 16) (Some Sixteen) None)) ≡ true → (b ≡ 0) ⊎ ((b ≡ 8) ⊎ (b ≡ 16))
     eighth true e h = inr (inl (eqb-true b 8 e))
     eighth false e h = sixteenth (eqb b 16) refl h
 
-    zero : (t : Bool) → eqb b 0 ≡ t → is_known (cond t (Known Zero) (cond (eqb b 8) (Known Eight) (cond (eqb b 16) (Known Sixteen) Unknown))) ≡ true
+    zero : (t : Bool) → eqb b 0 ≡ t → is_some (cond t (Some Zero) (cond (eqb b 8) (Some Eight) (cond (eqb b 16) (Some Sixteen) None))) ≡ true
         → (b ≡ 0) ⊎ ((b ≡ 8) ⊎ (b ≡ 16))
     zero true e h = inl (eqb-true b 0 e)
     zero false e h = eighth (eqb b 8) refl h
 
-known_back : (b : ℕ) → (b ≡ 0) ⊎ ((b ≡ 8) ⊎ (b ≡ 16)) → is_known (width_of b) ≡ true
+known_back : (b : ℕ) → (b ≡ 0) ⊎ ((b ≡ 8) ⊎ (b ≡ 16)) → is_some (width_of b) ≡ true
 unfolding width_of
 known_back b (inl e) = rw e
 known_back b (inr (inl e)) = rw e

@@ -11,7 +11,7 @@
 --   flip a k v       v, with a added to the octet at place k
 --   added_none, added-set   added at no place, and at one place more
 --   flip-part        .. within a part; flip_octets: octets they stay
---   zeros_octets, append_octets, part_octets   what is octets: zeros, octets behind octets, a part of them
+--   zeros_octets, part_octets   what is octets: zeros, a part of octets
 --
 -- Assumes nothing.
 use mathlib.Core.Path.{◌≡◌, refl, sym, ap, ap₂, ◌∙◌}
@@ -195,11 +195,6 @@ part_octets (suc n) [] o = (λ i. lit< tt, o)
 part_octets (suc n) (a ∷ v) o =
     let p = part_octets n v (λ i. o (suc i)) in
     (cons_octets a (o 0) (take n v) p.0, p.1)
-
-pub append_octets : (u v : List ℕ) → Octets u → Octets v → Octets (u ++ v)
-append_octets [] v o q i = q i
-append_octets (a ∷ u) v o q zero = o 0
-append_octets (a ∷ u) v o q (suc i) = append_octets u v (λ j. o (suc j)) q i
 
 module _ (κ : Kind) {i j k : ℕ} (rule : Folds κ i j k) (a : ℕ) (octet : a < 256) where
   abbrev m : List Bool

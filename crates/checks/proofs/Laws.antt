@@ -2,6 +2,7 @@
 --
 --   checks_exactly             which widths there are, which check each has, and when a check agrees (Exact)
 --   check8-once                there is one check of 8 bits (Sealed)
+--   octets_most                a check has at most two octets (Sealed)
 --   check_octets               the octets of a check are octets (Sealed)
 --   check-length               .. as many as its kind has (Sealed)
 --   sealed-front               a content written at the front, and its check behind it, are both written there together (Sealed)
@@ -9,4 +10,4 @@
 --
 -- Assumes nothing.
 pub use Rattle.checks.proofs.Exact.{checks_exactly}
-pub use Rattle.checks.proofs.Sealed.{check8-once, check_octets, check-length, sealed-front, agrees_own, agrees-none}
+pub use Rattle.checks.proofs.Sealed.{check8-once, octets_most, check_octets, check-length, sealed-front, agrees_own, agrees-none}

@@ -6,5 +6,6 @@ pub mod Residue
 pub mod Rule
 pub mod Fold
 pub mod Turns
+pub mod Xors
 pub mod Sealed
 pub mod Laws

@@ -1,22 +1,21 @@
 -- How one octet more changes what the division holds: one proof for every kind.
 --
---   start κ          what a check's register starts with, as octets: ones if it is conditioned, zeros if not
 --   bits-length      eight bits to an octet
 --   held-length      a register holds as many octets as the check has
 --   held_none        with no content it holds what it started with
 --   held-step        one octet more: its sum with the first octet held chooses a remainder, and the other octets move up
 --   held-turn        .. as a loop over the content has it
 --   check-is         the check is what the register holds in the end, less what it started with
---   check-is-8, check-is-16   .. for the two checks
+--   check-by         .. of a check whose register starts with so many octets of one kind
 --
 -- Assumes nothing.
-use mathlib.Core.Path.{◌≡◌, refl, sym, ap, ap₂, ◌∙◌}
+use mathlib.Core.Path.{◌≡◌, sym, ap, ap₂, ◌∙◌}
 use mathlib.Core.Bool.{Bool, true, false, cond, not}
 use mathlib.Core.List.{List, [], ◌∷◌, ◌++◌, map, head-eq_of_cons-eq, tail-eq_of_cons-eq}
 use Prim.Native.Nat.{ℕ, suc, ◌+◌, ◌*◌, ◌<◌}
 use native.Mathlib.Nat.{mul-suc}
 use native.Mathlib.Omega.{arith}
-use lib.Bits.{bit_xor, xor_zero_r}
+use lib.Bits.{bit_xor}
 use lib.ListN.{length, get_or, take, drop, replicate, length-append, length-replicate, length-drop, take-append-drop}
 use lib.Seq.{length-take-le, take-suc}
 use Rattle.algebra.specs.Division.{sum, remainder}
@@ -25,8 +24,8 @@ use Rattle.algebra.proofs.Laws.{register-length, register-none, register_more, r
 use Rattle.codeword.specs.CodeWord.{Octets}
 use Rattle.checks.specs.Binary.{𝔹}
 use Rattle.checks.specs.Bits.{bits_of, bits, number, octets_of}
-use Rattle.checks.specs.Check.{Kind, width, generator, plain, preset, check_bits, check_of, eight, sixteen}
-use Rattle.checks.specs.Steps.{held, remainder_of, xors}
+use Rattle.checks.specs.Check.{Kind, width, generator, plain, preset, check_bits, check_of}
+use Rattle.checks.specs.Steps.{held, start, remainder_of, xors}
 use Rattle.checks.proofs.Remainders.{generator-length, plain-length}
 use Rattle.checks.proofs.Octets.{bits_of-length, sum_bits_of, bits-snoc, octets_of-length, octets_of-cons, octets_of-snoc, octets_of-sum, bits-octets_of}
 use Rattle.checks.proofs.Octets.{octets_of-bits, not-sum, sum_zeros}
@@ -121,10 +120,7 @@ module _ (κ : Kind) where
 
   -- ---- the check
 
-  unfoldable pub start : List ℕ
-  start = octets_of κ.octets (replicate (width κ) κ.conditioned)
-
-  start-bits : bits start ≡ replicate (width κ) κ.conditioned
+  start-bits : bits (start κ) ≡ replicate (width κ) κ.conditioned
   unfolding start
   start-bits = bits-octets_of κ.octets (replicate (width κ) κ.conditioned) (length-replicate (width κ) κ.conditioned)
 
@@ -155,27 +151,15 @@ module _ (κ : Kind) where
           ap (map not) (sym (started_true c)) ∙ not-sum (started c true) ∙ ap (λ (n : ℕ). sum 𝔹 (started c true) (replicate n true)) (started-length c true)
       go false = sym (started_false c) ∙ sym (sum_zeros (width κ) (started c false))
 
-  pub check-is : (u : List ℕ) → check_of κ u ≡ xors (held κ start u) start
+  pub check-is : (u : List ℕ) → check_of κ u ≡ xors (held κ (start κ) u) (start κ)
   unfolding check_of held start started
   check-is u =
       ap (octets_of κ.octets) (check-bits (bits u))
       ∙ octets_of-sum κ.octets (started (bits u) κ.conditioned) (replicate (width κ) κ.conditioned)
       (started-length (bits u) κ.conditioned ∙ sym (length-replicate (width κ) κ.conditioned))
-      ∙ ap (λ (q : List Bool). xors (octets_of κ.octets (register 𝔹 g q (bits u))) start) (sym start-bits)
+      ∙ ap (λ (q : List Bool). xors (octets_of κ.octets (register 𝔹 g q (bits u))) (start κ)) (sym start-bits)
 
--- ---- the two checks
+-- ---- a check whose register starts with n octets a
 
-pub check-is-8 : (r : ℕ) (u : List ℕ) → r ∷ [] ≡ held eight (0 ∷ []) u → r ∷ [] ≡ check_of eight u
-unfolding number octets_of start eight
-check-is-8 r u e = sym (ap (λ (x : ℕ). x ∷ []) (xor_zero_r r)) ∙ ap (λ (x : List ℕ). xors x (0 ∷ [])) e ∙ sym (check-is eight u)
-
-pub check-is-16 : (r u : List ℕ) → r ≡ held sixteen (255 ∷ 255 ∷ []) u
-    → bit_xor (get_or r 0 0) 255 ∷ bit_xor (get_or r 1 0) 255 ∷ [] ≡ check_of sixteen u
-unfolding number octets_of start sixteen
-check-is-16 r u e = both r (ap length e ∙ held-length sixteen (255 ∷ 255 ∷ []) u) ∙ ap (λ (x : List ℕ). xors x (255 ∷ 255 ∷ [])) e ∙ sym (check-is sixteen u)
-  where
-    both : (r : List ℕ) → length r ≡ 2 → bit_xor (get_or r 0 0) 255 ∷ bit_xor (get_or r 1 0) 255 ∷ [] ≡ xors r (255 ∷ 255 ∷ [])
-    both [] l = absurd (omega arith)
-    both (x ∷ []) l = absurd (omega arith)
-    both (x ∷ y ∷ []) l = refl
-    both (x ∷ y ∷ z ∷ r) l = absurd (omega arith)
+pub check-by : (κ : Kind) (n a : ℕ) (r u : List ℕ) → start κ ≡ replicate n a → r ≡ held κ (replicate n a) u → xors r (replicate n a) ≡ check_of κ u
+check-by κ n a r u s e = rw e (ap (λ (x : List ℕ). xors (held κ x u) x) (sym s) ∙ sym (check-is κ u))

@@ -3,8 +3,8 @@
 --   worked κ x   `remainder_of κ x`; who unfolds this computes it
 --   leaves κ f   the test of all 256 octets: is f x the remainder of the octet x, by the check κ?
 --   leaves_at    .. if so, it is
---   left8 x      the remainder by the generator of the check of 8 bits, as src/lib.rt works it out; `left8-is`: it is
---   left16 x     .. of 16 bits; `left16-is`
+--   left8 x      the remainder by the generator of the check of 8 bits, as src/rules.rt works it out; `left8_is`: it is
+--   left16 x     .. of 16 bits; `left16_is`
 --
 -- Assumes nothing.
 use mathlib.Core.Path.{◌≡◌, refl, ◌∙◌}
@@ -39,15 +39,15 @@ left8 x =
     let q : ℕ = bit_xor (bit_xor x (x * 64 % 256)) (x * 128 % 256) in
     bit_xor (bit_xor q (q / 2)) (q / 4) ∷ []
 
-pub left8-is : (x : ℕ) → x < 256 → left8 x ≡ remainder_of eight x
+pub left8_is : (x : ℕ) → x < 256 → left8 x ≡ remainder_of eight x
 unfolding worked
-left8-is = leaves_at eight left8 tt
+left8_is = leaves_at eight left8 tt
 
 abbrev pub left16 : ℕ → List ℕ
 left16 x =
     let q : ℕ = bit_xor x (x * 16 % 256) in
     bit_xor (q / 16) (q * 8 % 256) ∷ bit_xor q (q / 32) ∷ []
 
-pub left16-is : (x : ℕ) → x < 256 → left16 x ≡ remainder_of sixteen x
+pub left16_is : (x : ℕ) → x < 256 → left16 x ≡ remainder_of sixteen x
 unfolding worked
-left16-is = leaves_at sixteen left16 tt
+left16_is = leaves_at sixteen left16 tt

@@ -1,6 +1,7 @@
 -- A check as it stands behind its content.
 --
 --   check8-once       there is one of 8 bits
+--   octets_most       a check has at most two octets
 --   check-length      it has the octets of its kind
 --   check_octets      .. and they are octets
 --   check-part        of a list that begins with the check, the part of that length is the check
@@ -22,8 +23,17 @@ use lib.Seq.{drop-length, take_all, take_at, drop_at}
 use Rattle.octets.specs.Same.{same, same_self}
 use Rattle.octets.specs.Written.{written, written_front, written_next}
 use Rattle.checks.specs.Bits.{octets_of}
-use Rattle.checks.specs.Check.{Kind, eight, check_of, agrees}
+use Rattle.checks.specs.Check.{Kind, none, eight, sixteen, check_of, agrees}
+use Rattle.checks.specs.Width.{kind_of}
+use Rattle.checks.specs.declared.Width.{Width}
+use Rattle.checks.specs.declared.Width.TheVariants.{Zero, Eight, Sixteen}
 use Rattle.checks.proofs.Octets.{octets_of-length, octets_of-lt}
+
+pub octets_most : (w : Width) → (kind_of w).octets ≤ 2
+unfolding none eight sixteen
+octets_most Zero = omega arith
+octets_most Eight = omega arith
+octets_most Sixteen = omega arith
 
 pub check8-once : (u : List ℕ) (a b : ℕ) → a ∷ [] ≡ check_of eight u → b ∷ [] ≡ check_of eight u → a ≡ b
 check8-once u a b p q = head-eq_of_cons-eq (p ∙ sym q)

@@ -1,10 +1,11 @@
--- One turn of a loop that folds octets where they lie, and the two generators, which fold.
+-- One turn of each loop: of the one that takes octets into a register, and of the one that folds octets where they lie; and the two generators,
+-- which fold.
 --
+--   held-turned   the register takes an octet
 --   turn          the octet at a place is added to those behind it where the generator has its terms: what is left of the octets from there on is
 --                 what is left of those behind it
 --   turn_octets   .. and octets they stay
 --   rest          the last 16 octets, as they are cut out
---   started       a start of two octets, added to the first two; unstarted: of zeros
 --   folds8, folds16     the generators of the two checks: tested of every octet
 --
 -- Assumes nothing.
@@ -15,7 +16,7 @@ use Prim.Native.Nat.{ℕ, suc, ◌+◌, ◌-◌, ◌≤◌, ◌<◌}
 use native.Mathlib.Numerals.{add-one}
 use native.Mathlib.Nat.{zero-add}
 use native.Mathlib.Omega.{arith}
-use lib.Bits.{bit_xor, xor_zero_r}
+use lib.Bits.{bit_xor}
 use lib.Dec.{T, lit<}
 use lib.ListN.{length, get_or, set, take, drop, replicate, length-set, length-replicate, length-drop, get_or-replicate}
 use lib.Seq.{drop-cons, get_or-take, get_or-set_other, length-take-le}
@@ -26,11 +27,23 @@ use Rattle.octets.specs.Every.{every, every_at}
 use Rattle.octets.specs.Same.{same, same-equal}
 use Rattle.checks.specs.Bits.{is_odd, bits_of, bits, number, octets_of}
 use Rattle.checks.specs.Check.{Kind, generator, plain, eight, sixteen}
-use Rattle.checks.specs.Steps.{left, xors, added, Folds}
-use Rattle.checks.proofs.Fold.{fold, flip, added_none, added-set, flip-part, flip_octets, part_octets, xors-nothing}
+use Rattle.checks.specs.Steps.{held, left, remainder_of, turned, added, Folds}
+use Rattle.checks.proofs.Octets.{octets_of-length}
+use Rattle.checks.proofs.Residue.{held-length, held-turn}
+use Rattle.checks.proofs.Xors.{moved}
+use Rattle.checks.proofs.Fold.{fold, flip, added_none, added-set, flip-part, flip_octets, part_octets}
 
 abbrev none : ℕ → List Bool
 none n = replicate n false
+
+pub held-turned : (κ : Kind) (s content t : List ℕ) (i : ℕ) → length s ≡ κ.octets → 0 < κ.octets → i < length content → get_or content i 0 < 256
+    → t ≡ held κ s (take i content) → turned κ t (get_or content i 0) ≡ held κ s (take (suc i) content)
+unfolding remainder_of
+held-turned κ s content [] i full some within octet e = absurd (omega (arith, held-length κ s (take i content), ap length e))
+held-turned κ s content (h ∷ r) i full some within octet e =
+    let o = get_or content i 0 in
+    let l : κ.octets ≡ suc (length r) = sym (ap length e ∙ held-length κ s (take i content)) in
+    sym (moved r (remainder_of κ (bit_xor h o)) (octets_of-length κ.octets _ ∙ l)) ∙ held-turn κ s full (length r) l content i h r within octet e
 
 pub turn_octets : (a x y z : ℕ) (w : List ℕ) → a < 256 → Octets w → Octets (flip a z (flip a y (flip a x w)))
 turn_octets a x y z w l o = flip_octets a z (flip a y (flip a x w)) l (flip_octets a y (flip a x w) l (flip_octets a x w l o))
@@ -104,22 +117,6 @@ pub rest : (n i : ℕ) (w : List ℕ) → i + 16 ≡ n → take 16 (drop i w) �
 rest n i w e =
     let k : 16 ≡ n - i = omega arith in
     ap₂ (λ (j m : ℕ). take j (drop m w)) k (sym (zero-add i)) ∙ part-next i n 0 w (omega arith)
-
--- ---- the start
-
-both : (a : ℕ) (u : List ℕ) → 2 ≤ length u → flip a 1 (flip a 0 u) ≡ xors u (a ∷ a ∷ [])
-both a [] l = absurd (omega arith)
-both a (x ∷ []) l = absurd (omega arith)
-both a (x ∷ y ∷ u) l = ap (λ (v : List ℕ). bit_xor x a ∷ bit_xor y a ∷ v) (sym (xors-nothing u))
-
-pub started : (a n : ℕ) (w u : List ℕ) → take n w ≡ u → 2 ≤ length u → 2 ≤ n → take n (flip a 1 (flip a 0 w)) ≡ xors u (a ∷ a ∷ [])
-started a n w u e l h =
-    flip-part a 0 1 n (flip a 0 w) (omega arith) ∙ ap (flip a 1) (flip-part a 0 0 n w (omega arith) ∙ ap (flip a 0) e) ∙ both a u l
-
-pub unstarted : (u : List ℕ) → xors u (0 ∷ 0 ∷ []) ≡ u
-unstarted [] = refl
-unstarted (x ∷ []) = ap (λ (a : ℕ). a ∷ []) (xor_zero_r x)
-unstarted (x ∷ y ∷ u) = ap₂ (λ (a : ℕ) (v : List ℕ). a ∷ v) (xor_zero_r x) (ap₂ (λ (b : ℕ) (v : List ℕ). b ∷ v) (xor_zero_r y) (xors-nothing u))
 
 -- ---- the two checks
 

@@ -7,20 +7,20 @@
 //
 // Then a register of the remainder, its highest coefficient in bit 1 of the first octet, takes the octets that are left. The octet that
 // comes is added to the first octet of the register; the remainder of that sum is added to the register's other octets, which move up.
-//
-// A remainder is worked out by shifting and adding. An octet's highest coefficient is its lowest bit, so that a shift to the right by k
-// bits is the product with x^k, and a shift to the left what x^-k times the octet has at x^0 and above. The octet times x^w is q times the
-// generator, and a remainder below x^w: q is the octet, and what the generator's lower terms times q have at x^w and above (which hangs on
-// the highest coefficients alone, in which q and the octet agree); the remainder is what they have below it.
 #![tactic(auto)]
 
+mod rules; // rules.rt: what tells one check from another
 pub mod seals; // seals.rt: a check behind its octets
+mod terms; // terms.rt: where a generator has its terms
 
-ghost use Rattle.std.specs.Prelude.{◌≡◌, [], ◌∷◌, ◌++◌, ◌+◌, ◌-◌, ◌≤◌, length, take, drop, replicate};
+ghost use Rattle.std.specs.Prelude.{◌≡◌, ◌++◌, ◌+◌, ◌-◌, ◌≤◌, ◌<◌, length, take, drop, replicate};
 ghost use Rattle.codeword.specs.CodeWord.{Octets};
-ghost use Rattle.checks.specs.Check.{Kind, eight, sixteen, check_of};
-ghost use Rattle.checks.specs.Steps.{held, left, remainder_of, xors, Folds};
+ghost use Rattle.checks.specs.Check.{Kind, check_of};
+ghost use Rattle.checks.specs.Steps.{held, left, turned, xors, Folds};
 ghost use Rattle.checks.specs.Width.{kind_of, width_of};
+
+use rules::{Eight, Rule, Sixteen};
+use terms::Terms;
 
 // The most octets that are folded: as many as the longest unit of AL1 and AL2 has.
 const LONGEST: usize = 1024;
@@ -29,33 +29,28 @@ const LONGEST: usize = 1024;
 const FOLDED: usize = 16;
 
 // The width of a check: 0 bits are no check.
-#[derive(Clone, Copy)]
+#[derive(Clone, Copy, Debug, PartialEq, Eq)]
 pub enum Width {
     Zero,
     Eight,
     Sixteen,
 }
 
-// A width that is asked for by its number of bits.
-#[derive(Clone, Copy)]
-pub enum Asked {
-    Known(Width),
-    Unknown,
-}
-
-// The width of n bits.
-pub fn width_of(n: u32) -> Asked
+// The width of n bits, where there is one.
+#[tactic(auto, unfolding(crate::specs::Width::width_of))]
+pub fn width_of(n: u32) -> Option<Width>
     ensures { result ≡ width_of n }
 {
     match n {
-        0 => Asked::Known(Width::Zero),
-        8 => Asked::Known(Width::Eight),
-        16 => Asked::Known(Width::Sixteen),
-        _ => Asked::Unknown,
+        0 => Some(Width::Zero),
+        8 => Some(Width::Eight),
+        16 => Some(Width::Sixteen),
+        _ => None,
     }
 }
 
 // How many octets a check has.
+#[tactic(auto, unfolding(crate::specs::Check::none, crate::specs::Check::eight, crate::specs::Check::sixteen))]
 pub fn octets_of(width: Width) -> usize
     ensures { result ≡ (kind_of width).octets }
 {
@@ -66,121 +61,88 @@ pub fn octets_of(width: Width) -> usize
     }
 }
 
-// The remainder of x^8 times the octet x by x^8 + x^2 + x + 1.
-fn remainder8(x: u8) -> u8
-    ensures { result ∷ [] ≡ remainder_of eight x }
+// Adds the octets to the first of these.
+fn add(to: &mut [u8], octets: &[u8])
+    requires { length octets.now ≤ length to.old }
+    ensures { to.new ≡ xors to.old octets.now }
 {
-    let q = x ^ (x << 6) ^ (x << 7);
-    q ^ (q >> 1) ^ (q >> 2)
-}
-
-// The remainder of x^16 times the octet x by x^16 + x^12 + x^5 + 1.
-fn remainder16(x: u8) -> [u8; 2]
-    ensures { result ≡ remainder_of sixteen x }
-{
-    let q = x ^ (x << 4);
-    [(q >> 4) ^ (q << 3), q ^ (q >> 5)]
-}
-
-// What the division by the generator of the check of 8 bits holds, started with a zero, once it has taken the content.
-fn divide8(content: &[u8]) -> u8
-    ensures { result ∷ [] ≡ held eight (0 ∷ []) content.now }
-{
-    let mut first = 0u8;
-    let mut i = 0;
-    while i < content.len() {
-        first = remainder8(first ^ content[i]);
-        i += 1;
+    for k in 0..octets.len() {
+        to[k] ^= octets[k];
     }
-    first
 }
 
-// .. of 16 bits, started with the octet `start` twice.
-fn divide16(content: &[u8], start: u8) -> [u8; 2]
-    ensures { result ≡ held sixteen (start ∷ start ∷ []) content.now }
+// What the register holds once it has taken one octet more: the others move up.
+fn turn<const N: usize, R: Rule<N>>(register: [u8; N], octet: u8) -> [u8; N]
+    requires { 0 < N }
+    ensures { result ≡ turned R.kind register.entry octet }
 {
-    let mut first = start;
-    let mut second = start;
-    let mut i = 0;
-    while i < content.len() {
-        let r = remainder16(first ^ content[i]);
-        first = second ^ r[0];
-        second = r[1];
-        i += 1;
-    }
-    [first, second]
+    let mut next = R::remainder(register[0] ^ octet);
+    let others = register.as_slice();
+    add(&mut next, &others[1..]);
+    next
 }
 
-// The content, at the front of an array of octets.
-fn laid(content: &[u8]) -> [u8; LONGEST]
-    requires { length content.now ≤ 1024 }
-    ensures { take (length content.now) result ≡ content.now × Octets result }
+// What the register holds once it has taken the content, octet by octet.
+fn take<const N: usize, R: Rule<N>>(content: &[u8], start: [u8; N]) -> [u8; N]
+    requires { (0 < N) × (R.kind.octets ≡ N) }
+    ensures { result ≡ held R.kind start.entry content.now }
+{
+    let mut register = start;
+    for octet in content {
+        register = turn::<N, R>(register, *octet);
+    }
+    register
+}
+
+// The content at the front of an array of octets, with the start added to its first octets.
+fn laid<const N: usize>(content: &[u8], start: [u8; N]) -> [u8; LONGEST]
+    requires { (N ≤ length content.now) × (length content.now ≤ 1024) }
+    ensures { take (length content.now) result ≡ xors content.now start.entry }
 {
     let mut w = [0u8; LONGEST];
     octets::write(&mut w, 0, content);
+    add(&mut w, &start);
     w
 }
 
-// The 16 octets from `at` on.
-fn sixteen_at(w: &[u8; LONGEST], at: usize) -> [u8; FOLDED]
-    requires { at + 16 ≤ 1024 }
-    ensures { result ≡ take 16 (drop at w.now) }
+// The same, folded by a generator with these terms: its last sixteen octets leave what it left.
+fn folded<const N: usize>(content: &[u8], start: [u8; N], terms: Terms) -> [u8; LONGEST]
+    requires { (16 ≤ length content.now) × (length content.now ≤ 1024) × (N ≤ 16) }
+    ensures { (κ : Kind) → Folds κ terms.near terms.middle terms.far
+        → left κ (take 16 (drop (length content.now - 16) result)) ≡ left κ (xors content.now start.entry) }
 {
-    let all = &w[..];
-    let mut r = [0u8; FOLDED];
-    octets::write(&mut r, 0, &all[at..at + FOLDED]);
-    r
-}
-
-// Sixteen octets that leave what the content leaves, with `ones` added to its first two octets, by a generator that has its terms `near`,
-// `middle` and `far` places behind the highest.
-fn folded(content: &[u8], ones: u8, near: usize, middle: usize, far: usize) -> [u8; FOLDED]
-    requires { (16 ≤ length content.now) × (length content.now ≤ 1024) × (near ≤ 16) × (middle ≤ 16) × (far ≤ 16) }
-    ensures { (κ : Kind) → Folds κ near middle far → left κ result ≡ left κ (xors content.now (ones ∷ ones ∷ [])) }
-{
-    let mut w = laid(content);
-    w[0] = w[0] ^ ones;
-    w[1] = w[1] ^ ones;
-    let n = content.len();
-    let mut i: usize = 0;
-    while i + FOLDED < n {
+    let mut w = laid(content, start);
+    for i in 0..content.len() - FOLDED {
         let a = w[i];
-        w[i + near] = w[i + near] ^ a;
-        w[i + middle] = w[i + middle] ^ a;
-        w[i + far] = w[i + far] ^ a;
-        i += 1;
+        w[i + terms.near] ^= a;
+        w[i + terms.middle] ^= a;
+        w[i + terms.far] ^= a;
     }
-    sixteen_at(&w, i)
+    w
 }
 
-// The check of 8 bits.
-pub fn check8(content: &[u8]) -> u8
-    ensures { result ∷ [] ≡ check_of eight content.now }
+// What the register holds once it has taken the content, which is folded before where it may be.
+fn divide<const N: usize, R: Rule<N>>(content: &[u8], start: [u8; N]) -> [u8; N]
+    requires { (0 < N) × (N ≤ 16) × (R.kind.octets ≡ N) }
+    ensures { result ≡ held R.kind start.entry content.now }
 {
-    if content.len() < FOLDED || LONGEST < content.len() {
-        return divide8(content);
+    let n = content.len();
+    if n < FOLDED || LONGEST < n {
+        return take::<N, R>(content, start);
     }
-    let rest = folded(content, 0, 6, 7, 8);
-    divide8(&rest)
+    let w = folded(content, start, R::terms());
+    take::<N, R>(&w[n - FOLDED..n], [0; N])
 }
 
-// What the division for the check of 16 bits holds in the end: it starts with ones.
-fn held16(content: &[u8]) -> [u8; 2]
-    ensures { result ≡ held sixteen (255 ∷ 255 ∷ []) content.now }
+// The check by a rule: what the register holds in the end, less what it started with.
+fn check_by<const N: usize, R: Rule<N>>(content: &[u8]) -> [u8; N]
+    requires { (0 < N) × (N ≤ 16) × (R.kind.octets ≡ N) }
+    ensures { result ≡ check_of R.kind content.now }
 {
-    if content.len() < FOLDED || LONGEST < content.len() {
-        return divide16(content, 255);
-    }
-    let rest = folded(content, 255, 4, 11, 16);
-    divide16(&rest, 0)
-}
-
-// The check of 16 bits: the complement of that.
-pub fn check16(content: &[u8]) -> [u8; 2]
-    ensures { result ≡ check_of sixteen content.now }
-{
-    let r = held16(content);
-    [r[0] ^ 255, r[1] ^ 255]
+    let start = [R::ones(); N];
+    let mut held = divide::<N, R>(content, start);
+    add(&mut held, &start);
+    held
 }
 
 // The check of a width: its octets, and zeros behind them.
@@ -189,7 +151,10 @@ pub fn check(content: &[u8], width: Width) -> [u8; 2]
 {
     match width {
         Width::Zero => [0, 0],
-        Width::Eight => [check8(content), 0],
-        Width::Sixteen => check16(content),
+        Width::Eight => {
+            let [octet] = check_by::<1, Eight>(content);
+            [octet, 0]
+        }
+        Width::Sixteen => check_by::<2, Sixteen>(content),
     }
 }

@@ -7,6 +7,7 @@ ghost use Rattle.checks.specs.Width.{kind_of};
 use crate::Width;
 
 // Writes the check of the first n octets of out behind them.
+#[tactic(auto, using(crate::proofs::Sealed::octets_most))]
 pub fn seal(out: &mut [u8], n: usize, width: Width)
     requires { n + (kind_of width).octets ≤ length out.old }
     ensures { out.new ≡ written out.old n (check_of (kind_of width) (take n out.old)) }
@@ -17,6 +18,7 @@ pub fn seal(out: &mut [u8], n: usize, width: Width)
 }
 
 // Whether the last octets of whole are the check of those before.
+#[tactic(auto, using(crate::proofs::Sealed::octets_most, crate::proofs::Sealed::agrees_compared))]
 pub fn is_sealed(whole: &[u8], width: Width) -> bool
     requires { (kind_of width).octets ≤ length whole.now }
     ensures { result ≡ agrees (kind_of width) whole.now }

@@ -1,14 +1,12 @@
 -- The generator's coefficients: ratios, multiplied up, and the lower half from the upper.
 --
---   laid-at                          a power from a row of them, at any exponent
---   multiples_start, multiples-next  c, 2c, .. as exponents
---   multiples-entry                  .. of the powers in the row
+--   multiple-is                      a power of α^c by its exponent
 --   upper_start, upper-next          one block of ratios after another
 --   upper-end                        .. which are all
 --   doubled_start, doubled-next      one block of products after another, from the top
---   doubled-end, upper-doubled       .. which doubles the distance
+--   upper-doubled                    .. which doubles the distance
 --   upper_half                       over the whole distance the coefficients are there
---   far-is, far-lanes                the factor from one block of the lower half to the next
+--   far-lanes                        the factor from one block of the lower half to the next
 --   mirror_start, mirror-far         the factors of a block
 --   mirror-next                      one block of the lower half after another
 --   half_fewer                       fewer coefficients
@@ -28,14 +26,13 @@ use lib.ListN.{get_or, replicate}
 use Rattle.algebra.specs.Power.{pow, rising}
 use Rattle.algebra.proofs.Laws.{⊕-comm, ⊙_inv, ⊙-𝟙, ⊙-assoc, ⊙-comm, eq_of-sum, rooted-top, pow-zero, pow-suc, geometric_down, geometric_symmetric}
 use Rattle.field.specs.Octet as Octet
-use Rattle.field.specs.Octet.Table.{Laid}
 use Rattle.field.specs.Octet.Laws.{sum_octet, power_octet, power_zero, power-suc, power-add, power-mul}
 use Rattle.field.proofs.Laws.{power_wrap, powers_distinct}
 use Rattle.codeword.specs.Element.{elements, element, octet, α}
 use Rattle.codeword.specs.Element.Laws.{element-sum, element-product, element-inverse, element_one, element-ne}
 use Rattle.codeword.proofs.Element.Laws.{element-power, octet-pow}
 use Rattle.codeword.specs.CodeWord.{longest_word}
-use Rattle.codeword.specs.Lanes.{lanes, Lanes, Stored}
+use Rattle.codeword.specs.Lanes.{lanes, Lanes, along, Stored}
 use Rattle.codeword.specs.Register.{G, ones, room, GeneratorIs}
 use Rattle.codeword.specs.Generator.{coefficient, Upper, Doubled, Half, rise}
 use Rattle.codeword.proofs.Arrays.{replicate-is}
@@ -47,20 +44,8 @@ open elements use {Carrier as F, add as ◌⊕◌, mul as ◌⊙◌, inv, nil as
 
 -- ---- powers
 
-pub laid-at : (r : List ℕ) (k : ℕ) → Laid r → get_or r (k % Octet.order) 0 ≡ Octet.power Octet.α k
-laid-at r k h = h (k % Octet.order) (omega arith) ∙ power_wrap k
-
-pub multiples-entry : (r : List ℕ) (c at k : ℕ) {v : ℕ} → Laid r → v ≡ get_or r (at % Octet.order) 0
-    → Octet.power Octet.α at ≡ Octet.power (Octet.power Octet.α c) (suc k) → v ≡ Octet.power (Octet.power Octet.α c) (suc k)
-multiples-entry r c at k h e p = e ∙ laid-at r at h ∙ p
-
-pub multiples_start : (c : ℕ) → Octet.power Octet.α c ≡ Octet.power (Octet.power Octet.α c) 1
-multiples_start c = sym (power-mul Octet.α c 1 ∙ ap (Octet.power Octet.α) (omega arith))
-
-pub multiples-next : (c at k : ℕ) → Octet.power Octet.α at ≡ Octet.power (Octet.power Octet.α c) (suc k)
-    → Octet.power Octet.α (at + c) ≡ Octet.power (Octet.power Octet.α c) (suc (k + 1))
-multiples-next c at k p =
-    power-add Octet.α at c ∙ ap₂ Octet.product p (multiples_start c) ∙ sym (power-add _ (suc k) 1) ∙ ap (Octet.power (Octet.power Octet.α c)) (omega arith)
+pub multiple-is : (c k : ℕ) → Octet.power Octet.α (c * (k + 1) % Octet.order) ≡ Octet.power (Octet.power Octet.α c) (suc k)
+multiple-is c k = power_wrap (c * (k + 1)) ∙ ap (λ (n : ℕ). Octet.power Octet.α (c * n)) (add-one k) ∙ sym (power-mul Octet.α c (suc k))
 
 element_powers : (a d : ℕ) → element (Octet.power a d) ≡ pow elements (element a) d
 element_powers a zero = ap element (power_zero a) ∙ element_one ∙ sym (pow-zero elements _)
@@ -110,12 +95,11 @@ module _ (m k j : ℕ) (s : k + j ≡ m) (some : 0 < j) (small : j < Octet.order
       ∙ ⊙-comm elements _ _ ∙ ⊙-assoc elements _ _ _
       ∙ ap (λ (x : F). G m k ⊙ x) (⊙_inv elements divisor (one_plus-ne j some small)) ∙ ⊙-𝟙 elements _)
 
-pub upper-next : (r : List ℕ) {e o last : ℕ} {x y z a p q : List ℕ} → 2 * e < longest_word → Laid r → o < e → last ≡ get_or r (2 * e + 1) 0
-    → Lanes (λ k. get_or r (o + 1 + k) 0) x
+pub upper-next : {e o last : ℕ} {x y z a p q : List ℕ} → 2 * e < longest_word → o < e → last ≡ rise e → Lanes (along (o + 1)) x
     → Lanes (λ k. Octet.sum (get_or x k 0) last) y → Lanes (λ k. Octet.sum (get_or x k 0) 1) z
     → Lanes (λ k. Octet.product (get_or y k 0) (Octet.inverse (get_or z k 0))) a
     → Stored lanes (suc ones + o) a p q → Upper e 1 (suc ones + o) p → Upper e 1 (suc ones + (o + 16)) q
-upper-next r {e} {o} {last} {x} {y} {z} {a} {p} {q} h pw l el lx ly lz la st u = record {
+upper-next {e} {o} {last} {x} {y} {z} {a} {p} {q} h l el lx ly lz la st u = record {
   long = st.long ∙ u.long;
   each = λ i b. stored-below (λ i v. i ≤ ones + e → element v ⊙ coefficient (2 * e) (i - 1) ≡ coefficient (2 * e) i) st u.each new i (omega arith);
 }
@@ -126,8 +110,7 @@ upper-next r {e} {o} {last} {x} {y} {z} {a} {p} {q} h pw l el lx ly lz la st u =
         let j : ℕ = o + 1 + k in
         let above : 2 * e - (suc ones + o + k - 1 - ones) ≡ suc (2 * e - j) = omega arith in
         let there : 2 * e - (suc ones + o + k - ones) ≡ 2 * e - j = omega arith in
-        let n : 2 * e + 1 ≡ suc (2 * e) = omega arith in
-        rw (la.entry k b, ly.entry k b, lz.entry k b, lx.entry k b, el, pw j (omega arith), pw (2 * e + 1) (omega arith), above, there, n)
+        rw (la.entry k b, ly.entry k b, lz.entry k b, lx.entry k b, el, above, there)
         (ratio-next (2 * e) (2 * e - j) j (omega arith) (omega arith) (omega arith))
 
 pub upper-end : {e s n : ℕ} {p : List ℕ} → e ≤ n → Upper e s (suc ones + n) p → Upper e s (suc ones + e) p
@@ -155,9 +138,6 @@ doubled-next {s} {o} {l} {h} {x} {y} {a} {p₀} {p} {q} e b d lx ly la st = reco
   before = λ i m. st.before i m ∙ d.before i (omega arith);
 }
 
-pub doubled-end : {s l h n : ℕ} {p q : List ℕ} → n ≤ h → Doubled s l h p q → Doubled s l n p q
-doubled-end b d = record { long = d.long; done = λ i l m. d.done i l (omega arith); before = d.before }
-
 pub upper-doubled : {e s : ℕ} {p q : List ℕ} → Upper e s (suc ones + e) p → Doubled s (suc ones) (suc ones + e) p q → Upper e (2 * s) (suc ones + e) q
 upper-doubled {e} {s} {p} {q} u d = record { long = d.long ∙ u.long; each = each }
   where
@@ -178,13 +158,13 @@ upper_half {e} {s} {p} b u = record {
 
 -- ---- the lower half
 
-pub far-is : (r : List ℕ) (e : ℕ) → Laid r → get_or r (16 * (2 * e + 1) % Octet.order) 0 ≡ Octet.power (rise e) 16
-far-is r e h =
-    laid-at r (16 * (2 * e + 1)) h ∙ ap (Octet.power Octet.α) (mul_comm 16 (2 * e + 1) ∙ ap (λ (n : ℕ). n * 16) (add-one (2 * e)))
+far-is : (e : ℕ) → Octet.power Octet.α (16 * (2 * e + 1) % Octet.order) ≡ Octet.power (rise e) 16
+far-is e =
+    power_wrap (16 * (2 * e + 1)) ∙ ap (Octet.power Octet.α) (mul_comm 16 (2 * e + 1) ∙ ap (λ (n : ℕ). n * 16) (add-one (2 * e)))
     ∙ sym (power-mul Octet.α (suc (2 * e)) 16)
 
-pub far-lanes : (r : List ℕ) (e : ℕ) {f : List ℕ} → Laid r → Lanes (λ k. get_or r (16 * (2 * e + 1) % Octet.order) 0) f → Lanes (λ k. Octet.power (rise e) 16) f
-far-lanes r e h lf = record { long = lf.long; entry = λ k l. lf.entry k l ∙ far-is r e h }
+pub far-lanes : (e : ℕ) {v : ℕ} {f : List ℕ} → v ≡ Octet.power Octet.α (16 * (2 * e + 1) % Octet.order) → Lanes (λ k. v) f → Lanes (λ k. Octet.power (rise e) 16) f
+far-lanes e h lf = record { long = lf.long; entry = λ k l. lf.entry k l ∙ h ∙ far-is e }
 
 pub mirror_start : (e : ℕ) {c : List ℕ} → Lanes (λ k. Octet.power (Octet.power Octet.α (2 * e + 1)) (suc k)) c → Lanes (λ k. Octet.power (rise e) (suc (0 + k))) c
 mirror_start e lc = record {

@@ -26,7 +26,6 @@ use Rattle.algebra.specs.Interpolation.{quo, total, part, interpolated}
 use Rattle.algebra.proofs.Laws.{⊕-comm, ⊙-comm, ⊙-assoc, ⊙_inv, ⊙-𝟙, ⊙-𝟘, ev_zero, from_zero, horner, below-rooted, quo-next, below-quo, odds-at, rising-at}
 use Rattle.algebra.proofs.Laws.{total-zero, total-same, total_more, part-is, part_value, part-ne, interpolated-at, interpolated-remainder}
 use Rattle.field.specs.Octet as Octet
-use Rattle.field.specs.Octet.Table.{Laid}
 use Rattle.field.specs.Octet.Laws.{sum_octet, product_octet}
 use Rattle.codeword.specs.Element.{elements, element, α}
 use Rattle.codeword.specs.Element.Laws.{element-sum, element-product, element-inverse, element-zero}
@@ -34,13 +33,13 @@ use Rattle.codeword.proofs.Element.Laws.{element-power}
 use Rattle.codeword.specs.CodeWord.{longest_word, word}
 use Rattle.codeword.specs.Places.{value}
 use Rattle.codeword.specs.Syndromes.{SyndromesAre}
-use Rattle.codeword.specs.Lanes.{lanes, Lanes, Summed}
-use Rattle.codeword.specs.Register.{G, ones, GeneratorIs, RemainderIs}
-use Rattle.codeword.specs.Interpolation.{points, ElementLanes, divisor, share, PartsAdded, Interpolates, Raised}
+use Rattle.codeword.specs.Lanes.{lanes, Lanes, along, Summed}
+use Rattle.codeword.specs.Register.{Padded, G, ones, GeneratorIs, RemainderIs}
+use Rattle.codeword.specs.Interpolation.{points, ElementLanes, divisor, share, PartsAdded, Interpolates}
 use Rattle.codeword.proofs.Arrays.{replicate-at, zeros, zeros-at, zeros_octets, octets-set, set_below}
 use Rattle.codeword.proofs.Word.{below_word}
 use Rattle.codeword.proofs.Criterion.{rising-distinct}
-use Rattle.codeword.proofs.Parity.{raised-word, stretch-at, below_stretch}
+use Rattle.codeword.proofs.Parity.{padded-word, stretch-at, below_stretch}
 
 infixl 60 ◌⊕◌
 infixl 70 ◌⊙◌
@@ -151,16 +150,16 @@ interpolates_start = record {
   unused = λ i l. zeros-at i;
 }
 
-point_at : (r x : List ℕ) (o : ℕ) → Laid r → o + lanes ≤ longest_word → Lanes (λ k. get_or r (o + 1 + k) 0) x → (k : ℕ) → k < lanes → element (get_or x k 0) ≡ points (o + k)
-point_at r x o pw b lx k l =
+point_at : (x : List ℕ) (o : ℕ) → Lanes (along (o + 1)) x → (k : ℕ) → k < lanes → element (get_or x k 0) ≡ points (o + k)
+point_at x o lx k l =
     let z : o + 1 + k ≡ suc (o + k) = omega arith in
-    ap element (lx.entry k l ∙ pw (o + 1 + k) (omega arith) ∙ ap (Octet.power Octet.α) z) ∙ element-power (suc (o + k)) ∙ sym (rising-at elements α (o + k))
+    ap element (lx.entry k l ∙ ap (Octet.power Octet.α) z) ∙ element-power (suc (o + k)) ∙ sym (rising-at elements α (o + k))
 
-pub interpolates-next : (r : List ℕ) (e o : ℕ) {x d v w s p q : List ℕ} → o + lanes ≤ longest_word → Laid r → Lanes (λ k. get_or r (o + 1 + k) 0) x
+pub interpolates-next : (e o : ℕ) {x d v w s p q : List ℕ} → Lanes (along (o + 1)) x
     → ElementLanes (λ k. divisor e (element (get_or x k 0))) d → Lanes (λ k. get_or s (o + k) 0) v
     → Lanes (λ k. Octet.product (get_or v k 0) (Octet.inverse (get_or d k 0))) w → PartsAdded (2 * e) (2 * e) x w p q → Interpolates e o s p
     → Interpolates e (o + lanes) s q
-interpolates-next r e o {x} {d} {v} {w} {s} {p} {q} b pw lx vd lv lw h t = record {
+interpolates-next e o {x} {d} {v} {w} {s} {p} {q} lx vd lv lw h t = record {
   long = h.long ∙ t.long;
   octets = h.octets t.octets;
   used = λ i l.
@@ -177,21 +176,21 @@ interpolates-next r e o {x} {d} {v} {w} {s} {p} {q} b pw lx vd lv lw h t = recor
     taken k l =
         ap element (lw.entry k l) ∙ element-product _ _
         ∙ ap₂ (λ (y z : F). y ⊙ z) (ap element (lv.entry k l))
-        (element-inverse _ (vd.octet k l) ∙ ap inv (vd.is k l ∙ ap (divisor e) (point_at r x o pw b lx k l)))
+        (element-inverse _ (vd.octet k l) ∙ ap inv (vd.is k l ∙ ap (divisor e) (point_at x o lx k l)))
 
     term : (c k : ℕ) → k < lanes → element (get_or w k 0) ⊙ quo elements m (G m) (element (get_or x k 0)) c ≡ share e s (o + k) ⊙ part elements m points (o + k) c
     term c k l =
         ap₂ (λ (y z : F). y ⊙ z) (taken k l)
-        (ap (λ (y : F). quo elements m (G m) y c) (point_at r x o pw b lx k l) ∙ ap (λ (f : Series elements). f c) (sym (part-is elements m points (o + k))))
+        (ap (λ (y : F). quo elements m (G m) y c) (point_at x o lx k l) ∙ ap (λ (f : Series elements). f c) (sym (part-is elements m points (o + k))))
 
-pub interpolates-end : (e o : ℕ) (u w s p : List ℕ) → length u + 2 * e ≤ longest_word → 2 * e < longest_word → 2 * e ≤ o → Raised longest_word u w
+pub interpolates-end : (e o : ℕ) (u w s p : List ℕ) → length u + 2 * e ≤ longest_word → 2 * e < longest_word → 2 * e ≤ o → Padded longest_word u w
     → SyndromesAre (2 * e) (take (length u + 2 * e) w) s → Interpolates e o s p → RemainderIs (2 * e) u p
 unfolding value
 interpolates-end e o u w s p fits small all r sy t = record {
   long = t.long;
   octets = t.octets;
   unused = t.unused;
-  remainder = subst (λ (f : Series elements). Remainder elements (G m) m f (polynomial elements (word (take m p)))) (raised-word longest_word m u w fits r)
+  remainder = subst (λ (f : Series elements). Remainder elements (G m) m f (polynomial elements (word (take m p)))) (padded-word longest_word m u w fits r)
       (subst (Remainder elements (G m) m (polynomial elements (word word_of))) (fun_ext same) is);
 }
   where

@@ -4,13 +4,11 @@
 --   Syndrome w i x                               x is syndrome i of w
 --   joined_one, joined_two                       16 of them, and 32 more
 --   joined_done                                  all of them
---   first-is                                     the first octets of a list, and zeros behind them
 --   all_zero-none, all_zero_more                   all of them zero, as far as the | of them tells
 --   zero-syndromes                               a word whose syndromes are all zero is a code word
 --
 -- Assumes nothing.
 use mathlib.Core.Path.{◌≡◌, refl, sym, ap, ◌∙◌}
-use mathlib.Core.Logic.{inr}
 use mathlib.Core.Bool.{Bool, true, false, cond}
 use mathlib.Core.List.{List}
 use Prim.Native.Nat.{ℕ, zero, suc, ◌+◌, ◌*◌, ◌%◌, ◌≤◌, ◌<◌}
@@ -22,9 +20,8 @@ use borrow.Author.Tests.{eqb-true, ne_eqb}
 use lib.Bits.{bit_or, or_add_and, or_zero_r, and_le_r, and_comm}
 use lib.Dec.{eqb}
 use lib.ListN.{length, get_or, take}
-use lib.Seq.{get_or-take, length-take-le}
 use Rattle.octets.specs.Tests.{never}
-use Rattle.octets.specs.Written.{written, written-length, written_inside, written_outside}
+use Rattle.octets.specs.Written.{written, written-length}
 use Rattle.algebra.specs.Power.{pow}
 use Rattle.algebra.specs.Polynomial.{polynomial}
 use Rattle.algebra.specs.Value.{ev}
@@ -40,6 +37,8 @@ use Rattle.codeword.specs.Rows.{spaced, column, Known, Evaluated, ColumnsAre}
 use Rattle.codeword.specs.Syndromes.{SyndromesAre, all_zero}
 use Rattle.codeword.proofs.Word.{below_word, pow_wrap}
 use Rattle.codeword.proofs.Columns.{spaced-at, Blocks, blocks-next}
+use Rattle.codeword.specs.Register.{Padded}
+use Rattle.codeword.proofs.Arrays.{padded-used, padded-unused}
 use Rattle.codeword.proofs.Criterion.{zero_code_word}
 
 -- ---- columns
@@ -90,18 +89,9 @@ joined_two n s {m} {w} {v} {a} {b} h values room low high old =
     long : length (written s n a) ≡ length s
     long = written-length s n a (omega (arith, low.long))
 
-pub first-is : (s z : List ℕ) (m : ℕ) → m ≤ length s → m ≤ length z → ((i : ℕ) → get_or z i 0 ≡ 0)
-    → ((i : ℕ) → i < m → get_or (written z 0 (take m s)) i 0 ≡ get_or s i 0) × ((i : ℕ) → m ≤ i → get_or (written z 0 (take m s)) i 0 ≡ 0)
-first-is s z m ls lz zeros =
-    let t : length (take m s) ≡ m = length-take-le m s ls in
-    let fits : 0 + length (take m s) ≤ length z = omega arith in (
-      (λ i l. ap (λ (o : ℕ). get_or (written z 0 (take m s)) o 0) (sym (zero-add i)) ∙ written_inside z 0 (take m s) fits i 0 (omega arith) ∙ get_or-take m s i 0 l),
-      (λ i l. written_outside z 0 (take m s) fits i 0 (inr (omega arith)) ∙ zeros i),
-    )
-
 pub joined_done : {n m : ℕ} {w r : List ℕ} (s : List ℕ) → m ≤ n → Blocks (Syndrome w) n m s
-    → ((i : ℕ) → i < m → get_or r i 0 ≡ get_or s i 0) × ((i : ℕ) → m ≤ i → get_or r i 0 ≡ 0) → SyndromesAre m w r
-joined_done s l h f = record { used = λ i k. ap element (f.0 i k) ∙ h i (omega arith) k; unused = f.1 }
+    → Padded longest_word (take m s) r → SyndromesAre m w r
+joined_done s l h p = record { used = λ i k. ap element (padded-used s p i k) ∙ h i (omega arith) k; unused = padded-unused s p }
 
 -- ---- all zero
 

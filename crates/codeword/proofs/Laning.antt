@@ -1,20 +1,19 @@
 -- The lanes, one after another, and stretches of them.
 --
 --   filled_start, filled_next     one entry after another
---   stored_start, stored_next     one entry written after another
+--   filled_by                     all at once, by calls that each give the entry asked for and change nothing
 --   stored-below                  what holds of every entry below o, and of each that is written, holds of every entry below o + 16
 --   summed_start, summed-next     one product after another
 --
 -- Assumes nothing.
-use mathlib.Core.Path.{◌≡◌, refl, sym, ap₂, ◌∙◌, subst}
+use mathlib.Core.Path.{◌≡◌, sym, ap₂, ◌∙◌, subst}
 use mathlib.Core.List.{List}
-use Prim.Native.Nat.{ℕ, ◌+◌, ◌-◌, ◌<◌}
+use Prim.Native.Nat.{ℕ, zero, suc, ◌+◌, ◌-◌, ◌<◌, ◌≤◌}
 use native.Mathlib.Numerals.{add-one}
 use native.Mathlib.Omega.{arith}
 use native.Mathlib.Decide.{dec_lt}
 use lib.Dec.{lit<}
 use lib.ListN.{length, get_or, set, length-set}
-use lib.Seq.{get_or-set_same, get_or-set_other}
 use Rattle.algebra.proofs.Laws.{total-zero, total-suc}
 use Rattle.field.specs.Octet as Octet
 use Rattle.field.specs.Octet.Laws.{sum_octet, product_octet}
@@ -22,6 +21,8 @@ use Rattle.codeword.specs.Element.{elements}
 use Rattle.codeword.specs.Element.Laws.{element-sum, element-product, element-zero}
 use Rattle.codeword.specs.Lanes.{lanes, Filled, Stored, Summed}
 use Rattle.codeword.proofs.Arrays.{set_below}
+use Rattle.std.specs.Array.{IsFromFnResultFrom, IsFromFnResult}
+use denote.Param.Members.{Mut, Called}
 
 infixl 60 ◌⊕◌
 infixl 70 ◌⊙◌
@@ -36,19 +37,18 @@ filled_next {z} {n} {v} {f} {r} h l e = record {
   entry = set_below (λ k y. y ≡ f k) r n v (omega (arith, h.long)) h.entry e;
 }
 
-pub stored_start : {o : ℕ} {a s : List ℕ} → Stored 0 o a s s
-stored_start = record { long = refl; written = λ k l. absurd (omega arith); before = λ i l. refl; behind = λ i l. refl }
+module _ {F : Type 0} (g : Mut F (ℕ × Unit {0}) ℕ) (f : F) (h : ℕ → ℕ) (z : ℕ)
+    (one : (k y : ℕ) (q : F) → k < z → Called g f (k, tt) y q → (y ≡ h k) × (q ≡ f)) where
+  made : (ys : List ℕ) (n i : ℕ) → i + n ≤ z → IsFromFnResultFrom g f ys i n → (k : ℕ) → i ≤ k → k < i + n → get_or ys k 0 ≡ h k
+  made ys zero i l m k low high = absurd (omega arith)
+  made ys (suc n) i l m k low high =
+      let o = one i m.1 m.0 (omega arith) m.3 in elim (dec_lt i k) [
+        | yes p ↦ made ys n (i + 1) (omega arith) (subst (λ (x : F). IsFromFnResultFrom g x ys (i + 1) n) o.1 m.4) k (omega arith) (omega arith)
+        | no p ↦ (let e : k ≡ i = omega arith in rw e (m.2.1 0 ∙ o.0))
+      ]
 
-pub stored_next : {n o v : ℕ} {a s t : List ℕ} → Stored n o a s t → o + n < length s → v ≡ get_or a n 0 → Stored (n + 1) o a s (set t (o + n) v)
-stored_next {n} {o} {v} {a} {s} {t} h l e = record {
-  long = length-set t (o + n) v ∙ h.long;
-  written = λ k m. elim (dec_lt k n) [
-    | yes p ↦ get_or-set_other t (o + n) (o + k) v 0 (omega arith) ∙ h.written k p
-    | no p ↦ (let q : k ≡ n = omega arith in rw q (get_or-set_same t (o + n) v 0 (omega (arith, h.long)) ∙ e))
-  ];
-  before = λ i m. get_or-set_other t (o + n) i v 0 (omega arith) ∙ h.before i m;
-  behind = λ i m. get_or-set_other t (o + n) i v 0 (omega arith) ∙ h.behind i (omega arith);
-}
+  pub filled_by : {ys : List ℕ} → IsFromFnResult g f ys z → Filled z z h ys
+  filled_by {ys} m = record { long = m.long; entry = λ k l. made ys z 0 (omega arith) m.each k (omega arith) (omega arith) }
 
 pub stored-below : (P : ℕ → ℕ → Type 0) {o : ℕ} {a s t : List ℕ} → Stored lanes o a s t → ((i : ℕ) → i < o → P i (get_or s i 0))
     → ((k : ℕ) → k < lanes → P (o + k) (get_or a k 0)) → (i : ℕ) → i < o + lanes → P i (get_or t i 0)

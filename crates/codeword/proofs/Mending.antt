@@ -1,6 +1,6 @@
 -- a z + q x^n v, 16 coefficients at a time from the top down, and as series.
 --
---   block-low, block-high, block-fits   where a block stands, and that it is in the array
+--   block-low, block-high           where a block stands
 --   mended_start, mended-next       one block after another
 --   kept_start, kept_next           .. of z into v
 --   part_at, part-long, part-past   the octets of a part, how many they are, and zeros past them
@@ -29,7 +29,7 @@ use Rattle.codeword.specs.Element.{elements, element}
 use Rattle.codeword.specs.Element.Laws.{element-sum, element-product, element-zero}
 use Rattle.codeword.specs.Lanes.{lanes, Lanes, Stored}
 use Rattle.codeword.specs.Places.{places}
-use Rattle.codeword.specs.Locator.{margin, HasMargin, behind, second, room, part, block_at, Among, Saved, Mended, Kept}
+use Rattle.codeword.specs.Locator.{margin, HasMargin, behind, second, part, block_at, Among, Saved, Mended, Kept}
 use Rattle.codeword.proofs.Word.{places-at}
 
 infixl 60 ◌⊕◌ ◌⊞◌
@@ -51,12 +51,6 @@ block-low low i l = rw (lt-ltb i low l)
 pub block-high : (low i : ℕ) → low ≤ i → block_at low i ≡ second + lanes * (i - low)
 unfolding block_at
 block-high low i l = rw (le-ltb i low l)
-
-pub block-fits : (low high i : ℕ) → low ≤ 8 → high ≤ 16 → i < low + high → block_at low i + lanes ≤ room
-block-fits low high i p q l = elim (dec_lt i low) [
-  | yes r ↦ omega (arith, block-low low i r)
-  | no r ↦ omega (arith, block-high low i (omega arith))
-]
 
 -- ---- block after block
 

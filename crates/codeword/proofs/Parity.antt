@@ -1,26 +1,23 @@
 -- The shift register divides in place: what stands behind octet i is the message's remainder so far, with the octets to come.
 --
---   raised_is, raised-word           the message with m zeros behind, and its polynomial
+--   padded-word                      the polynomial of the message with m zeros behind
 --   lowered_start, lowered-next      one block of a turn after another
 --   lowered-end                      .. which changes m octets
 --   dividing_start, dividing-next    one turn after another
---   copied_start, copied_next        one octet of the remainder after another
 --   stretch-at, below_stretch        n octets of a list as a polynomial, and its degree
 --   dividing-end                     at the end the remainder is left
 --
 -- Assumes nothing.
 use mathlib.Core.Path.{◌≡◌, refl, sym, ap, ap₂, fun_ext, ◌∙◌, subst}
-use mathlib.Core.Logic.{inr}
 use mathlib.Core.List.{List, [], ◌∷◌, ◌++◌}
 use Prim.Native.Nat.{ℕ, zero, suc, ◌+◌, ◌-◌, ◌≤◌, ◌<◌}
-use native.Mathlib.Nat.{zero-add}
 use native.Mathlib.Numerals.{add-one}
 use native.Mathlib.Omega.{arith}
 use native.Mathlib.Decide.{dec_le, dec_lt, ℕ_discrete}
 use lib.Dec.{lit<}
-use lib.ListN.{length, get_or, set, take, drop, replicate, length-set, length-append, length-replicate, length-drop}
-use lib.Seq.{get_or-set_other, ext_get_or, length-take-le, get_or-take, get_or-drop}
-use Rattle.octets.specs.Written.{written, written-length, written_inside, written_outside}
+use lib.ListN.{length, get_or, take, drop, replicate, length-append, length-replicate, length-drop}
+use Rattle.std.proofs.lemmas.List.{get_or_past}
+use lib.Seq.{ext_get_or, length-take-le, get_or-take, get_or-drop}
 use Rattle.algebra.specs.Series.{Below, operations}
 use Rattle.algebra.specs.Polynomial.{polynomial, raised}
 use Rattle.algebra.proofs.Laws.{⊕-𝟘, ⊕_self, ⊕-comm, ⊙-𝟙, ⊙-𝟘, ⊞-at, ⊡-at, ⊞_self, divides_nothing, divides-lowered, below-rooted, rooted-top}
@@ -31,9 +28,8 @@ use Rattle.codeword.specs.Element.{elements, element}
 use Rattle.codeword.specs.Element.Laws.{element-sum, element-product, element-zero}
 use Rattle.codeword.specs.CodeWord.{longest_word, word}
 use Rattle.codeword.specs.Lanes.{lanes, Lanes, Stored}
-use Rattle.codeword.specs.Register.{G, ones, GeneratorIs, RemainderIs, width, Lowered, behind, Dividing, Copied}
-use Rattle.codeword.specs.Interpolation.{Raised}
-use Rattle.codeword.proofs.Arrays.{replicate-at, zeros, zeros-at, set_below}
+use Rattle.codeword.specs.Register.{G, ones, GeneratorIs, RemainderIs, width, Lowered, behind, Dividing, Padded}
+use Rattle.codeword.proofs.Arrays.{replicate-at, padded-used, padded-unused}
 use Rattle.codeword.proofs.Word.{word-length, word-append, word_at}
 
 infixl 60 ◌⊕◌ ◌⊞◌
@@ -43,23 +39,6 @@ open elements use {Carrier as F, add as ◌⊕◌, mul as ◌⊙◌, nil as 𝟘
 open operations elements use {◌⊞◌, ◌⊡◌}
 
 -- ---- the message with zeros behind
-
-past_end : (u : List ℕ) (i : ℕ) → length u ≤ i → get_or u i 0 ≡ 0
-past_end [] i l = refl
-past_end (a ∷ u) zero l = absurd (omega arith)
-past_end (a ∷ u) (suc i) l = past_end u i (omega arith)
-
-pub raised_is : (z : ℕ) (u : List ℕ) → length u ≤ z → Raised z u (written (replicate z 0) 0 u)
-raised_is z u l = record {
-  long = written-length (replicate z 0) 0 u fits ∙ length-replicate {A = ℕ} z 0;
-  entry = λ i. elim (dec_lt i (length u)) [
-    | yes p ↦ ap (λ (j : ℕ). get_or (written (replicate z 0) 0 u) j 0) (sym (zero-add i)) ∙ written_inside (replicate z 0) 0 u fits i 0 p
-    | no p ↦ written_outside (replicate z 0) 0 u fits i 0 (inr (omega arith)) ∙ replicate-at z i ∙ sym (past_end u i (omega arith))
-  ];
-}
-  where
-    fits : 0 + length u ≤ length {A = ℕ} (replicate z 0)
-    fits = rw (length-replicate {A = ℕ} z 0) (omega arith)
 
 word-zeros : (m : ℕ) → word (replicate m 0) ≡ replicate m 𝟘
 unfolding word
@@ -71,9 +50,9 @@ append_at [] m i = replicate-at m i
 append_at (a ∷ u) m zero = refl
 append_at (a ∷ u) m (suc i) = append_at u m i
 
-pub raised-word : (z m : ℕ) (u w : List ℕ) → length u + m ≤ z → Raised z u w
+pub padded-word : (z m : ℕ) (u w : List ℕ) → length u + m ≤ z → Padded z u w
     → polynomial elements (word (take (length u + m) w)) ≡ raised elements m (polynomial elements (word u))
-raised-word z m u w l r =
+padded-word z m u w l r =
     ap (λ (v : List ℕ). polynomial elements (word v)) same ∙ ap (polynomial elements) (word-append u (replicate m 0) ∙ ap (λ (v : List F). word u ++ v) (word-zeros m))
     ∙ polynomial-raised elements (word u) m
   where
@@ -140,13 +119,13 @@ module _ (n i : ℕ) (w : List ℕ) (fits : i + n ≤ length w) where
   pub below_stretch : Below elements n (polynomial elements (word (take n (drop i w))))
   below_stretch = rw stretch-long at (below-polynomial elements (word (take n (drop i w))))
 
-pub dividing_start : (m : ℕ) (u w : List ℕ) → length u + m ≤ longest_word → Raised width u w → Dividing m 0 u w
+pub dividing_start : (m : ℕ) (u w : List ℕ) → length u + m ≤ longest_word → Padded width u w → Dividing m 0 u w
 dividing_start m u w l r = record {
   long = r.long;
-  octets = λ j b. rw (r.entry j ∙ past_end u j b) (lit< tt);
+  octets = λ j b. rw (r.entry j ∙ get_or_past u j 0 b) (lit< tt);
   divides =
       let z : length u + m - 0 ≡ length u + m = omega arith in
-      rw (z, raised-word width m u w (omega arith) r, ⊞_self) (divides_nothing elements (G m));
+      rw (z, padded-word width m u w (omega arith) r, ⊞_self) (divides_nothing elements (G m));
 }
 
 module _ (m i : ℕ) (u g w v : List ℕ) (gi : GeneratorIs m g) (l : i < length u) (all : length u + m ≤ longest_word) (h : Lowered m i g w v)
@@ -233,21 +212,14 @@ dividing-next {m} {i} {u} {g} {w} {v} gi l all h d =
 
 -- ---- the remainder
 
-pub copied_start : {k : ℕ} {w : List ℕ} → Copied 0 k w zeros
-copied_start = record { long = refl; used = λ j l. absurd (omega arith); unused = λ j l. zeros-at j }
-
-pub copied_next : {n k v : ℕ} {w p : List ℕ} → Copied n k w p → n < longest_word → v ≡ get_or w (k + n) 0 → Copied (n + 1) k w (set p n v)
-copied_next {n} {k} {v} {w} {p} h l e = record {
-  long = length-set p n v ∙ h.long;
-  used = set_below (λ j y. y ≡ get_or w (k + j) 0) p n v (omega (arith, h.long)) h.used e;
-  unused = λ j m. get_or-set_other p n j v 0 (omega arith) ∙ h.unused j (omega arith);
-}
-
-pub dividing-end : {m k : ℕ} {u w p : List ℕ} → k ≡ length u → length u + m ≤ longest_word → Dividing m k u w → Copied m k w p → RemainderIs m u p
+pub dividing-end : {m k : ℕ} {u w p : List ℕ} → k ≡ length u → length u + m ≤ longest_word → Dividing m k u w → Padded longest_word (take m (drop k w)) p → RemainderIs m u p
 dividing-end {m} {k} {u} {w} {p} e all d h = record {
   long = h.long;
-  octets = λ j. elim (dec_lt j m) [ yes l ↦ rw (h.used j l) (d.octets (k + j) (omega arith)) | no l ↦ rw (h.unused j (omega arith)) (lit< tt) ];
-  unused = h.unused;
+  octets = λ j. elim (dec_lt j m) [
+    | yes l ↦ rw (padded-used (drop k w) h j l, get_or-drop k w j 0) (d.octets (k + j) (omega arith))
+    | no l ↦ rw (padded-unused (drop k w) h j (omega arith)) (lit< tt)
+  ];
+  unused = padded-unused (drop k w) h;
   remainder = record {
     small = λ c l. ap (λ (v : List ℕ). polynomial elements (word v) c) (sym same) ∙ below_stretch m k w (omega (arith, d.long)) c l;
     divides = rw (ap (λ (n : ℕ). polynomial elements (word (take n (drop k w)))) (sym rest) ∙ ap (λ (v : List ℕ). polynomial elements (word v)) same) at d.divides;
@@ -260,4 +232,4 @@ dividing-end {m} {k} {u} {w} {p} e all d h = record {
     same : take m (drop k w) ≡ take m p
     same = ext_get_or 0 _ _ (length-take-le m (drop k w) (omega (arith, d.long, length-drop k w)) ∙ sym (length-take-le m p (omega (arith, h.long))))
         (λ j b. let l : j < m = omega (arith, length-take-le m (drop k w) (omega (arith, d.long, length-drop k w))) in
-        get_or-take m (drop k w) j 0 l ∙ get_or-drop k w j 0 ∙ sym (get_or-take m p j 0 l ∙ h.used j l))
+        sym (get_or-take m p j 0 l ∙ h.entry j))

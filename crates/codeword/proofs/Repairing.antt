@@ -6,7 +6,6 @@
 --   corrected_found         as many roots as its length: with Forney's values added there, the code word within e; the roots' places are those
 --                           at which it differs, and the count is right
 --   reads_true, reads_all   which words are of the code, and have room
---   refused_lost            one that is not, or has none, is out of reach
 --
 -- Assumes nothing.
 use mathlib.Core.Path.{◌≡◌, refl, sym, ap, ap₂, ◌∙◌}
@@ -41,7 +40,7 @@ use Rattle.codeword.specs.Syndromes.{SyndromesAre, all_zero}
 use Rattle.codeword.specs.Locator.{Located, LocatorIs, EvaluatorIs}
 use Rattle.codeword.specs.Search.{value_of, SearchIs}
 use Rattle.codeword.specs.Values.{OddsAre, error_of, Corrected}
-use Rattle.codeword.specs.Repair.{RepairLent, lending, has_repair_room, reads, FoundIs, OutOfReachIs}
+use Rattle.codeword.specs.Repair.{RepairLent, lending, has_repair_room, reads, FoundIs}
 use Rattle.codeword.proofs.Word.{places-at, locators-distinct, locators-inverse}
 use Rattle.codeword.proofs.Criterion.{code_word-zero, zero_code_word}
 use Rattle.codeword.proofs.Counting.{places_exactly, changed-none}
@@ -257,8 +256,3 @@ reads_all n e lent h =
     let t = three_true (leb n longest_word) (ltb (2 * e) n) (has_repair_room n e lent) h in
     let r = both_true (leb n (length lent.repair)) (leb e (length lent.places)) t.2 in
     (leb-true n longest_word t.0, ltb-true (2 * e) n t.1, leb-true n (length lent.repair) r.0, leb-true e (length lent.places) r.1)
-
-pub refused_lost : (e : ℕ) (w : List ℕ) (before : RepairLent)
-    → ((length w ≤ longest_word) × (2 * e < length w) × (length w ≤ length before.repair) × (e ≤ length before.places) → ⊥)
-    → OutOfReachIs e w before before
-refused_lost e w before no-fit = record { none = λ h. absurd (no-fit (reads_all (length w) e before h)); same = refl }

@@ -11,7 +11,7 @@
 --
 -- Assumes nothing.
 use mathlib.Core.Path.{◌≡◌, refl, sym, ap, ap₂, fun_ext, ◌∙◌}
-use mathlib.Core.Logic.{◌≢◌, inl, inr}
+use mathlib.Core.Logic.{◌≢◌, inl}
 use mathlib.Core.Bool.{true}
 use mathlib.Core.List.{List}
 use Prim.Native.Nat.{ℕ, zero, suc, ◌+◌, ◌*◌, ◌-◌, ◌≤◌, ◌<◌}
@@ -33,7 +33,8 @@ use Rattle.codeword.specs.CodeWord.{longest_word}
 use Rattle.codeword.specs.Places.{places}
 use Rattle.codeword.specs.Lanes.{lanes}
 use Rattle.codeword.specs.Locator.{margin, behind, ProductTo, second, room, part, of_c, of_d, of_b, MasseyStateIs, Mended, Kept, Stepped, LocatorIs, EvaluatorIs}
-use Rattle.codeword.proofs.Arrays.{zeros, replicate-at}
+use Rattle.codeword.specs.Register.{Padded}
+use Rattle.codeword.proofs.Arrays.{replicate-at}
 use Rattle.codeword.proofs.Word.{places-at}
 use Rattle.codeword.proofs.Mending.{part_at, part-long, part-past, behind-at, c_span, d_span, mended-at, mended-whole, kept_at, kept_whole, kept-margin}
 
@@ -186,7 +187,7 @@ module _ {e r : ℕ} {z v : List ℕ} {l shift q : ℕ} {z' v' : List ℕ} {l' s
   }
 
 pub stepped-far : {e r x : ℕ} {z v : List ℕ} {l shift q : ℕ} → x ≡ get_or z (second + r) 0 → r < 2 * e → 2 * e ≤ margin → x < Octet.size → x ≢ 0 → l + l ≤ r
-    → e < r + 1 - l → Stepped e r z v l shift q z v (r + 1 - l) 1 x
+    → e < r + 1 - l → Stepped e r z v l shift q z v (r + 1 - l) shift q
 stepped-far x-is now small octet ne few far = record {
   long = refl;
   least = λ s h. massey-far h x-is now small octet ne few;
@@ -219,9 +220,9 @@ located-far s now far h st = (
 )
 
 -- what was found, copied out of the array
-pub located-copied : (z : List ℕ) {m l : ℕ} {s c d : List ℕ} → length z ≡ room → c ≡ written zeros 0 (of_c z) → d ≡ written (replicate 256 0) 0 (of_d z)
+pub located-copied : (z : List ℕ) {m l : ℕ} {s c d : List ℕ} → length z ≡ room → Padded longest_word (of_c z) c → d ≡ written (replicate 256 0) 0 (of_d z)
     → LocatorIs m s (of_c z) l × EvaluatorIs m s (of_c z) (of_d z) l → LocatorIs m s c l × EvaluatorIs m s c d l
-located-copied z {m} {l} {s} {c} {d} long c-written d-written h = (
+located-copied z {m} {l} {s} {c} {d} long copied d-written h = (
   record {
     least = h.0.least;
     below = rw c-same h.0.below;
@@ -233,15 +234,5 @@ located-copied z {m} {l} {s} {c} {d} long c-written d-written h = (
     d-same : d ≡ of_d z
     d-same = d-written ∙ written_all (replicate 256 0) (of_d z) (length-replicate {A = ℕ} 256 0 ∙ sym (part-long second 256 z (omega arith)))
 
-    c-long : length (of_c z) ≡ 128
-    c-long = part-long 0 128 z (omega arith)
-
-    fits : 0 + length (of_c z) ≤ length zeros
-    fits = rw length-replicate (omega (arith, c-long))
-
-    entry : (k : ℕ) → Dec (k < 128) → get_or c (0 + k) 0 ≡ get_or (of_c z) k 0
-    entry k (yes p) = rw c-written (written_inside zeros 0 (of_c z) fits k 0 (omega (arith, c-long)))
-    entry k (no p) = rw c-written (written_outside zeros 0 (of_c z) fits (0 + k) 0 (inr (omega (arith, c-long)))) ∙ replicate-at longest_word (0 + k) ∙ sym (part-past 0 128 k z (omega arith))
-
     c-same : places c ≡ places (of_c z)
-    c-same = fun_ext (λ k. let e : 0 + k ≡ k = omega arith in places-at c k ∙ ap element (rw e at (entry k (dec_lt k 128))) ∙ sym (places-at (of_c z) k))
+    c-same = fun_ext (λ k. places-at c k ∙ ap element (copied.entry k) ∙ sym (places-at (of_c z) k))

@@ -9,26 +9,27 @@
 --   register_parity               what the register holds at the end is the parity
 --   encoded-unique                any two answers that encoding's promise allows are equal, what is left in the lent octets included
 --   encodes_true, encodes-all     what fits
---   encoded_refused, encoded_done the two cases of the promise
---   encoded-is                    .. and what it says where the message fits
+--   encoded_done                  what fits is encoded
+--   encoded-is                    what the promise says where the message fits
 --
 -- Assumes nothing.
-use mathlib.Core.Path.{◌≡◌, refl, sym, ap, ◌∙◌, subst}
-use mathlib.Core.Bool.{Bool, true, false}
+use mathlib.Core.Path.{◌≡◌, refl, sym, ap, ◌∙◌}
+use mathlib.Core.Bool.{true}
 use mathlib.Core.List.{List, [], ◌∷◌, ◌++◌}
 use Prim.Native.Nat.{ℕ, zero, suc, ◌+◌, ◌*◌, ◌≤◌, ◌<◌}
+use Rattle.std.specs.Prelude.{Option, Some, None}
 use native.Mathlib.Omega.{arith}
 use borrow.Author.Tests.{lt-ltb, le-leb, ltb-true, leb-true}
 use lib.Dec.{leb, ltb}
 use lib.ListN.{length, take, drop, length-drop, take-append-drop}
 use lib.Seq.{length-take-le}
-use Rattle.octets.specs.Tests.{three_true}
+use Rattle.octets.specs.Tests.{never, three_true}
 use Rattle.octets.specs.Written.{written}
 use Rattle.algebra.specs.Polynomial.{polynomial, raised}
 use Rattle.algebra.proofs.Laws.{below-rooted, rooted-top, remainder_unique, polynomial-append, polynomial-same}
 use Rattle.codeword.specs.Element.{elements}
 use Rattle.codeword.specs.CodeWord.{longest_word, generator, word, Octets, CodeWord}
-use Rattle.codeword.specs.Encoding.{Parity, encodes, Done, Left, either, Encoded}
+use Rattle.codeword.specs.Encoding.{Parity, encodes, Done, Encoded}
 use Rattle.codeword.specs.Register.{RemainderIs}
 use Rattle.codeword.proofs.Word.{word-length, word-append, word_same, below_word}
 
@@ -94,40 +95,30 @@ pub register_parity : (e : ℕ) (u p : List ℕ) → 2 * e ≤ length p → Rema
 unfolding generator
 register_parity e u p l r = record { long = length-take-le (2 * e) p l; octets = octets-take (2 * e) p r.octets; remainder = r.remainder }
 
-pub encoded-unique : (e : ℕ) (u before : List ℕ) (n m : ℕ) (after left : List ℕ)
-    → Encoded e u before n after → Encoded e u before m left → (n ≡ m) × (after ≡ left)
-encoded-unique e u before n m after left = go (encodes (length u) e (length before))
-  where
-    go : (b : Bool) → either b (Done e u before n after) (Left n before after) → either b (Done e u before m left) (Left m before left)
-        → (n ≡ m) × (after ≡ left)
-    go true p q = (
-      p.count ∙ sym q.count,
-      p.written_is ∙ ap (λ (x : List ℕ). written before 0 (u ++ x)) (parity_unique e u _ _ p.right q.right)
-          ∙ sym q.written_is,
-    )
-    go false p q = (p.count ∙ sym q.count, p.same ∙ sym q.same)
+pub encoded-unique : (e : ℕ) (u before : List ℕ) (r q : Option ℕ) (after left : List ℕ)
+    → Encoded e u before r after → Encoded e u before q left → (r ≡ q) × (after ≡ left)
+encoded-unique e u before (Some n) (Some m) after left p q = (
+  ap Some (p.1.count ∙ sym q.1.count),
+  p.1.written_is ∙ ap (λ (x : List ℕ). written before 0 (u ++ x)) (parity_unique e u _ _ p.1.right q.1.right) ∙ sym q.1.written_is,
+)
+encoded-unique e u before (Some n) None after left p q = let a = p.0 in let b = q.0 in never (cc)
+encoded-unique e u before None (Some m) after left p q = let a = p.0 in let b = q.0 in never (cc)
+encoded-unique e u before None None after left p q = (refl, p.1 ∙ sym q.1)
 
 pub encodes_true : (k e room : ℕ) → 0 < k → k + 2 * e ≤ longest_word → k + 2 * e ≤ room → encodes k e room ≡ true
 encodes_true k e room some all fits = rw (lt-ltb 0 k some, le-leb (k + 2 * e) longest_word all, le-leb (k + 2 * e) room fits)
 
-pub encoded-is : (e : ℕ) (u before after : List ℕ) (n : ℕ) → encodes (length u) e (length before) ≡ true → Encoded e u before n after → Done e u before n after
-encoded-is e u before after n h p = subst (λ (b : Bool). either b (Done e u before n after) (Left n before after)) h p
+pub encoded-is : (e : ℕ) (u before after : List ℕ) (r : Option ℕ) → encodes (length u) e (length before) ≡ true → Encoded e u before r after
+    → (n : ℕ) × (r ≡ Some n) × Done e u before n after
+encoded-is e u before after (Some n) h p = (n, refl, p.1)
+encoded-is e u before after None h p = let b = p.0 in never (cc)
 
 pub encoded_done : (e n : ℕ) (u before p after : List ℕ) → 0 < length u → length u + 2 * e ≤ longest_word → length u + 2 * e ≤ length before
-    → Parity e u p → n ≡ length u + 2 * e → after ≡ written before 0 (u ++ p) → Encoded e u before n after
+    → Parity e u p → n ≡ length u + 2 * e → after ≡ written before 0 (u ++ p) → Encoded e u before (Some n) after
 encoded_done e n u before p after some all room r c w =
-    subst (λ (b : Bool). either b (Done e u before n after) (Left n before after)) (sym (encodes_true (length u) e (length before) some all room))
-    (record { parity = p; right = r; count = c; written_is = w })
+    (encodes_true (length u) e (length before) some all room, record { parity = p; right = r; count = c; written_is = w })
 
 pub encodes-all : (k e room : ℕ) → encodes k e room ≡ true → (0 < k) × (k + 2 * e ≤ longest_word) × (k + 2 * e ≤ room)
 encodes-all k e room h =
     let t = three_true (ltb 0 k) (leb (k + 2 * e) longest_word) (leb (k + 2 * e) room) h in
     (ltb-true 0 k t.0, leb-true (k + 2 * e) longest_word t.1, leb-true (k + 2 * e) room t.2)
-
-pub encoded_refused : (e : ℕ) (u before : List ℕ)
-    → ((0 < length u) × (length u + 2 * e ≤ longest_word) × (length u + 2 * e ≤ length before) → ⊥) → Encoded e u before 0 before
-encoded_refused e u before no-fit = go (encodes (length u) e (length before)) refl
-  where
-    go : (b : Bool) → encodes (length u) e (length before) ≡ b → either b (Done e u before 0 before) (Left 0 before before)
-    go true h = absurd (no-fit (encodes-all (length u) e (length before) h))
-    go false h = record { count = refl; same = refl }

@@ -10,6 +10,7 @@ use mathlib.Core.Bool.{true}
 use mathlib.Core.List.{List, ◌++◌}
 use Prim.Native.Nat.{ℕ, ◌+◌}
 use native.Mathlib.Omega.{arith}
+use Rattle.std.specs.Prelude.{Some, None}
 use lib.Dec.{lit<}
 use lib.ListN.{length, take, drop, length-append}
 use lib.Seq.{take-take}
@@ -19,11 +20,10 @@ use Rattle.codeword.specs.Element.{octet}
 use Rattle.codeword.specs.Element.Laws.{octet-element, octet-nil}
 use Rattle.codeword.specs.Changed.{changed_places}
 use Rattle.codeword.specs.CodeWord.{distance}
-use Rattle.codeword.specs.Encoding.{encodes, Done, Encoded}
+use Rattle.codeword.specs.Encoding.{encodes, Done}
 use Rattle.codeword.specs.Repair.{RepairLent, filled}
 use Rattle.codeword.specs.Claims.{EncodedIsCodeWord, EncodedIsOnly, CodeWordsApart, WithoutParity, ZeroSyndromes}
 use Rattle.codeword.specs.Claims.{ReadsExactly, FoundExactly, FoundIsIt, NeverSecond, LostUntouched, UnusedZero, EncodedUnique, RepairedUnique}
-use Rattle.codeword.specs.declared.Reach.TheVariants.{Found, OutOfReach}
 use Rattle.codeword.proofs.Word.{places-at}
 use Rattle.codeword.proofs.Counting.{places_counted}
 use Rattle.codeword.proofs.Criterion.{code_word-zero, zero_code_word}
@@ -41,10 +41,7 @@ rest before s n e h = let z : n ≡ 0 + length s = omega arith in rw z (written_
 
 -- ---- encoding
 
-module _ (e : ℕ) (u before after : List ℕ) (n : ℕ) (fits : encodes (length u) e (length before) ≡ true) (p : Encoded e u before n after) where
-  d : Done e u before n after
-  d = encoded-is e u before after n fits p
-
+module _ (e : ℕ) (u before after : List ℕ) (n : ℕ) (fits : encodes (length u) e (length before) ≡ true) (d : Done e u before n after) where
   n-is : n ≡ length (u ++ d.parity)
   n-is = d.count ∙ ap (λ (k : ℕ). length u + k) (sym d.right.long) ∙ sym (length-append u d.parity)
 
@@ -55,21 +52,29 @@ module _ (e : ℕ) (u before after : List ℕ) (n : ℕ) (fits : encodes (length
   whole = ap₂ take n-is d.written_is ∙ front before (u ++ d.parity) room
 
 pub encoded_is_code_word : EncodedIsCodeWord
-encoded_is_code_word e u before after n o fits p =
-    let r = d e u before after n fits p in
-    let w = whole e u before after n fits p in (
-      r.count,
-      rw w (parity_code_word e u r.parity o r.right),
-      sym (take-take (length u) n after (omega (arith, r.count))) ∙ ap (take (length u)) w ∙ lib.Seq.take-append_seam u r.parity,
-      ap (drop n) r.written_is ∙ rest before (u ++ r.parity) n (n-is e u before after n fits p)
-          (omega (arith, n-is e u before after n fits p, room e u before after n fits p)),
+encoded_is_code_word e u before after r o fits p =
+    let done = encoded-is e u before after r fits p in
+    let n = done.0 in
+    let d = done.2 in
+    let w = whole e u before after n fits d in
+    let long = n-is e u before after n fits d in (
+      n,
+      done.1,
+      d.count,
+      rw w (parity_code_word e u d.parity o d.right),
+      sym (take-take (length u) n after (omega (arith, d.count))) ∙ ap (take (length u)) w ∙ lib.Seq.take-append_seam u d.parity,
+      ap (drop n) d.written_is ∙ rest before (u ++ d.parity) n long (omega (arith, long, room e u before after n fits d)),
     )
 
 pub encoded_is_only : EncodedIsOnly
-encoded_is_only e u before after n fits p c l code begins =
-    let r = d e u before after n fits p in
-    let s = code_word_begins e u c (l ∙ r.count) code begins in
-    s.0 ∙ ap (λ (x : List ℕ). u ++ x) (parity_unique e u _ _ s.1 r.right) ∙ sym (whole e u before after n fits p)
+encoded_is_only e u before after r fits p =
+    let done = encoded-is e u before after r fits p in
+    let d = done.2 in (
+      done.0,
+      done.1,
+      λ c l code begins. let s = code_word_begins e u c (l ∙ d.count) code begins in
+          s.0 ∙ ap (λ (x : List ℕ). u ++ x) (parity_unique e u _ _ s.1 d.right) ∙ sym (whole e u before after done.0 fits d),
+    )
 
 pub encoded_unique : EncodedUnique
 encoded_unique = encoded-unique
@@ -94,8 +99,8 @@ pub reads_exactly : ReadsExactly
 reads_exactly n e lent = (reads_all n e lent, λ h. reads_true n e lent h.0 h.1 h.2 h.3)
 
 pub found_exactly : FoundExactly
-found_exactly e w before after (Found k) fits p = (λ t. (p.found, p.within), λ c. refl)
-found_exactly e w before after OutOfReach fits p = (
+found_exactly e w before after (Some k) fits p = (λ t. (p.found, p.within), λ c. refl)
+found_exactly e w before after None fits p = (
   (λ t. never (cc)),
   (λ c. absurd (p.none fits c.0 c.1)),
 )
@@ -126,12 +131,12 @@ unused_zero e w s c l sy lo o = (
 )
 
 pub repaired_unique : RepairedUnique
-repaired_unique e w before (Found k) (Found j) after left p q =
+repaired_unique e w before (Some k) (Some j) after left p q =
     let f = reads_all (length w) e before p.fits in
     let same : p.found ≡ q.found = within_unique e w p.found q.found f.0 p.within q.within in (
-      ap Found (p.count ∙ ap (distance w) same ∙ sym q.count),
+      ap Some (p.count ∙ ap (distance w) same ∙ sym q.count),
       p.filled_is ∙ ap (λ (x : List ℕ). filled before x (changed_places w x)) same ∙ sym q.filled_is,
     )
-repaired_unique e w before (Found k) OutOfReach after left p q = absurd (q.none p.fits p.found p.within)
-repaired_unique e w before OutOfReach (Found j) after left p q = absurd (p.none q.fits q.found q.within)
-repaired_unique e w before OutOfReach OutOfReach after left p q = (refl, p.same ∙ sym q.same)
+repaired_unique e w before (Some k) None after left p q = absurd (q.none p.fits p.found p.within)
+repaired_unique e w before None (Some j) after left p q = absurd (p.none q.fits q.found q.within)
+repaired_unique e w before None None after left p q = (refl, p.same ∙ sym q.same)

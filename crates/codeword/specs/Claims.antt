@@ -24,7 +24,7 @@
 --   RepairedUnique       any two answers that the repair's promise allows are equal, lent octets and lent list included
 --
 -- Assumes nothing.
-use Rattle.std.specs.Prelude.{◌≡◌, ◌≢◌, ◌↔◌, Bool, true, false, List, [], ◌∷◌, ℕ, suc, ◌+◌, ◌*◌, ◌≤◌, ◌<◌, length, get_or, take, drop}
+use Rattle.std.specs.Prelude.{◌≡◌, ◌≢◌, ◌↔◌, Bool, true, false, Option, Some, None, List, [], ◌∷◌, ℕ, suc, ◌+◌, ◌*◌, ◌≤◌, ◌<◌, length, get_or, take, drop}
 use Rattle.algebra.specs.Lists.{Lists}
 use Rattle.algebra.specs.Power.{pow}
 use Rattle.field.specs.Octet.{order}
@@ -36,12 +36,10 @@ use Rattle.codeword.specs.Syndromes.{SyndromesAre}
 use Rattle.codeword.specs.Locator.{LocatorIs}
 use Rattle.codeword.specs.Encoding.{encodes, Encoded}
 use Rattle.codeword.specs.Repair.{RepairLent, reads, Repaired}
-use Rattle.codeword.specs.declared.Reach.{Reach}
-use Rattle.codeword.specs.declared.Reach.TheVariants.{Found, OutOfReach}
 
-abbrev pub is_found : Reach → Bool
-is_found (Found changed) = true
-is_found OutOfReach = false
+abbrev pub is_found : Option ℕ → Bool
+is_found (Some changed) = true
+is_found None = false
 
 abbrev pub DistanceIs : Type 0
 DistanceIs =
@@ -58,13 +56,13 @@ PlacesCounted = (w c : List ℕ) → length c ≡ length w → length (changed_p
 
 abbrev pub EncodedIsCodeWord : Type 0
 EncodedIsCodeWord =
-    (e : ℕ) (u before after : List ℕ) (n : ℕ) → Octets u → encodes (length u) e (length before) ≡ true → Encoded e u before n after
-    → (n ≡ length u + 2 * e) × CodeWord e (take n after) × (take (length u) after ≡ u) × (drop n after ≡ drop n before)
+    (e : ℕ) (u before after : List ℕ) (r : Option ℕ) → Octets u → encodes (length u) e (length before) ≡ true → Encoded e u before r after
+    → (n : ℕ) × (r ≡ Some n) × (n ≡ length u + 2 * e) × CodeWord e (take n after) × (take (length u) after ≡ u) × (drop n after ≡ drop n before)
 
 abbrev pub EncodedIsOnly : Type 0
 EncodedIsOnly =
-    (e : ℕ) (u before after : List ℕ) (n : ℕ) → encodes (length u) e (length before) ≡ true → Encoded e u before n after
-    → (c : List ℕ) → length c ≡ n → CodeWord e c → take (length u) c ≡ u → c ≡ take n after
+    (e : ℕ) (u before after : List ℕ) (r : Option ℕ) → encodes (length u) e (length before) ≡ true → Encoded e u before r after
+    → (n : ℕ) × (r ≡ Some n) × ((c : List ℕ) → length c ≡ n → CodeWord e c → take (length u) c ≡ u → c ≡ take n after)
 
 abbrev pub CodeWordsApart : Type 0
 CodeWordsApart = (e : ℕ) (v w : List ℕ) → length v ≡ length w → length v ≤ longest_word → CodeWord e v → CodeWord e w → distance v w ≤ 2 * e → v ≡ w
@@ -82,7 +80,7 @@ ReadsExactly =
 
 abbrev pub FoundExactly : Type 0
 FoundExactly =
-    (e : ℕ) (w : List ℕ) (before after : RepairLent) (r : Reach) → reads (length w) e before ≡ true → Repaired e w before r after
+    (e : ℕ) (w : List ℕ) (before after : RepairLent) (r : Option ℕ) → reads (length w) e before ≡ true → Repaired e w before r after
     → is_found r ≡ true ↔ ((c : List ℕ) × Within e w c)
 
 pub record RepairShows (w c : List ℕ) (before : RepairLent) (changed : ℕ) (after : RepairLent) : Type 0 where
@@ -96,14 +94,14 @@ pub record RepairShows (w c : List ℕ) (before : RepairLent) (changed : ℕ) (a
 
 abbrev pub FoundIsIt : Type 0
 FoundIsIt =
-    (e : ℕ) (w : List ℕ) (before after : RepairLent) (changed : ℕ) → Repaired e w before (Found changed) after
+    (e : ℕ) (w : List ℕ) (before after : RepairLent) (changed : ℕ) → Repaired e w before (Some changed) after
     → (c : List ℕ) → Within e w c → RepairShows w c before changed after
 
 abbrev pub NeverSecond : Type 0
 NeverSecond = (e : ℕ) (w c d : List ℕ) → length w ≤ longest_word → Within e w c → Within e w d → c ≡ d
 
 abbrev pub LostUntouched : Type 0
-LostUntouched = (e : ℕ) (w : List ℕ) (before after : RepairLent) → Repaired e w before OutOfReach after → after ≡ before
+LostUntouched = (e : ℕ) (w : List ℕ) (before after : RepairLent) → Repaired e w before None after → after ≡ before
 
 -- "have room for 255 coefficients, zero where unused"
 abbrev pub UnusedZero : Type 0
@@ -113,9 +111,9 @@ UnusedZero =
 
 abbrev pub EncodedUnique : Type 0
 EncodedUnique =
-    (e : ℕ) (u before : List ℕ) (n m : ℕ) (after left : List ℕ) → Encoded e u before n after → Encoded e u before m left → (n ≡ m) × (after ≡ left)
+    (e : ℕ) (u before : List ℕ) (r q : Option ℕ) (after left : List ℕ) → Encoded e u before r after → Encoded e u before q left → (r ≡ q) × (after ≡ left)
 
 abbrev pub RepairedUnique : Type 0
 RepairedUnique =
-    (e : ℕ) (w : List ℕ) (before : RepairLent) (r q : Reach) (after left : RepairLent)
+    (e : ℕ) (w : List ℕ) (before : RepairLent) (r q : Option ℕ) (after left : RepairLent)
     → Repaired e w before r after → Repaired e w before q left → (r ≡ q) × (after ≡ left)

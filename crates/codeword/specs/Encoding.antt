@@ -3,12 +3,11 @@
 --   Parity e u p                 p are those octets
 --   encodes k e room             a message of k octets with its parity fits the code and the room
 --   Done e u before n after      n octets, message and parity, are written at the front of the lent octets `before`
---   Left n before after          none are, and nothing changes
---   either b A B                 A where the test passed, B where not
---   Encoded e u before n after   what encoding u into the lent octets answers and leaves: the one where it fits, else the other
+--   Encoded e u before r after   what encoding u into the lent octets answers and leaves: where it fits, that is done, and it tells how many
+--                                octets that are; else none, and nothing changes
 --
 -- Assumes nothing.
-use Rattle.std.specs.Prelude.{◌≡◌, Bool, true, false, ◌&&◌, List, ◌++◌, ℕ, ◌+◌, ◌*◌, leb, ltb, length}
+use Rattle.std.specs.Prelude.{◌≡◌, Bool, true, false, ◌&&◌, Option, Some, None, List, ◌++◌, ℕ, ◌+◌, ◌*◌, leb, ltb, length}
 use Rattle.octets.specs.Written.{written}
 use Rattle.algebra.specs.Polynomial.{polynomial, raised, Remainder}
 use Rattle.codeword.specs.Element.{elements}
@@ -29,13 +28,6 @@ pub record Done (e : ℕ) (u before : List ℕ) (n : ℕ) (after : List ℕ) : T
   pub count : n ≡ length u + 2 * e
   pub written_is : after ≡ written before 0 (u ++ parity)
 
-pub record Left (n : ℕ) (before after : List ℕ) : Type 0 where
-  pub count : n ≡ 0
-  pub same : after ≡ before
-
-abbrev pub either : Bool → Type 0 → Type 0 → Type 0
-either true A B = A
-either false A B = B
-
-abbrev pub Encoded : ℕ → List ℕ → List ℕ → ℕ → List ℕ → Type 0
-Encoded e u before n after = either (encodes (length u) e (length before)) (Done e u before n after) (Left n before after)
+abbrev pub Encoded : ℕ → List ℕ → List ℕ → Option ℕ → List ℕ → Type 0
+Encoded e u before (Some n) after = (encodes (length u) e (length before) ≡ true) × Done e u before n after
+Encoded e u before None after = (encodes (length u) e (length before) ≡ false) × (after ≡ before)

@@ -6,7 +6,6 @@
 --   share e s k              how often part k is taken: value k, s at k, over the divisor
 --   PartsAdded n m x w p q   q is p, with 16 parts, taken w₀, .., w₁₅ times, added to its first n octets
 --   Interpolates e o s p     p are the coefficients of the sum of the first o parts, the highest first; zero where unused
---   Raised z u w             w has z octets: the message u, with zeros behind
 --
 -- Assumes nothing.
 use Rattle.std.specs.Prelude.{◌≡◌, List, ℕ, suc, ◌-◌, ◌*◌, ◌≤◌, ◌<◌, get_or, length}
@@ -50,7 +49,3 @@ pub record Interpolates (e o : ℕ) (s p : List ℕ) : Type 0 where
   pub octets : Octets p
   pub used : (i : ℕ) → i < 2 * e → element (get_or p i 0) ≡ interpolated elements (2 * e) points o (share e s) (2 * e - suc i)
   pub unused : (i : ℕ) → 2 * e ≤ i → get_or p i 0 ≡ 0
-
-pub record Raised (z : ℕ) (u w : List ℕ) : Type 0 where
-  pub long : length w ≡ z
-  pub entry : (i : ℕ) → get_or w i 0 ≡ get_or u i 0

@@ -6,7 +6,7 @@
 --                         highest coefficient first
 --
 -- Assumes nothing.
-use Rattle.std.specs.Prelude.{◌≡◌, ◌↔◌, true, List, ℕ, ◌*◌, length, take, drop}
+use Rattle.std.specs.Prelude.{◌≡◌, ◌↔◌, true, Option, Some, List, ℕ, ◌*◌, length, take, drop}
 use Rattle.algebra.specs.Polynomial.{polynomial, raised}
 use Rattle.algebra.specs.Remainder.{Monic, IsRemainder}
 use Rattle.codeword.specs.Element.{elements}
@@ -18,6 +18,7 @@ GeneratorMonic = (e : ℕ) → Monic elements (2 * e) (generator e)
 
 abbrev pub EncodedIsRemainder : Type 0
 EncodedIsRemainder =
-    (e : ℕ) (u before after : List ℕ) (n : ℕ) → encodes (length u) e (length before) ≡ true → Encoded e u before n after
-    → (p : List ℕ) → Octets p
-    → drop (length u) (take n after) ≡ p ↔ IsRemainder elements (generator e) (2 * e) (raised elements (2 * e) (polynomial elements (word u))) (word p)
+    (e : ℕ) (u before after : List ℕ) (r : Option ℕ) → encodes (length u) e (length before) ≡ true → Encoded e u before r after
+    → (n : ℕ) × (r ≡ Some n)
+    × ((p : List ℕ) → Octets p
+    → drop (length u) (take n after) ≡ p ↔ IsRemainder elements (generator e) (2 * e) (raised elements (2 * e) (polynomial elements (word u))) (word p))

@@ -11,12 +11,10 @@
 --   Repaired e w before r after    what repairing the word w with `before` lent answers and leaves: one of the two
 --
 -- Assumes nothing.
-use Rattle.std.specs.Prelude.{◌≡◌, Bool, true, ◌&&◌, List, ℕ, ◌*◌, leb, ltb, length}
+use Rattle.std.specs.Prelude.{◌≡◌, Bool, true, ◌&&◌, Option, Some, None, List, ℕ, ◌*◌, leb, ltb, length}
 use Rattle.octets.specs.Written.{written}
 use Rattle.codeword.specs.Changed.{changed_places}
 use Rattle.codeword.specs.CodeWord.{longest_word, Within, distance}
-use Rattle.codeword.specs.declared.Reach.{Reach}
-use Rattle.codeword.specs.declared.Reach.TheVariants.{Found, OutOfReach}
 
 pub record RepairLent : Type 0 where
   pub repair : List ℕ
@@ -46,6 +44,6 @@ pub record OutOfReachIs (e : ℕ) (w : List ℕ) (before after : RepairLent) : T
   pub none : reads (length w) e before ≡ true → (c : List ℕ) → Within e w c → ⊥
   pub same : after ≡ before
 
-abbrev pub Repaired : ℕ → List ℕ → RepairLent → Reach → RepairLent → Type 0
-Repaired e w before (Found changed) after = FoundIs e w before changed after
-Repaired e w before OutOfReach after = OutOfReachIs e w before after
+abbrev pub Repaired : ℕ → List ℕ → RepairLent → Option ℕ → RepairLent → Type 0
+Repaired e w before (Some changed) after = FoundIs e w before changed after
+Repaired e w before None after = OutOfReachIs e w before after

@@ -3,10 +3,12 @@
 // feedback, and the feedback times the generator is taken off the octets behind it, 16 at a time.
 ghost use Rattle.std.specs.Prelude.{◌+◌, ◌*◌, ◌≤◌, ◌<◌, length};
 ghost use Rattle.codeword.specs.CodeWord.{longest_word};
-ghost use Rattle.codeword.specs.Register.{GeneratorIs, RemainderIs, Lowered, Copied};
+ghost use Rattle.codeword.specs.Register.{RemainderIs, Lowered};
 
-use crate::generator::{FIRST, ROOM};
-use crate::{LONGEST_WORD, generator, interpolation, lanes};
+use crate::generator::{FIRST, Generator};
+use crate::lanes::LANES;
+use crate::powers::Powers;
+use crate::{LONGEST_WORD, interpolation, lanes, padded};
 
 // The octets of the register's array: those of two words and more, since a turn writes 16 at a time.
 const WIDTH: usize = 528;
@@ -15,47 +17,30 @@ const WIDTH: usize = 528;
 const INTERPOLATED: usize = 16;
 
 // One turn of the register, at octet i.
-fn turn(w: &mut [u8; WIDTH], i: usize, g: &[u8; ROOM], m: usize)
-    requires { (i < longest_word) × (m < longest_word) × GeneratorIs m g.now }
-    ensures { Lowered m i g.now w.old w.new }
+fn turn(w: &mut [u8; WIDTH], i: usize, g: &Generator)
+    requires { i < longest_word }
+    ensures { Lowered (2 * g.now.e) i g.now.row w.old w.new }
 {
     let feedback = w[i];
-    let mut o: usize = 0;
-    while o < m {
+    for o in (0..2 * g.e).step_by(LANES) {
         let x = lanes::load(w, i + 1 + o);
-        let y = lanes::load(g, FIRST + 1 + o);
+        let y = lanes::load(&g.row, FIRST + 1 + o);
         lanes::store(w, i + 1 + o, lanes::mixed(feedback, y, x));
-        o += 16;
     }
-}
-
-// The m octets of w from k on; zero where unused.
-fn rest(w: &[u8; WIDTH], k: usize, m: usize) -> [u8; LONGEST_WORD]
-    requires { k + m ≤ longest_word }
-    ensures { Copied m k w.now result }
-{
-    let mut p = [0u8; LONGEST_WORD];
-    let mut j: usize = 0;
-    while j < m {
-        p[j] = w[k + j];
-        j += 1;
-    }
-    p
 }
 
 // The remainder, highest coefficient first; zero where unused.
-fn divide(message: &[u8], g: &[u8; ROOM], m: usize) -> [u8; LONGEST_WORD]
-    requires { (length message.now + m ≤ longest_word) × (m < longest_word) × GeneratorIs m g.now }
-    ensures { RemainderIs m message.now result }
+fn divide(message: &[u8], g: &Generator) -> [u8; LONGEST_WORD]
+    requires { length message.now + 2 * g.now.e ≤ longest_word }
+    ensures { RemainderIs (2 * g.now.e) message.now result }
 {
     let mut w = [0u8; WIDTH];
     octets::write(&mut w, 0, message);
-    let mut i: usize = 0;
-    while i < message.len() {
-        turn(&mut w, i, g, m);
-        i += 1;
+    let k = message.len();
+    for i in 0..k {
+        turn(&mut w, i, g);
     }
-    rest(&w, message.len(), m)
+    padded(&w[k..k + 2 * g.e])
 }
 
 // The remainder of x^2e times the message, highest coefficient first; zero where unused.
@@ -63,10 +48,10 @@ pub(crate) fn parity(message: &[u8], e: usize) -> [u8; LONGEST_WORD]
     requires { length message.now + 2 * e ≤ longest_word }
     ensures { RemainderIs (2 * e) message.now result }
 {
-    let powers = field::powers();
-    let g = generator::generator(&powers, e);
+    let powers = Powers::new();
+    let g = Generator::new(&powers, e);
     if e <= INTERPOLATED {
-        return interpolation::remainder(message, &g, &powers, e);
+        return interpolation::remainder(message, &g, &powers);
     }
-    divide(message, &g, 2 * e)
+    divide(message, &g)
 }

@@ -4,46 +4,40 @@
 //     s_0 G_0(x) / G_0(x_0) + s_1 G_1(x) / G_1(x_1) + ..
 //
 // and G_k(x_k) is the generator's derivative at x_k, which by its odd coefficients is a value at the square of x_k. Lanes are roots.
-ghost use Rattle.std.specs.Prelude.{◌≡◌, ◌+◌, ◌*◌, ◌≤◌, ◌<◌, length, get_or};
-ghost use Rattle.field.specs.Octet.Table.{Laid};
+ghost use Rattle.std.specs.Prelude.{◌+◌, ◌*◌, ◌≤◌, length, get_or};
 ghost use Rattle.codeword.specs.Element.{element};
 ghost use Rattle.codeword.specs.CodeWord.{longest_word};
 ghost use Rattle.codeword.specs.Lanes.{lanes};
-ghost use Rattle.codeword.specs.Register.{GeneratorIs, RemainderIs};
-ghost use Rattle.codeword.specs.Interpolation.{ElementLanes, divisor, PartsAdded, Interpolates, Raised};
+ghost use Rattle.codeword.specs.Register.{RemainderIs};
+ghost use Rattle.codeword.specs.Interpolation.{ElementLanes, divisor, PartsAdded, Interpolates};
 
-use crate::generator::{FIRST, ROOM};
-use crate::{LONGEST_WORD, lanes, syndromes};
-use field::LAID;
+use crate::generator::{FIRST, Generator};
+use crate::lanes::LANES;
+use crate::powers::Powers;
+use crate::{LONGEST_WORD, lanes, padded, syndromes};
 
 // The derivative's values at x.
-fn divisors(g: &[u8; ROOM], e: usize, x: [u8; 16]) -> [u8; 16]
-    requires { (2 * e < longest_word) × GeneratorIs (2 * e) g.now }
-    ensures { ElementLanes (λ k. divisor e (element (get_or x k 0))) result }
+fn divisors(g: &Generator, x: [u8; LANES]) -> [u8; LANES]
+    ensures { ElementLanes (λ k. divisor g.now.e (element (get_or x k 0))) result }
 {
     let y = lanes::products(x, x);
-    let mut d = [0u8; 16];
-    let mut h: usize = 0;
-    while h < e {
-        let next = lanes::horner(y, d, g[FIRST + 1 + 2 * h]);
+    let mut d = [0u8; LANES];
+    for h in 0..g.e {
+        let next = lanes::horner(y, d, g.row[FIRST + 1 + 2 * h]);
         d = next;
-        h += 1;
     }
     d
 }
 
 // Adds to p the generator without its factor x - x_k, taken w_k times, for all lanes; the quotients by synthetic division.
-fn add(p: &mut [u8; LONGEST_WORD], g: &[u8; ROOM], m: usize, x: [u8; 16], w: [u8; 16])
-    requires { (m < longest_word) × (length p.old ≡ longest_word) × GeneratorIs m g.now }
-    ensures { PartsAdded m m x w p.old p.new }
+fn add(p: &mut [u8; LONGEST_WORD], g: &Generator, x: [u8; LANES], w: [u8; LANES])
+    ensures { PartsAdded (2 * g.now.e) (2 * g.now.e) x w p.old p.new }
 {
-    let mut a = [0u8; 16];
-    let mut i: usize = 0;
-    while i < m {
-        let next = lanes::horner(x, a, g[FIRST + i]);
+    let mut a = [0u8; LANES];
+    for i in 0..2 * g.e {
+        let next = lanes::horner(x, a, g.row[FIRST + i]);
         a = next;
         p[i] = field::sum(p[i], lanes::dot(w, next));
-        i += 1;
     }
 }
 
@@ -52,48 +46,30 @@ fn interpolate(
     p: &mut [u8; LONGEST_WORD],
     s: &[u8; LONGEST_WORD],
     o: usize,
-    g: &[u8; ROOM],
-    powers: &[u8; LAID],
-    e: usize,
+    g: &Generator,
+    powers: &Powers,
 )
-    requires { (2 * e < longest_word) × (o + lanes ≤ longest_word) × GeneratorIs (2 * e) g.now × Laid powers.now × Interpolates e o s.now p.old }
-    ensures { Interpolates e (o + lanes) s.now p.new }
+    requires { (o + lanes ≤ longest_word) × Interpolates g.now.e o s.now p.old }
+    ensures { Interpolates g.now.e (o + lanes) s.now p.new }
 {
-    let x = lanes::load(powers, o + 1);
-    let d = divisors(g, e, x);
+    let x = powers.along(o + 1);
+    let d = divisors(g, x);
     let v = lanes::load(s, o);
     let w = lanes::quotients(v, d);
-    add(p, g, 2 * e, x, w);
-}
-
-// The message, with zeros behind.
-fn raised(message: &[u8]) -> [u8; LONGEST_WORD]
-    requires { length message.now ≤ longest_word }
-    ensures { Raised longest_word message.now result }
-{
-    let mut w = [0u8; LONGEST_WORD];
-    octets::write(&mut w, 0, message);
-    w
+    add(p, g, x, w);
 }
 
 // The remainder, highest coefficient first; zero where unused.
-pub(crate) fn remainder(
-    message: &[u8],
-    g: &[u8; ROOM],
-    powers: &[u8; LAID],
-    e: usize,
-) -> [u8; LONGEST_WORD]
-    requires { (length message.now + 2 * e ≤ longest_word) × (2 * e + lanes ≤ longest_word) × GeneratorIs (2 * e) g.now × Laid powers.now }
-    ensures { RemainderIs (2 * e) message.now result }
+pub(crate) fn remainder(message: &[u8], g: &Generator, powers: &Powers) -> [u8; LONGEST_WORD]
+    requires { (length message.now + 2 * g.now.e ≤ longest_word) × (2 * g.now.e + lanes ≤ longest_word) }
+    ensures { RemainderIs (2 * g.now.e) message.now result }
 {
-    let m = 2 * e;
-    let w = raised(message);
+    let m = 2 * g.e;
+    let w = padded(message);
     let s = syndromes::syndromes(&w[..message.len() + m], m, powers);
     let mut p = [0u8; LONGEST_WORD];
-    let mut o: usize = 0;
-    while o < m {
-        interpolate(&mut p, &s, o, g, powers, e);
-        o += 16;
+    for o in (0..m).step_by(LANES) {
+        interpolate(&mut p, &s, o, g, powers);
     }
     p
 }

@@ -14,12 +14,13 @@
 //     v    zeros: 256   b: 128    zeros: 256     t: 256
 ghost use Rattle.std.specs.Prelude.{◌≡◌, ◌+◌, ◌*◌, ◌<◌, ◌≤◌, length, get_or};
 ghost use Rattle.field.specs.Octet;
-ghost use Rattle.field.specs.Octet.{size};
 ghost use Rattle.codeword.specs.CodeWord.{longest_word};
 ghost use Rattle.codeword.specs.Lanes.{lanes, Lanes};
-ghost use Rattle.codeword.specs.Locator.{margin, second, room, block_at, Saved, Mended, Kept, Stepped, LocatorIs, EvaluatorIs};
+ghost use Rattle.codeword.specs.Locator.{margin, room, block_at, Saved, Mended, Kept, Stepped, LocatorIs, EvaluatorIs};
 
-use crate::{LONGEST_WORD, lanes};
+use crate::lanes::LANES;
+use crate::{LONGEST_WORD, lanes, padded};
+use std::array;
 
 // How many zeros b and t stand behind.
 const MARGIN: usize = 256;
@@ -30,16 +31,19 @@ const SECOND: usize = 384;
 // The octets of z; v has the zeros in front besides.
 const ROOM: usize = 640;
 
-// What the loop keeps beside c, d, b and t: the length of c, how far b is to be shifted, and what b failed by.
-#[derive(Clone, Copy)]
-pub struct Progress {
-    pub long: usize,
-    pub shift: usize,
-    pub failed: u8,
+// What the loop keeps: c and d in z, and b and t in v; the length of c, how far b is to be shifted, and what b failed by.
+#[derive(Drop)]
+struct State {
+    z: [u8; ROOM],
+    v: [u8; MARGIN + ROOM],
+    long: usize,
+    shift: usize,
+    failed: u8,
 }
 
 // The shortest recurrence for the syndromes times an octet that is not zero, from the coefficient of 1 on, zero where unused; its product with the
-// syndromes, of which the first coefficients are the error evaluator; and its length. Where that is above e, only that none is shorter.
+// syndromes, of which the first coefficients are the error evaluator; and its length. Where that is above e, only that none is shorter:
+// `LocatorIs` says both of one length, so this is no Option.
 #[derive(Clone, Copy)]
 pub struct Recurrence {
     pub coefficients: [u8; LONGEST_WORD],
@@ -47,29 +51,15 @@ pub struct Recurrence {
     pub degree: usize,
 }
 
-// What the recurrence fails by at r: the coefficient of its product d with the syndromes.
-fn discrepancy(z: &[u8], r: usize) -> u8
-    requires { (second + r < room) × (length z.now ≡ room) }
-    ensures { (result ≡ get_or z.now (second + r) 0) × (result < size) }
-{
-    z[SECOND + r]
-}
-
 // a x + q y, for 16 coefficients.
-fn mix(x: [u8; 16], y: [u8; 16], a: u8, q: u8) -> [u8; 16]
+fn mix(x: [u8; LANES], y: [u8; LANES], a: u8, q: u8) -> [u8; LANES]
     ensures { Lanes (λ k. Octet.sum (Octet.product a (get_or x k 0)) (Octet.product q (get_or y k 0))) result }
 {
-    let mut z = [0u8; 16];
-    let mut k: usize = 0;
-    while k < 16 {
-        z[k] = field::sum(field::product(a, x[k]), field::product(q, y[k]));
-        k += 1;
-    }
-    z
+    array::from_fn(|k| field::sum(field::product(a, x[k]), field::product(q, y[k])))
 }
 
 // Where the length grows, x is written over the 16 octets of v from o on.
-fn keep(v: &mut [u8], o: usize, x: [u8; 16], grows: bool)
+fn keep(v: &mut [u8], o: usize, x: [u8; LANES], grows: bool)
     requires { o + lanes ≤ length v.old }
     ensures { Saved grows o x v.old v.new }
 {
@@ -80,82 +70,65 @@ fn keep(v: &mut [u8], o: usize, x: [u8; 16], grows: bool)
 
 // Where block i stands: the first `low` blocks are c's, the others d's.
 fn block_at(low: usize, i: usize) -> usize
-    requires { i < room }
-    ensures { result ≡ block_at low i }
+    requires { (low ≤ 8) × (i < low + 16) }
+    ensures at { result ≡ block_at low i }
+    ensures fits { result + lanes ≤ room }
 {
     if i < low {
-        return 16 * i;
+        return LANES * i;
     }
-    SECOND + 16 * (i - low)
+    SECOND + LANES * (i - low)
 }
 
-// c becomes a c + q x^shift b, and d a d + q x^shift t, as far as `low` and `high` blocks of 16 coefficients go; and where the length grows, b
-// and t become the c and d from before. From the top: a block of b is still wanted by the ones above it.
-fn mend(
-    z: &mut [u8],
-    v: &mut [u8],
-    shift: usize,
-    low: usize,
-    high: usize,
-    a: u8,
-    q: u8,
-    grows: bool,
-)
-    requires { (length z.old ≡ room) × (length v.old ≡ margin + room) × (0 < low) × (low ≤ 8) × (high ≤ 16) × (shift ≤ margin) }
-    ensures { Mended low high 0 shift a q z.old v.old z.new
-        × Kept grows low high 0 z.old v.old v.new }
-{
-    let mut i = low + high;
-    while 0 < i {
-        i -= 1;
-        let o = block_at(low, i);
-        let x = lanes::load(z, o);
-        let y = lanes::load(v, MARGIN + o - shift);
-        keep(v, MARGIN + o, x, grows);
-        lanes::store(z, o, mix(x, y, a, q));
+impl State {
+    // c becomes a c + q x^shift b, where a is what b failed by, and d a d + q x^shift t, as far as `low` and `high` blocks of 16 coefficients go;
+    // and where the length grows, b and t become the c and d from before. From the top: a block of b is still wanted by the ones above it.
+    fn mend(&mut self, low: usize, high: usize, q: u8, grows: bool)
+        requires { (0 < low) × (low ≤ 8) × (high ≤ 16) × (self.old.shift ≤ margin) }
+        ensures mended { Mended low high 0 self.old.shift self.old.failed q self.old.z self.old.v self.new.z }
+        ensures kept { Kept grows low high 0 self.old.z self.old.v self.new.v }
+        ensures rest { (self.new.long ≡ self.old.long) × (self.new.shift ≡ self.old.shift) × (self.new.failed ≡ self.old.failed) }
+    {
+        // read once: after a store into z or v they would be read again
+        let shift = self.shift;
+        let a = self.failed;
+        for i in (0..low + high).rev() {
+            let o = block_at(low, i);
+            let x = lanes::load(&self.z, o);
+            let y = lanes::load(&self.v, MARGIN + o - shift);
+            keep(&mut self.v, MARGIN + o, x, grows);
+            lanes::store(&mut self.z, o, mix(x, y, a, q));
+        }
     }
-}
 
-// One step: the recurrence is made to hold at r too. Where its length would be above e, only that length is told.
-fn step(
-    z: &mut [u8; ROOM],
-    v: &mut [u8; MARGIN + ROOM],
-    r: usize,
-    e: usize,
-    g: Progress,
-) -> Progress
-    requires { (r < 2 * e) × (2 * e < longest_word) × (g.long ≤ e) × (g.long ≤ r) × (g.shift ≤ r + 1) }
-    ensures { Stepped e r z.old v.old g.long g.shift g.failed
-        z.new v.new result.long result.shift result.failed }
-{
-    let l = g.long;
-    let shift = g.shift;
-    let failed = g.failed;
-    let blocks = (2 * e + 15) / 16;
-    let x = discrepancy(z, r);
-    let kept = Progress {
-        long: l,
-        shift: shift + 1,
-        failed,
-    };
-    if x == 0 {
-        return kept;
+    // One step: the recurrence is made to hold at r too. Where its length would be above e, only that length is told.
+    fn step(&mut self, r: usize, e: usize)
+        requires { (r < 2 * e) × (2 * e < longest_word) × (self.old.long ≤ e) × (self.old.long ≤ r) × (self.old.shift ≤ r + 1) }
+        ensures { Stepped e r self.old.z self.old.v self.old.long self.old.shift self.old.failed
+            self.new.z self.new.v self.new.long self.new.shift self.new.failed }
+    {
+        let blocks = lanes::blocks(2 * e);
+        // what the recurrence fails by: the coefficient of its product d with the syndromes
+        let x = self.z[SECOND + r];
+        if x == 0 {
+            self.shift += 1;
+            return;
+        }
+        if r < 2 * self.long {
+            self.mend(self.long / LANES + 1, blocks, x, false);
+            self.shift += 1;
+            return;
+        }
+        let long = r + 1 - self.long;
+        if e < long {
+            self.long = long;
+            return;
+        }
+        self.mend(long / LANES + 1, blocks, x, true);
+        self.long = long;
+        self.shift = 1;
+        self.failed = x;
     }
-    if r < l + l {
-        mend(z, v, shift, l / 16 + 1, blocks, failed, x, false);
-        return kept;
-    }
-    let long = r + 1 - l;
-    let grown = Progress {
-        long,
-        shift: 1,
-        failed: x,
-    };
-    if e < long {
-        return grown;
-    }
-    mend(z, v, shift, long / 16 + 1, blocks, failed, x, true);
-    grown
 }
 
 // The shortest recurrence for the first 2e syndromes; where that is longer than e, a length above e that none of them is shorter than.
@@ -164,34 +137,29 @@ pub(crate) fn locator(s: &[u8; LONGEST_WORD], e: usize) -> Recurrence
     ensures { LocatorIs (2 * e) s.now result.coefficients result.degree
         × EvaluatorIs (2 * e) s.now result.coefficients result.evaluator result.degree }
 {
-    let mut z = [0u8; ROOM];
-    octets::write(&mut z, SECOND, s);
-    z[0] = 1;
-    let mut v = [0u8; MARGIN + ROOM];
-    octets::write(&mut v, MARGIN + SECOND, s);
-    v[MARGIN] = 1;
-    let mut g = Progress {
+    let mut state = State {
+        z: [0u8; ROOM],
+        v: [0u8; MARGIN + ROOM],
         long: 0,
         shift: 1,
         failed: 1,
     };
-    let mut r: usize = 0;
-    while r < 2 * e {
-        g = step(&mut z, &mut v, r, e, g);
-        let l = g.long;
-        if e < l {
+    octets::write(&mut state.z, SECOND, s);
+    state.z[0] = 1;
+    octets::write(&mut state.v, MARGIN + SECOND, s);
+    state.v[MARGIN] = 1;
+    for r in 0..2 * e {
+        state.step(r, e);
+        if e < state.long {
             break;
         }
-        r += 1;
     }
-    let degree = g.long;
-    let mut c = [0u8; LONGEST_WORD];
-    octets::write(&mut c, 0, &z[..128]);
-    let mut d = [0u8; 256];
-    octets::write(&mut d, 0, &z[SECOND..ROOM]);
+    let coefficients = padded(&state.z[..128]);
+    let mut evaluator = [0u8; 256];
+    octets::write(&mut evaluator, 0, &state.z[SECOND..ROOM]);
     Recurrence {
-        coefficients: c,
-        evaluator: d,
-        degree,
+        coefficients,
+        evaluator,
+        degree: state.long,
     }
 }

@@ -8,137 +8,115 @@
 // lower powers, the taps: row d can be added to the rows that stand for y^(d - 8) times these, and be dropped; no column's value at y
 // changes, and 17 rows become 8.
 ghost use Rattle.std.specs.Prelude.{◌≡◌, ℕ, ◌+◌, ◌-◌, ◌*◌, ◌≤◌, ◌<◌, length, get_or};
-ghost use Rattle.field.specs.Octet.Table.{Laid};
 ghost use Rattle.codeword.specs.CodeWord.{longest_word};
 ghost use Rattle.codeword.specs.Lanes.{lanes};
-ghost use Rattle.codeword.specs.Rows.{RowAdded, Evaluated, RowsAre, residues, others, Folded, Spread, Filling, Repeated, ColumnsAre};
+ghost use Rattle.codeword.specs.Rows.{RowAdded, Evaluated, RowsAre, Folded, Spread, Filling, Repeated, ColumnsAre};
 
+use crate::lanes::LANES;
+use crate::powers::Powers;
 use crate::{LONGEST_WORD, lanes};
-use field::LAID;
 
-// 17 rows of 16 octets, of which 15 count.
-const ROWS: usize = 272;
+// How many rows there are.
+const ROWS: usize = 17;
 
-// The columns' values: 15 rows of 48, of which 32 are used.
-pub(crate) const VALUES: usize = 720;
+// The octets of an array of rows: 16 each, of which 15 count.
+const ROOM: usize = ROWS * LANES;
+
+// How many columns there are.
+pub(crate) const COLUMNS: usize = 15;
+
+// For each of the columns a row of entries: its values, of which 32 are used.
+pub(crate) const ENTRIES: usize = 48;
+
+// The octets of the array of these.
+pub(crate) const VALUES: usize = COLUMNS * ENTRIES;
 
 // Row d: the octets of the word that stand for x^(15 d + 14), .., x^(15 d).
-fn lay(w: &[u8; 256]) -> [u8; ROWS]
+fn lay(w: &[u8; 256]) -> [u8; ROOM]
     ensures { (d i : ℕ) → d < 17 → i < lanes → get_or result (16 * d + i) 0 ≡ get_or w.now (15 * (16 - d) + i) 0 }
 {
-    let mut f = [0u8; ROWS];
-    let mut d: usize = 0;
-    while d < 17 {
-        let row = lanes::load(w, 15 * (16 - d));
-        octets::write(&mut f, 16 * d, &row);
-        d += 1;
+    let mut f = [0u8; ROOM];
+    for d in 0..ROWS {
+        let row = lanes::load(w, COLUMNS * (ROWS - 1 - d));
+        octets::write(&mut f, LANES * d, &row);
     }
     f
 }
 
 // Adds a to 16 octets of f from o on.
-fn add(f: &mut [u8; ROWS], o: usize, a: [u8; 16])
+fn add(f: &mut [u8; ROOM], o: usize, a: [u8; LANES])
     requires { o + lanes ≤ 272 }
     ensures { RowAdded lanes o a f.old f.new }
 {
-    let f = &mut f[..];
-    let mut i: usize = 0;
-    while i < 16 {
+    for i in 0..LANES {
         f[o + i] = field::sum(f[o + i], a[i]);
-        i += 1;
     }
 }
 
-// 8 rows that are worth as much as 17 where y^8 = y^7 + y^6 + y^4 + y^2 + y + 1.
-fn fold_residues(rows: [u8; ROWS]) -> [u8; ROWS]
-    ensures { Folded 8 residues rows result }
+// 8 rows that are worth as much as 17 where y^8 is the sum of the powers of y that the taps name. It is inlined, so that it knows the taps by
+// their numbers: a clean word at e = 0 takes 1,954 instructions in place of 2,477.
+#[inline(always)]
+fn fold(rows: [u8; ROOM], taps: &[usize]) -> [u8; ROOM]
+    requires { (j : ℕ) → j < length taps.now → get_or taps.now j 0 < 8 }
+    ensures { Folded 8 taps.now rows result }
 {
     let mut f = rows;
-    let mut d: usize = 17;
-    while 8 < d {
-        d -= 1;
-        let a = lanes::load(&f, 16 * d);
-        add(&mut f, 16 * d - 128, a);
-        add(&mut f, 16 * d - 112, a);
-        add(&mut f, 16 * d - 96, a);
-        add(&mut f, 16 * d - 64, a);
-        add(&mut f, 16 * d - 32, a);
-        add(&mut f, 16 * d - 16, a);
-    }
-    f
-}
-
-// The same where y^8 = y^5 + y^4 + y^3 + 1.
-fn fold_others(rows: [u8; ROWS]) -> [u8; ROWS]
-    ensures { Folded 8 others rows result }
-{
-    let mut f = rows;
-    let mut d: usize = 17;
-    while 8 < d {
-        d -= 1;
-        let a = lanes::load(&f, 16 * d);
-        add(&mut f, 16 * d - 128, a);
-        add(&mut f, 16 * d - 80, a);
-        add(&mut f, 16 * d - 64, a);
-        add(&mut f, 16 * d - 48, a);
+    for d in (8..ROWS).rev() {
+        let a = lanes::load(&f, LANES * d);
+        for tap in taps {
+            add(&mut f, LANES * (d - 8 + *tap), a);
+        }
     }
     f
 }
 
 // The values at y of 16 columns of n rows, by Horner's rule.
-fn columns_at(f: &[u8; ROWS], n: usize, y: u8) -> [u8; 16]
+fn columns_at(f: &[u8; ROOM], n: usize, y: u8) -> [u8; LANES]
     requires { (0 < n) × (n ≤ 17) }
     ensures { Evaluated n (λ _. y) f.now 16 0 result }
 {
-    let mut d = n - 1;
-    let mut a = lanes::load(f, 16 * d);
-    while 0 < d {
-        d -= 1;
-        let b = lanes::mixed(y, a, lanes::load(f, 16 * d));
-        a = b;
+    let mut a = lanes::load(f, LANES * (n - 1));
+    for d in (0..n - 1).rev() {
+        let next = lanes::mixed(y, a, lanes::load(f, LANES * d));
+        a = next;
     }
     a
 }
 
 // Lane i of a becomes entry r of row 14 - i.
-fn spread(a: [u8; 16], r: usize, v: &mut [u8; VALUES])
+fn spread(a: [u8; LANES], r: usize, v: &mut [u8; VALUES])
     requires { r < 48 }
     ensures { Spread 15 r a v.old v.new }
 {
-    let v = &mut v[..];
-    let mut i: usize = 0;
-    while i < 15 {
-        v[48 * (14 - i) + r] = a[i];
-        i += 1;
+    for i in 0..COLUMNS {
+        v[ENTRIES * (COLUMNS - 1 - i) + r] = a[i];
     }
 }
 
 // The columns' values at α^(15 r) are filled in, where r is up to m.
-fn fill(f: &[u8; ROWS], n: usize, r: usize, m: usize, powers: &[u8; LAID], v: &mut [u8; VALUES])
-    requires { Laid powers.now × (0 < n) × (n ≤ 17) × (r < 34) }
+fn fill(f: &[u8; ROOM], n: usize, r: usize, m: usize, powers: &Powers, v: &mut [u8; VALUES])
+    requires { (0 < n) × (n ≤ 17) × (r < 34) }
     ensures { Filling n f.now 1 (λ _. r) m v.old v.new }
 {
     if r <= m {
-        spread(columns_at(f, n, powers[15 * r]), r, v);
+        spread(columns_at(f, n, powers.at(COLUMNS * r)), r, v);
     }
 }
 
 // The same for each of the roots.
 fn fill_all(
-    f: &[u8; ROWS],
+    f: &[u8; ROOM],
     n: usize,
     roots: &[usize],
     m: usize,
-    powers: &[u8; LAID],
+    powers: &Powers,
     v: &mut [u8; VALUES],
 )
-    requires { Laid powers.now × (0 < n) × (n ≤ 17) × ((j : ℕ) → j < length roots.now → get_or roots.now j 0 < 34) }
+    requires { (0 < n) × (n ≤ 17) × ((j : ℕ) → j < length roots.now → get_or roots.now j 0 < 34) }
     ensures { Filling n f.now (length roots.now) (λ j. get_or roots.now j 0) m v.old v.new }
 {
-    let mut j: usize = 0;
-    while j < roots.len() {
-        fill(f, n, roots[j], m, powers, v);
-        j += 1;
+    for r in roots {
+        fill(f, n, *r, m, powers, v);
     }
 }
 
@@ -146,16 +124,14 @@ fn fill_all(
 fn repeat(v: &mut [u8; VALUES])
     ensures { Repeated 15 v.old v.new }
 {
-    let mut q: usize = 0;
-    while q < 15 {
-        let a = lanes::load(v, 48 * q + 1);
-        octets::write(v, 48 * q + 18, &a);
-        q += 1;
+    for q in 0..COLUMNS {
+        let a = lanes::load(v, ENTRIES * q + 1);
+        octets::write(v, ENTRIES * q + 18, &a);
     }
 }
 
 // The rows of a word.
-fn rows_of(word: &[u8]) -> [u8; ROWS]
+fn rows_of(word: &[u8]) -> [u8; ROOM]
     requires { length word.now ≤ longest_word }
     ensures { RowsAre word.now result }
 {
@@ -166,20 +142,20 @@ fn rows_of(word: &[u8]) -> [u8; ROWS]
 
 // The values of the word's columns at α^15, α^30, .., as far as m syndromes ask for them. The other polynomial's roots begin with
 // r = 3; at r = 17, y is 1, and from there on the values come round.
-pub(crate) fn values(word: &[u8], m: usize, powers: &[u8; LAID]) -> [u8; VALUES]
-    requires { (length word.now ≤ longest_word) × Laid powers.now }
+pub(crate) fn values(word: &[u8], m: usize, powers: &Powers) -> [u8; VALUES]
+    requires { length word.now ≤ longest_word }
     ensures { ColumnsAre m word.now result }
 {
     let rows = rows_of(word);
     let mut v = [0u8; VALUES];
-    let f = fold_residues(rows);
+    let f = fold(rows, &[0, 1, 2, 4, 6, 7]);
     fill_all(&f, 8, &[1, 2, 4, 8, 9, 13, 15, 16], m, powers, &mut v);
     if 2 < m {
-        let g = fold_others(rows);
+        let g = fold(rows, &[0, 3, 4, 5]);
         fill_all(&g, 8, &[3, 5, 6, 7, 10, 11, 12, 14], m, powers, &mut v);
     }
     if 16 < m {
-        fill_all(&rows, 17, &[17], m, powers, &mut v);
+        fill_all(&rows, ROWS, &[17], m, powers, &mut v);
         repeat(&mut v);
     }
     v

@@ -3,19 +3,18 @@
 --   demand1           demand 1
 --
 -- Assumes nothing.
+use Rattle.std.specs.Prelude.{Result, Ok, Err}
 use mathlib.Core.List.{List}
 use Prim.Native.Nat.{ℕ}
 use lib.ListN.{length}
-use Rattle.calls.specs.Refusal.{ended, Refuses, length_says}
-use Rattle.calls.specs.declared.Length.{Length}
-use Rattle.calls.specs.declared.Length.TheVariants as sends
+use Rattle.calls.specs.declared.Refusal.{Refusal}
+use Rattle.calls.specs.Refusal.{ended, Refuses, number, says}
 use Rattle.calls.proofs.Laws.{allowed_refuses, refused_refuses, checked_refuses, told_refuses}
+use Rattle.adaptation.specs.declared.al1m.Judgement.{Judgement}
 use Rattle.adaptation.specs.AL1M.{sent_length}
 use Rattle.adaptation.specs.Sending.{encode_tests, Sends}
 use Rattle.adaptation.specs.Receiving.{RepairLent, receive_tests, Receives}
 use Rattle.adaptation.specs.AL1.{passed}
-use Rattle.adaptation.specs.declared.al1m.Received.{Received}
-use Rattle.adaptation.specs.declared.al1m.Received.TheVariants as al1m
 use Rattle.table.specs.Table.{replaced}
 use Rattle.packets.specs.Packet.{wrote, read}
 use Rattle.channels.specs.Channels.{opened, closed, reset, posted}
@@ -26,15 +25,15 @@ use Rattle.demands.specs.Answers.{judged, Demand1}
 
 -- ---- AL1M, where what is allowed is a relation
 
-encoding : (b e : ℕ) (u before after : List ℕ) (r : Length) → Sends b e u before r after
-    → Refuses (ended (length_says r) after) (encode_tests (length u) b e (length before)) before
-encoding b e u before after (sends.Octets m) (a, p) = allowed_refuses before _ m after a
-encoding b e u before after (sends.Refused k) p = refused_refuses before _ k after p.first p.same
+encoding : (b e : ℕ) (u before after : List ℕ) (r : Result ℕ Refusal) → Sends b e u before r after
+    → Refuses (ended (says r) after) (encode_tests (length u) b e (length before)) before
+encoding b e u before after (Ok m) (a, p) = allowed_refuses before _ m after a
+encoding b e u before after (Err k) p = refused_refuses before _ (number k) after p.first p.same
 
-receiving : (b e : ℕ) (w : List ℕ) (before after : RepairLent) (r : Received) → Receives b e w before r after
+receiving : (b e : ℕ) (w : List ℕ) (before after : RepairLent) (r : Result Judgement Refusal) → Receives b e w before r after
     → Refuses (ended (judged r) after) (receive_tests (length w) b e before) before
-receiving b e w before after (al1m.Unit j) (a, p) = allowed_refuses before _ j after a
-receiving b e w before after (al1m.Refused k) p = refused_refuses before _ k after p.first p.same
+receiving b e w before after (Ok j) (a, p) = allowed_refuses before _ j after a
+receiving b e w before after (Err k) p = refused_refuses before _ (number k) after p.first p.same
 
 -- ---- each operation
 

@@ -7,19 +7,18 @@ use mathlib.Core.Path.{◌≡◌, refl, sym, ap, ap₂, subst, ◌∙◌}
 use mathlib.Core.Bool.{Bool, true, false, cond, not, ◌&&◌, ◌||◌, and-true, and-false}
 use mathlib.Core.List.{List}
 use Prim.Native.Nat.{ℕ, zero, suc, ◌-◌, ◌*◌, ◌%◌, ◌≤◌}
+use Rattle.std.specs.Prelude.{Option, Some, None, Result, Ok}
 use native.Mathlib.Omega.{arith}
 use lib.Dec.{eqb}
 use lib.IntN.{ℤ, pos}
 use lib.ListN.{length, take}
 use lib.Seq.{take-take}
 use Rattle.octets.specs.Tests.{never}
+use Rattle.calls.specs.declared.Refusal.{Refusal}
 use Rattle.codeword.specs.Changed.{changed_places}
 use Rattle.codeword.specs.CodeWord.{distance, Within}
 use Rattle.codeword.specs.Repair.{Repaired}
-use Rattle.codeword.specs.declared.Reach.{Reach}
-use Rattle.codeword.specs.declared.Reach.TheVariants as reach
 use Rattle.codeword.proofs.Laws.{found_is_it}
-use Rattle.calls.specs.declared.Length.TheVariants as sends
 use Rattle.checks.specs.Check.{Kind, agrees}
 use Rattle.checks.specs.Width.{kind_at}
 use Rattle.adaptation.specs.Handed.{badge_number}
@@ -29,8 +28,6 @@ use Rattle.adaptation.specs.Claims.{is_faulty, badge_of_sent}
 use Rattle.adaptation.specs.declared.Badge.{Badge}
 use Rattle.adaptation.specs.declared.Badge.TheVariants.{Clean, Corrected, OutOfReach, CheckFailed, Unchecked}
 use Rattle.adaptation.specs.declared.al1m.Judgement.{Judgement}
-use Rattle.adaptation.specs.declared.al1m.Received.{Received}
-use Rattle.adaptation.specs.declared.al1m.Received.TheVariants as al1m
 use Rattle.adaptation.proofs.Laws.{received_unique}
 use Rattle.kyteblossom.specs.Answer.{packed, receive_answer, EncodeIs, ReceiveIs}
 use Rattle.kyteblossom.specs.Header.{is_below, told_badge, is_badge, is_checked, is_trusted}
@@ -49,13 +46,13 @@ out-of_reach OutOfReach h = refl
 out-of_reach CheckFailed h = absurd (omega arith)
 out-of_reach Unchecked h = absurd (omega arith)
 
-found_number : (x : Bool) (d : ℕ) (a : Bool) → badge_number (badge_of x (reach.Found d) a) ≡ found_badge x d a
+found_number : (x : Bool) (d : ℕ) (a : Bool) → badge_number (badge_of x (Some d) a) ≡ found_badge x d a
 found_number x d false = refl
 found_number true zero true = refl
 found_number false zero true = refl
 found_number x (suc d) true = refl
 
-found-faultless : (x : Bool) (d : ℕ) → is_faulty (badge_of x (reach.Found d) true) ≡ false
+found-faultless : (x : Bool) (d : ℕ) → is_faulty (badge_of x (Some d) true) ≡ false
 found-faultless true zero = refl
 found-faultless false zero = refl
 found-faultless x (suc d) = refl
@@ -82,7 +79,7 @@ trusted-number b e zero true = go (is_checked b) refl
 
 -- ---- what is told of a word that is handed up
 
-module _ (b e : ℕ) (w : List ℕ) (before after : RepairLent) (r : ℤ) (j : Judgement) (p : Receives b e w before (al1m.Unit j) after)
+module _ (b e : ℕ) (w : List ℕ) (before after : RepairLent) (r : ℤ) (j : Judgement) (p : Receives b e w before (Ok j) after)
     (q : Parts r j w after.repair) where
   known : Repairs b e w before after j
   known = demand3.repairs b e w before after j p
@@ -106,26 +103,26 @@ module _ (b e : ℕ) (w : List ℕ) (before after : RepairLent) (r : ℤ) (j : J
     agreeing : Bool
     agreeing = agrees (kind_at b) (take (length w - 2 * e) c)
 
-    judged_as : j.badge ≡ badge_of (is_bare (kind_at b) e) (reach.Found (distance w c)) agreeing
+    judged_as : j.badge ≡ badge_of (is_bare (kind_at b) e) (Some (distance w c)) agreeing
     unfolding agreeing
     judged_as = go p.1.reach p.1.repaired p.1.badge_is
       where
-        go : (o : Reach) → Repaired e w before o after
+        go : (o : Option ℕ) → Repaired e w before o after
             → j.badge ≡ badge_of (is_bare (kind_at b) e) o (agrees (kind_at b) (take (length w - 2 * e) after.repair))
-            → j.badge ≡ badge_of (is_bare (kind_at b) e) (reach.Found (distance w c)) agreeing
-        go reach.OutOfReach f h = absurd (known.found.1 (c, near) h)
-        go (reach.Found d) f h =
+            → j.badge ≡ badge_of (is_bare (kind_at b) e) (Some (distance w c)) agreeing
+        go None f h = absurd (known.found.1 (c, near) h)
+        go (Some d) f h =
             let k = found_is_it e w before after d f c near in
             let m : take (length w - 2 * e) after.repair ≡ take (length w - 2 * e) c =
             sym (take-take (length w - 2 * e) (length w) after.repair (omega arith)) ∙ ap (take (length w - 2 * e)) k.word in
-            h ∙ ap₂ (badge_of (is_bare (kind_at b) e)) (ap reach.Found k.count) (ap (agrees (kind_at b)) m)
+            h ∙ ap₂ (badge_of (is_bare (kind_at b) e)) (ap Some k.count) (ap (agrees (kind_at b)) m)
 
     badge-told : badge_number j.badge ≡ found_badge (is_bare (kind_at b) e) (distance w c) agreeing
     badge-told = ap badge_number judged_as ∙ found_number (is_bare (kind_at b) e) (distance w c) agreeing
 
     unit-told : agreeing ≡ true → handed_unit j.badge w after.repair j.length ≡ take j.length c
     unit-told a =
-        let f = known.faultless (ap is_faulty (judged_as ∙ ap (badge_of (is_bare (kind_at b) e) (reach.Found (distance w c))) a)
+        let f = known.faultless (ap is_faulty (judged_as ∙ ap (badge_of (is_bare (kind_at b) e) (Some (distance w c))) a)
         ∙ found-faultless (is_bare (kind_at b) e) (distance w c)) in
         f.1.unit ∙ ap (take j.length) (known.once f.0 c f.1.within near)
 
@@ -152,16 +149,16 @@ module _ (b e : ℕ) (w : List ℕ) (before after : RepairLent) (r : ℤ) (j : J
   }
 
 -- the answer's parts are those of the one judgement that receiving allows
-unit-same : (i j : Judgement) → al1m.Unit i ≡ al1m.Unit j → i ≡ j
+unit-same : (i j : Judgement) → ◌≡◌ {A = Result Judgement Refusal} (Ok i) (Ok j) → i ≡ j
 unit-same i j h = cc
 
 parts-of : (b e : ℕ) (w : List ℕ) (before after : RepairLent) (r : ℤ) (j : Judgement) → ReceiveIs b e w before r after
-    → Receives b e w before (al1m.Unit j) after → Parts r j w after.repair
+    → Receives b e w before (Ok j) after → Parts r j w after.repair
 parts-of b e w before after r j g p =
-    let same = (received_unique b e w before after after g.outcome (al1m.Unit j) g.received p).0 in
+    let same = (received_unique b e w before after after g.outcome (Ok j) g.received p).0 in
     let k = (receive_answered b e w before after r g).1 (ap is_below (g.number ∙ ap receive_answer same)) in
     subst (λ (i : Judgement). Parts r i w after.repair)
-    (unit-same k.0 j (received_unique b e w before after after (al1m.Unit k.0) (al1m.Unit j) k.1 p).0) k.2
+    (unit-same k.0 j (received_unique b e w before after after (Ok k.0) (Ok j) k.1 p).0) k.2
 
 repairs : (b e : ℕ) (w : List ℕ) (before after : RepairLent) (r : ℤ) → ReceiveIs b e w before r after → is_below r ≡ false
     → HostRepairs b e w before after r
@@ -175,7 +172,7 @@ sent-number κ e zero = found_number (is_bare κ e) zero true
 sent-number κ e (suc d) = found_number (is_bare κ e) (suc d) true
 
 sent-told : (b e : ℕ) (c u w : List ℕ) (before after : RepairLent) (r : ℤ)
-    → (p : Receives b e w before (al1m.Unit (record { badge = badge_of_sent (kind_at b) e (distance w c); changed = distance w c; length = length u })) after)
+    → (p : Receives b e w before (Ok (record { badge = badge_of_sent (kind_at b) e (distance w c); changed = distance w c; length = length u })) after)
     → Parts r (record { badge = badge_of_sent (kind_at b) e (distance w c); changed = distance w c; length = length u }) w after.repair
     → handed_unit (badge_of_sent (kind_at b) e (distance w c)) w after.repair (length u) ≡ u
     → take (distance w c) after.places ≡ changed_places w c → SentTold b e c u w after r
@@ -195,9 +192,9 @@ as_sent : (b e m : ℕ) (u room sent w : List ℕ) (before after : RepairLent) (
     → SentTold b e (take m sent) u w after r
 as_sent b e m u room sent w before after r a l near fits list g =
     let k = (encode_answered b e u room sent (pos m) a).1 refl in
-    let s : Sends b e u room (sends.Octets m) sent = subst (λ (n : ℕ). Sends b e u room (sends.Octets n) sent) (cc k.1) k.3 in
+    let s : Sends b e u room (Ok m) sent = subst (λ (n : ℕ). Sends b e u room (Ok n) sent) (cc k.1) k.3 in
     let h = demand3.as_sent b e m u room sent w before after g.outcome s l near fits list g.received in
-    let p = subst (λ (o : Received). Receives b e w before o after) h.0 g.received in
+    let p = subst (λ (o : Result Judgement Refusal). Receives b e w before o after) h.0 g.received in
     sent-told b e (take m sent) u w before after r p (parts-of b e w before after r _ g p) h.1 h.2
 
 pub host : Host

@@ -7,14 +7,13 @@ use mathlib.Core.Path.{◌≡◌, refl}
 use mathlib.Core.Bool.{not}
 use mathlib.Core.List.{List}
 use Prim.Native.Nat.{ℕ, ◌+◌, ◌*◌, ◌-◌, ◌≤◌}
+use Rattle.std.specs.Prelude.{Option, Some, None, Ok}
 use borrow.Author.Tests.{leb-true}
 use lib.Dec.{leb}
 use lib.ListN.{length, take}
 use Rattle.octets.specs.Tests.{both_true}
 use Rattle.codeword.specs.CodeWord.{Within, longest_word}
 use Rattle.codeword.specs.Repair.{Repaired}
-use Rattle.codeword.specs.declared.Reach.{Reach}
-use Rattle.codeword.specs.declared.Reach.TheVariants as reach
 use Rattle.codeword.proofs.Laws.{places_exactly, places_counted, never_second}
 use Rattle.checks.specs.Check.{agrees}
 use Rattle.checks.specs.Width.{kind_at}
@@ -24,7 +23,6 @@ use Rattle.adaptation.specs.Receiving.{RepairLent, has_repair_room, is_word, rec
 use Rattle.adaptation.specs.declared.Badge.{Badge}
 use Rattle.adaptation.specs.declared.Badge.TheVariants.{Clean, Corrected, OutOfReach, CheckFailed, Unchecked}
 use Rattle.adaptation.specs.declared.al1m.Judgement.{Judgement}
-use Rattle.adaptation.specs.declared.al1m.Received.TheVariants as al1m
 use Rattle.adaptation.proofs.Laws.{refused_none}
 use Rattle.adaptation.proofs.Laws.{sent_is_handed_up, found_is_shown, badge_exactly, out_of_reach_exactly, out_of_reach_leaves, faultless_is_code_word}
 use Rattle.demands.specs.Repairs.{Repairs, Demand3}
@@ -42,11 +40,11 @@ as-received OutOfReach w after t f = refl
 as-received CheckFailed w after t f = refl
 as-received Unchecked w after t f = refl
 
-module _ (n e : ℕ) (w : List ℕ) (before after : RepairLent) (j : Judgement) (a : Receives n e w before (al1m.Unit j) after) where
-  found : (x : Reach) → Repaired e w before x after → j.badge ≡ badge_of (is_bare (kind_at n) e) x (agrees (kind_at n) (take (length w - 2 * e) after.repair))
+module _ (n e : ℕ) (w : List ℕ) (before after : RepairLent) (j : Judgement) (a : Receives n e w before (Ok j) after) where
+  found : (x : Option ℕ) → Repaired e w before x after → j.badge ≡ badge_of (is_bare (kind_at n) e) x (agrees (kind_at n) (take (length w - 2 * e) after.repair))
       → (j.badge ≡ OutOfReach → ⊥) → (c : List ℕ) × Within e w c
-  found (reach.Found k) p b h = (p.found, p.within)
-  found reach.OutOfReach p b h = absurd (h b)
+  found (Some k) p b h = (p.found, p.within)
+  found None p b h = absurd (h b)
 
   repairs : Repairs n e w before after j
   repairs = record {

@@ -3,6 +3,7 @@
 --   wrong     none of them does
 --
 -- Assumes nothing.
+use Rattle.std.specs.Prelude.{Ok}
 use mathlib.Core.Path.{◌≡◌, sym, ap, subst, ◌∙◌}
 use mathlib.Core.List.{List, [], ◌∷◌}
 use Prim.Native.Nat.{ℕ, ◌≤◌}
@@ -16,7 +17,6 @@ use Rattle.adaptation.specs.Receiving.{RepairLent, lending, Receives, handed_uni
 use Rattle.adaptation.specs.declared.Badge.{Badge}
 use Rattle.adaptation.specs.declared.Badge.TheVariants.{Clean, Corrected}
 use Rattle.adaptation.specs.declared.al1m.Judgement.{Judgement}
-use Rattle.adaptation.specs.declared.al1m.Received.TheVariants.{Unit}
 use Rattle.demands.specs.Small.{ReceivedAs}
 use Rattle.demands.specs.Wrong.{Receiver, Keeps, RefusesAll, FindsNothing, SameUnit, SaysClean, Somewhere, Miscounts, Misplaces, Wrong}
 use Rattle.demands.proofs.Vectors.{octets-by, c5, w4, w6, small}
@@ -28,7 +28,7 @@ own w = lending w w
 
 module _ (R : Receiver) (keeps : Keeps R) (n e : ℕ) (w : List ℕ) (o : Octets w) (b : Badge) (k : ℕ) (u l : List ℕ) (row : ReceivedAs n e w b k u l)
     (list : e ≤ length w) where
-  answers : R.answer n e w (own w) ≡ Unit (record { badge = b; changed = k; length = length u })
+  answers : R.answer n e w (own w) ≡ Ok (record { badge = b; changed = k; length = length u })
   answers = (row (own w) (R.leaves n e w (own w)) (R.answer n e w (own w)) (le_refl (length w)) list (keeps n e w (own w) o o o)).0
 
   hands : handed_unit b w (R.leaves n e w (own w)).repair (length u) ≡ u
@@ -46,13 +46,13 @@ o6 = octets-by w6 tt
 
 module _ (R : Receiver) (keeps : Keeps R) where
   -- A4, A5 and A6
-  fourth : R.answer 8 2 w4 (own w4) ≡ Unit (record { badge = Corrected; changed = 2; length = 2 })
+  fourth : R.answer 8 2 w4 (own w4) ≡ Ok (record { badge = Corrected; changed = 2; length = 2 })
   fourth = answers R keeps 8 2 w4 o4 Corrected 2 (0x10 ∷ 0x80 ∷ []) (0 ∷ 1 ∷ []) small.3 (omega arith)
 
-  fifth : R.answer 0 1 c5 (own c5) ≡ Unit (record { badge = Clean; changed = 0; length = 1 })
+  fifth : R.answer 0 1 c5 (own c5) ≡ Ok (record { badge = Clean; changed = 0; length = 1 })
   fifth = answers R keeps 0 1 c5 o5 Clean 0 (0x01 ∷ []) [] small.4 (omega arith)
 
-  sixth : R.answer 0 1 w6 (own w6) ≡ Unit (record { badge = Corrected; changed = 1; length = 1 })
+  sixth : R.answer 0 1 w6 (own w6) ≡ Ok (record { badge = Corrected; changed = 1; length = 1 })
   sixth = answers R keeps 0 1 w6 o6 Corrected 1 (0x01 ∷ []) (2 ∷ []) small.5 (omega arith)
 
   refuses : RefusesAll R → ⊥

@@ -3,7 +3,7 @@
 --
 --   equation-once                          of a promise that is an equation, `r ≡ definition arguments`
 --   codeword-encoded, codeword-repaired    the code word's
---   outcome-once, length-once, lengths-once   of answers that say 'done' or 'so many octets', alone and with what is left
+--   says-once, both_say-once               of results that say the same, alone and with what is left
 --   check8-once, al1m-encoded, al1m-received, passed-once, read-once, received-once   the adaptation layers'
 --   writes_once, reads_once                the record's
 --   reading-once                           the packets'
@@ -16,7 +16,7 @@
 -- Assumes nothing.
 use mathlib.Core.Path.{◌≡◌, sym, ◌∙◌}
 pub use Rattle.codeword.proofs.Laws.{encoded_unique as codeword-encoded, repaired_unique as codeword-repaired}
-pub use Rattle.calls.proofs.Laws.{length-once, lengths-once, outcome-once}
+pub use Rattle.calls.proofs.Laws.{says-once, both_say-once}
 pub use Rattle.checks.proofs.Laws.{check8-once}
 pub use Rattle.adaptation.proofs.Laws.{encoded_unique as al1m-encoded, received_unique as al1m-received, passed-once, read-once, received-once}
 pub use Rattle.record.proofs.Laws.{writes_once, reads_once}

@@ -14,6 +14,7 @@ use mathlib.Core.Path.{◌≡◌, refl, sym, ap, ◌∙◌, fun_ext}
 use mathlib.Core.Bool.{Bool, true, false, cond, not, ◌&&◌}
 use mathlib.Core.List.{List, [], ◌∷◌}
 use Prim.Native.Nat.{ℕ, zero, suc, ◌*◌, ◌-◌, ◌≤◌, ◌<◌}
+use Rattle.std.specs.Prelude.{Some, None, Ok}
 use native.Mathlib.Omega.{arith}
 use borrow.Author.Tests.{le-leb, leb-true}
 use lib.Dec.{T, leb, ltb, lit<, ltb→lt}
@@ -28,7 +29,6 @@ use Rattle.codeword.specs.Changed.{changed_places}
 use Rattle.codeword.specs.CodeWord as code
 use Rattle.codeword.specs.CodeWord.{Octets, distance, Within, longest_word}
 use Rattle.codeword.specs.Repair.{reads, filled}
-use Rattle.codeword.specs.declared.Reach.TheVariants as reach
 use Rattle.calls.specs.Refusal.{told, refusal}
 use Rattle.algebra.specs.Division.{sum, lowered, divided, remainder}
 use Rattle.checks.specs.Bits.{is_odd, bits_of, bits, number, octets_of}
@@ -39,7 +39,6 @@ use Rattle.adaptation.specs.AL1M.{is_setting, is_sendable, sent_length}
 use Rattle.adaptation.specs.Receiving.{RepairLent, has_repair_room, is_word, receive_tests, is_bare, badge_of, is_corrected, unit_length, Receives}
 use Rattle.adaptation.specs.declared.Badge.{Badge}
 use Rattle.adaptation.specs.declared.Badge.TheVariants.{Clean, Corrected, OutOfReach, CheckFailed}
-use Rattle.adaptation.specs.declared.al1m.Received.TheVariants as al1m
 use Rattle.adaptation.proofs.Laws.{refused-not}
 use Rattle.adaptation.proofs.Laws.{received_unique}
 use Rattle.table.specs.Entry.{size, all_elements, depth, is_list, is_entry_tree, element_numbers}
@@ -70,16 +69,16 @@ module _ (n e : ℕ) (w : List ℕ) (setting : is_setting n e ≡ true) (is_one 
     front c k l h = take-append-le k c _ (omega arith)
 
     module _ (c : List ℕ) (near : Within e w c) (b : Badge) (t : ℕ)
-        (badge : badge_of (is_bare (kind_at n) e) (reach.Found (distance w c)) (agrees (kind_at n) (take (length w - 2 * e) c)) ≡ b)
+        (badge : badge_of (is_bare (kind_at n) e) (Some (distance w c)) (agrees (kind_at n) (take (length w - 2 * e) c)) ≡ b)
         (unit : unit_length (kind_at n) e (length w) ≡ t) where
-      pub receives : Receives n e w before (al1m.Unit (record { badge = b; changed = distance w c; length = t }))
+      pub receives : Receives n e w before (Ok (record { badge = b; changed = distance w c; length = t }))
           (filled before c (changed_places w c))
       receives = (
         allowed,
         record {
-          reach = reach.Found (distance w c);
+          reach = Some (distance w c);
           repaired = record { fits = fits; found = c; within = near; count = refl; filled_is = refl };
-          badge_is = sym badge ∙ ap (λ (l : List ℕ). badge_of (is_bare (kind_at n) e) (reach.Found (distance w c)) (agrees (kind_at n) l))
+          badge_is = sym badge ∙ ap (λ (l : List ℕ). badge_of (is_bare (kind_at n) e) (Some (distance w c)) (agrees (kind_at n) l))
               (sym (front c (length w - 2 * e) near.long (omega arith)));
           changed_is = refl;
           length_is = sym unit;
@@ -87,11 +86,11 @@ module _ (n e : ℕ) (w : List ℕ) (setting : is_setting n e ≡ true) (is_one 
       )
 
     module _ (none : (c : List ℕ) → Within e w c → ⊥) (t : ℕ) (unit : unit_length (kind_at n) e (length w) ≡ t) where
-      pub misses : Receives n e w before (al1m.Unit (record { badge = OutOfReach; changed = 0; length = t })) before
+      pub misses : Receives n e w before (Ok (record { badge = OutOfReach; changed = 0; length = t })) before
       misses = (
         allowed,
         record {
-          reach = reach.OutOfReach;
+          reach = None;
           repaired = record { none = λ _. none; same = refl };
           badge_is = refl;
           changed_is = refl;
@@ -100,13 +99,13 @@ module _ (n e : ℕ) (w : List ℕ) (setting : is_setting n e ≡ true) (is_one 
       )
 
   pub found_as : (c : List ℕ) (b : Badge) (k : ℕ) (u l : List ℕ) → Within e w c
-      → badge_of (is_bare (kind_at n) e) (reach.Found (distance w c)) (agrees (kind_at n) (take (length w - 2 * e) c)) ≡ b
+      → badge_of (is_bare (kind_at n) e) (Some (distance w c)) (agrees (kind_at n) (take (length w - 2 * e) c)) ≡ b
       → distance w c ≡ k → unit_length (kind_at n) e (length w) ≡ length u → take (length u) (cond (is_corrected b) c w) ≡ u → changed_places w c ≡ l
       → ReceivedAs n e w b k u l
   found_as c b k u l near bs ks ls us ps before after r room list h =
       let both = received_unique n e w before after (filled before c (changed_places w c)) r _ h (receives before room list c near b (length u) bs ls) in
       let t : length u ≤ length w = omega (arith, ls) in (
-        both.0 ∙ ap (λ (i : ℕ). al1m.Unit (record { badge = b; changed = i; length = length u })) ks,
+        both.0 ∙ ap (λ (i : ℕ). Ok (record { badge = b; changed = i; length = length u })) ks,
         ap (λ (x : RepairLent). take (length u) (cond (is_corrected b) x.repair w)) both.1
             ∙ chosen (is_corrected b) (front before room list c (length u) near.long t) ∙ us,
         ap (λ (x : RepairLent). x.places) both.1 ∙ ap (written before.places 0) ps,

@@ -7,16 +7,14 @@
 --                   definitions. proofs/First.antt proves it
 --
 -- Assumes nothing.
-use Rattle.std.specs.Prelude.{Bool, List, ℕ, length}
-use Rattle.calls.specs.Refusal.{Told, refused, told, ended, Refuses, length_says}
-use Rattle.calls.specs.declared.Length.{Length}
+use Rattle.std.specs.Prelude.{Bool, List, ℕ, length, Result, Ok, Err}
+use Rattle.calls.specs.declared.Refusal.{Refusal}
+use Rattle.calls.specs.Refusal.{Told, refused, told, ended, Refuses, number, says}
 use Rattle.adaptation.specs.AL1M.{length_tests, sent_length}
 use Rattle.adaptation.specs.Sending.{encode_tests, Sends}
 use Rattle.adaptation.specs.Receiving.{RepairLent, receive_tests, Receives}
 use Rattle.adaptation.specs.AL1.{pass_tests, passed}
 use Rattle.adaptation.specs.declared.al1m.Judgement.{Judgement}
-use Rattle.adaptation.specs.declared.al1m.Received.{Received}
-use Rattle.adaptation.specs.declared.al1m.Received.TheVariants as al1m
 use Rattle.table.specs.Table.{replace_tests, replaced}
 use Rattle.packets.specs.Packet.{write_tests, wrote, read_tests, read}
 use Rattle.channels.specs.declared.Channels.{Channels}
@@ -25,15 +23,15 @@ use Rattle.channels.specs.Layers as layers
 use Rattle.multiplex.specs.Demultiplexer.{DemuxLent, demultiplex_tests, demultiplexed}
 use Rattle.multiplex.specs.Multiplexer.{MuxLent, multiplex_tests, multiplexed}
 
-abbrev pub judged : Received → Told Judgement
-judged (al1m.Unit j) = told j
-judged (al1m.Refused k) = refused k
+abbrev pub judged : Result Judgement Refusal → Told Judgement
+judged (Ok j) = told j
+judged (Err r) = refused (number r)
 
 pub record Demand1 : Type 0 where
   pub lengths : (t b e : ℕ) → Refuses {X = Unit {0}} (ended (sent_length t b e) tt) (length_tests t b e) tt
-  pub encoding : (b e : ℕ) (u before after : List ℕ) (r : Length) → Sends b e u before r after
-      → Refuses (ended (length_says r) after) (encode_tests (length u) b e (length before)) before
-  pub receiving : (b e : ℕ) (w : List ℕ) (before after : RepairLent) (r : Received) → Receives b e w before r after
+  pub encoding : (b e : ℕ) (u before after : List ℕ) (r : Result ℕ Refusal) → Sends b e u before r after
+      → Refuses (ended (says r) after) (encode_tests (length u) b e (length before)) before
+  pub receiving : (b e : ℕ) (w : List ℕ) (before after : RepairLent) (r : Result Judgement Refusal) → Receives b e w before r after
       → Refuses (ended (judged r) after) (receive_tests (length w) b e before) before
   pub passing : (u : List ℕ) → Refuses {X = Unit {0}} (ended (passed u) tt) (pass_tests u) tt
   pub sending : (x : layers.SendLent) (n : ℕ) (numbered : Bool) (u : List ℕ)

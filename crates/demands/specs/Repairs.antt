@@ -8,7 +8,7 @@
 --              of refusals 1 and 2, and 3 where the buffer for the repair or the list of places is too small.) proofs/Reached.antt proves it
 --
 -- Assumes nothing.
-use Rattle.std.specs.Prelude.{◌≡◌, ◌↔◌, false, List, ℕ, take}
+use Rattle.std.specs.Prelude.{◌≡◌, ◌↔◌, false, List, ℕ, take, Ok}
 use Rattle.codeword.specs.Claims.{PlacesExactly, PlacesCounted, RepairShows}
 use Rattle.codeword.specs.CodeWord.{Within}
 use Rattle.adaptation.specs.Receiving.{RepairLent, Receives, handed_unit}
@@ -16,7 +16,6 @@ use Rattle.adaptation.specs.Claims.{is_faulty, Faultless, Earns, SentIsHandedUp}
 use Rattle.adaptation.specs.declared.Badge.{Badge}
 use Rattle.adaptation.specs.declared.Badge.TheVariants.{Corrected, OutOfReach}
 use Rattle.adaptation.specs.declared.al1m.Judgement.{Judgement}
-use Rattle.adaptation.specs.declared.al1m.Received.TheVariants as al1m
 
 -- a check of b bits and e repairs, the word w, what was lent for the repair before and after, and what is told
 module _ (b e : ℕ) (w : List ℕ) (before after : RepairLent) (j : Judgement) where
@@ -40,7 +39,7 @@ pub record Demand3 : Type 0 where
   -- what the changed places are: exactly those at which two words differ, ascending from 0 at the first octet; and how many
   pub places : PlacesExactly
   pub counted : PlacesCounted
-  pub repairs : (b e : ℕ) (w : List ℕ) (before after : RepairLent) (j : Judgement) → Receives b e w before (al1m.Unit j) after → Repairs b e w before after j
+  pub repairs : (b e : ℕ) (w : List ℕ) (before after : RepairLent) (j : Judgement) → Receives b e w before (Ok j) after → Repairs b e w before after j
   -- a unit of which at most e octets changed is handed up as sent with the true count, and the places of those that changed: clean if none
   -- changed (unchecked where there is neither check nor code), and corrected if any did
   pub as_sent : SentIsHandedUp

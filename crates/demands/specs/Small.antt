@@ -6,21 +6,21 @@
 --   Small        the table: A1 to A10, in this order; proofs/Vectors.antt proves it
 --
 -- Assumes nothing.
-use Rattle.std.specs.Prelude.{◌≡◌, List, [], ◌∷◌, ℕ, ◌≤◌, length, true}
+use Rattle.std.specs.Prelude.{◌≡◌, List, [], ◌∷◌, ℕ, ◌≤◌, length, true, Result, Ok}
 use Rattle.octets.specs.Written.{written}
 use Rattle.algebra.specs.Polynomial.{polynomial}
 use Rattle.codeword.specs.Element.{elements}
 use Rattle.codeword.specs.CodeWord as code
+use Rattle.calls.specs.declared.Refusal.{Refusal}
 use Rattle.calls.specs.Refusal.{Told, refused, told}
 use Rattle.checks.specs.Check.{check_of}
 use Rattle.checks.specs.Width.{kind_at}
+use Rattle.adaptation.specs.declared.al1m.Judgement.{Judgement}
 use Rattle.adaptation.specs.AL1M.{sent_length}
 use Rattle.adaptation.specs.Sending.{Coded}
 use Rattle.adaptation.specs.Receiving.{RepairLent, Receives, handed_unit}
 use Rattle.adaptation.specs.declared.Badge.{Badge}
 use Rattle.adaptation.specs.declared.Badge.TheVariants.{Clean, Corrected, OutOfReach, CheckFailed}
-use Rattle.adaptation.specs.declared.al1m.Received.{Received}
-use Rattle.adaptation.specs.declared.al1m.Received.TheVariants as al1m
 use Rattle.table.specs.Entry.{times, until_closing, Elements, none, channel, list, is_entry_tree, numbers}
 use Rattle.table.specs.Form.{is_entry}
 use Rattle.table.specs.Slots.{entry_slots, payload_slots, channels_of}
@@ -42,8 +42,8 @@ pub data Vector : Type 0 where
 -- whatever is lent for the repair, if it is enough
 abbrev pub ReceivedAs : ℕ → ℕ → List ℕ → Badge → ℕ → List ℕ → List ℕ → Type 0
 ReceivedAs b e w x k u l =
-    (before after : RepairLent) (r : Received) → length w ≤ length before.repair → e ≤ length before.places → Receives b e w before r after
-    → (r ≡ al1m.Unit (record { badge = x; changed = k; length = length u })) × (handed_unit x w after.repair (length u) ≡ u)
+    (before after : RepairLent) (r : Result Judgement Refusal) → length w ≤ length before.repair → e ≤ length before.places → Receives b e w before r after
+    → (r ≡ Ok (record { badge = x; changed = k; length = length u })) × (handed_unit x w after.repair (length u) ≡ u)
     × (after.places ≡ written before.places 0 l)
 
 abbrev pub Holds : Vector → Type 0

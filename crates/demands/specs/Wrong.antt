@@ -19,18 +19,17 @@
 --   Wrong           none of these keeps the promise; proofs/Refuted.antt proves it
 --
 -- Assumes nothing.
-use Rattle.std.specs.Prelude.{◌≡◌, List, ℕ, take}
+use Rattle.std.specs.Prelude.{◌≡◌, List, ℕ, take, Result, Ok, Err}
 use Rattle.octets.specs.Written.{written}
+use Rattle.calls.specs.declared.Refusal.{Refusal}
 use Rattle.codeword.specs.Changed.{changed_places}
 use Rattle.codeword.specs.CodeWord.{Octets, distance, Within}
 use Rattle.adaptation.specs.Receiving.{RepairLent, Receives, handed_unit}
 use Rattle.adaptation.specs.declared.Badge.TheVariants.{Clean, OutOfReach}
 use Rattle.adaptation.specs.declared.al1m.Judgement.{Judgement}
-use Rattle.adaptation.specs.declared.al1m.Received.{Received}
-use Rattle.adaptation.specs.declared.al1m.Received.TheVariants.{Unit, Refused}
 
 pub record Receiver : Type 0 where
-  pub answer : (width e : ℕ) → (word : List ℕ) → (lent : RepairLent) → Received
+  pub answer : (width e : ℕ) → (word : List ℕ) → (lent : RepairLent) → Result Judgement Refusal
   pub leaves : (width e : ℕ) → (word : List ℕ) → (lent : RepairLent) → RepairLent
 
 abbrev pub OfWords : ((width e : ℕ) → (word : List ℕ) → (lent : RepairLent) → Type 0) → Type 0
@@ -44,10 +43,10 @@ SomeKeeps = (R : Receiver) × Keeps R
 
 -- P holds of every unit that R hands up
 abbrev pub Always : Receiver → ((word : List ℕ) → (lent after : RepairLent) → Judgement → Type 0) → Type 0
-Always R P = OfWords (λ b e w before. (j : Judgement) → R.answer b e w before ≡ Unit j → P w before (R.leaves b e w before) j)
+Always R P = OfWords (λ b e w before. (j : Judgement) → R.answer b e w before ≡ Ok j → P w before (R.leaves b e w before) j)
 
 abbrev pub RefusesAll : Receiver → Type 0
-RefusesAll R = OfWords (λ b e w before. (k : ℕ) × (R.answer b e w before ≡ Refused k))
+RefusesAll R = OfWords (λ b e w before. (r : Refusal) × (R.answer b e w before ≡ Err r))
 
 abbrev pub FindsNothing : Receiver → Type 0
 FindsNothing R = Always R (λ w before after j. j.badge ≡ OutOfReach)
@@ -68,7 +67,7 @@ pub record Somewhere (R : Receiver) (P : (word found : List ℕ) → (after : Re
   pub list_octets : Octets lent.places
   pub found : List ℕ
   pub told : Judgement
-  pub answers : R.answer width e word lent ≡ Unit told
+  pub answers : R.answer width e word lent ≡ Ok told
   pub within : Within e word found
   pub differs : P word found (R.leaves width e word lent) told → ⊥
 

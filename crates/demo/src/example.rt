@@ -1,81 +1,92 @@
 // One unit of the call, as it came and as it was repaired, one above the other, with the repaired octets marked.
-use crate::plan;
+use crate::far::Verdict;
+use crate::plan::{Layer, Plan};
 use adaptation::al1m;
-use adaptation::al1m::MOST_PLACES;
-use codeword::LONGEST_WORD;
-use print::Output;
+use channels::ChannelNumber;
+use print::values::List;
+use std::fmt;
+use std::fmt::{Display, Formatter};
 
-// Puts a line: a name, and octets in hex, each behind a space.
-fn put_octets<R: Print + Eprint>(out: &mut Output<'_, R>, name: &[u8], octets: &[u8]) {
-    out.put(name);
-    for octet in octets {
-        out.store(b' ');
-        out.hex(&[*octet]);
-    }
-    out.store(b'\n');
+// The channel whose unit is shown, and how many octets such a unit has on the way, and how many of them were repaired.
+const CHANNEL: ChannelNumber = ChannelNumber(1);
+
+const OCTETS: usize = 25;
+
+const REPAIRED: usize = 2;
+
+// A unit as it came and as it was repaired, and the places, which rise, of the octets that were repaired.
+#[derive(Clone, Copy)]
+pub(crate) struct Example {
+    received: [u8; OCTETS],
+    repaired: [u8; OCTETS],
+    places: [u8; REPAIRED],
 }
 
-// Puts a mark below an octet that was repaired, and space below another.
-fn put_mark<R: Print + Eprint>(out: &mut Output<'_, R>, hit: bool) {
-    if hit {
-        out.put(b" ^^");
-    } else {
-        out.put(b"   ");
-    }
-}
-
-// Puts a line with a mark below the octet at each of the places, which rise.
-fn put_marks<R: Print + Eprint>(out: &mut Output<'_, R>, places: &[u8]) {
-    out.put(b"          ");
-    let mut k = 0;
-    for p in 0..255 {
-        if places.len() <= k {
-            break;
+impl Example {
+    // The unit, if it is one to show, repaired once more.
+    pub(crate) fn of(plan: &Plan, word: &[u8], verdict: Verdict) -> Option<Self> {
+        let Layer::Al1m { width, repairs } = plan.layer else {
+            return None;
+        };
+        if plan.channel != CHANNEL || verdict.repaired != REPAIRED {
+            return None;
         }
-        let hit = places[k] == p;
-        put_mark(out, hit);
-        if hit {
-            k += 1;
-        }
+        let mut repaired = [0u8; OCTETS];
+        let mut places = [0u8; REPAIRED];
+        let received = <[u8; OCTETS]>::try_from(word).ok()?;
+        al1m::receive(word, width, repairs, &mut repaired, &mut places).ok()?;
+        Some(Example {
+            received,
+            repaired,
+            places,
+        })
     }
-    out.store(b'\n');
 }
 
-// Writes the received word, the repaired one and the marks.
-fn write(rt: &(impl Print + Eprint), received: &[u8], repaired: &[u8], places: &[u8]) {
-    let mut out = Output::new(rt);
-    out.put(b"A damaged unit of channel ");
-    out.number(CHANNEL as u64, 0);
-    out.put(b": the octets at places ");
-    out.list(places);
-    out.put(b", counted from 0, were repaired.\n\n");
-    put_octets(&mut out, b"  received", received);
-    put_octets(&mut out, b"  repaired", repaired);
-    put_marks(&mut out, places);
-    out.store(b'\n');
-    out.end();
+// A line of octets in hex, each behind a space.
+#[derive(Clone, Copy)]
+struct Spaced<'a>(&'a [u8]);
+
+impl Display for Spaced<'_> {
+    fn fmt<W: fmt::Write>(&self, f: &mut Formatter<W>) -> fmt::Result {
+        for octet in self.0 {
+            write!(f, " {octet:02X}")?;
+        }
+        Ok(())
+    }
 }
 
-// The channel whose unit is shown, and how many of its octets were repaired.
-pub const CHANNEL: u16 = 1;
+// Marks below the octets of such a line: below each at one of the places, up to the last.
+#[derive(Clone, Copy)]
+struct Marks<'a>(&'a [u8]);
 
-pub const REPAIRED: usize = 2;
+impl Display for Marks<'_> {
+    fn fmt<W: fmt::Write>(&self, f: &mut Formatter<W>) -> fmt::Result {
+        let Some(last) = self.0.last() else {
+            return Ok(());
+        };
+        for place in 0..=*last {
+            f.write_str(if self.0.contains(&place) {
+                " ^^"
+            } else {
+                "   "
+            })?;
+        }
+        Ok(())
+    }
+}
 
-// Repairs a word of that channel once more, and shows it.
-pub fn show(rt: &(impl Print + Eprint), word: &[u8]) {
-    let mut repair = [0u8; LONGEST_WORD];
-    let mut places = [0u8; MOST_PLACES];
-    let width = plan::width(CHANNEL);
-    let e = plan::repairs(CHANNEL);
-    let received = al1m::receive(word, width, e, &mut repair, &mut places);
-    let al1m::Received::Unit(j) = received else {
-        return;
-    };
-    let n = word.len();
-    write(
-        rt,
-        word,
-        octets::front(&repair, n),
-        octets::front(&places, j.changed),
-    );
+// The received word, the repaired one and the marks.
+impl Display for Example {
+    fn fmt<W: fmt::Write>(&self, f: &mut Formatter<W>) -> fmt::Result {
+        writeln!(
+            f,
+            "A damaged unit of channel {}: the octets at places {}, counted from 0, were repaired.\n",
+            CHANNEL.0,
+            List(&self.places)
+        )?;
+        writeln!(f, "  received{}", Spaced(&self.received))?;
+        writeln!(f, "  repaired{}", Spaced(&self.repaired))?;
+        writeln!(f, "          {}", Marks(&self.places))
+    }
 }

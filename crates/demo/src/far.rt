@@ -1,166 +1,151 @@
 // The far end: each finished unit is handed to its layer where it lies in the demultiplexer's output, judged, and compared with what
 // was sent.
-use crate::tally::Tally;
+use crate::example::Example;
+use crate::packet::Pdu;
+use crate::plan::{CHANNELS, Layer};
+use crate::tally::Account;
 use crate::{near, plan, tally};
-use adaptation::al1::Passed;
 use adaptation::al1m::MOST_PLACES;
 use adaptation::{Badge, al1m, al2};
-use channels::{ChannelNumber, Channels, layers};
+use channels::{ALL_OCTETS, Channels, layers};
 use codeword::LONGEST_WORD;
+use multiplex::units::{ENOUGH_OUTPUT, ENOUGH_UNITS, Unit};
+use multiplex::{demultiplexer, units};
+use table::TABLE_NUMBERS;
 
-// What became of a unit: its badge's column, or 0 where it was not handed up; how many octets were repaired; whether it is what was
-// sent; and the channels as the call leaves them.
-#[derive(Clone, Copy)]
-pub struct Verdict {
-    pub column: usize,
+// What became of a unit that was handed up: its badge, how many octets were repaired, and whether it is what was sent.
+#[derive(Clone, Copy, Debug, PartialEq, Eq)]
+pub(crate) struct Verdict {
+    pub badge: Badge,
     pub repaired: usize,
     pub same: bool,
-    pub channels: Channels,
 }
 
-// The tally's column of a badge: 1 for badge 0, and so on.
-fn column(badge: Badge) -> usize {
-    1 + adaptation::badge_number(badge) as usize
-}
-
-fn not_handed_up(s: Channels) -> Verdict {
-    Verdict {
-        column: 0,
-        repaired: 0,
-        same: true,
-        channels: s,
+impl Verdict {
+    // Whether the badge is green, clean or corrected, and the unit differs from what was sent.
+    pub(crate) fn is_wrongly_green(&self) -> bool {
+        !self.same && matches!(self.badge, Badge::Clean | Badge::Corrected)
     }
 }
 
-fn by_al1(s: Channels, output: &[u8], start: usize, length: usize, sent: &[u8]) -> Verdict {
-    let Passed::Unit(badge) = layers::al1_at(output, start, length) else {
-        return not_handed_up(s);
-    };
-    Verdict {
-        column: column(badge),
-        repaired: 0,
-        same: octets::same(layers::unit_at(output, start, length), sent),
-        channels: s,
-    }
-}
-
-fn by_al2(
-    s: Channels,
-    number: ChannelNumber,
-    output: &[u8],
-    start: usize,
-    length: usize,
-    sent: &[u8],
-) -> Verdict {
-    let r = layers::al2_at(s, number, true, output, start, length);
-    let after = r.channels;
-    let received = r.received;
-    match received {
-        al2::Received::Unit {
-            badge,
-            missing: _,
-            due: _,
-        } => {
-            let unit = al2::unit(layers::unit_at(output, start, length), true);
-            Verdict {
-                column: column(badge),
-                repaired: 0,
-                same: octets::same(unit, sent),
-                channels: after,
-            }
-        }
-        _ => not_handed_up(after),
-    }
-}
-
-// Whether the unit that AL1M hands up is what was sent.
-fn is_sent<'a>(
-    part: &'a [u8],
-    repair: &'a [u8; LONGEST_WORD],
-    badge: Badge,
-    length: usize,
-    sent: &[u8],
-) -> bool {
-    octets::same(al1m::unit(part, repair, badge, length), sent)
-}
-
-fn by_al1m(
-    s: Channels,
-    channel: u16,
-    output: &[u8],
-    start: usize,
-    length: usize,
-    sent: &[u8],
-) -> Verdict {
-    let mut repair = [0u8; LONGEST_WORD];
-    let mut places = [0u8; MOST_PLACES];
-    let width = plan::width(channel);
-    let e = plan::repairs(channel);
-    let received = layers::al1m_at(output, start, length, width, e, &mut repair, &mut places);
-    match received {
-        al1m::Received::Unit(j) => {
-            let badge = j.badge;
-            let column = column(badge);
-            let repaired = if column == 2 { j.changed } else { 0 };
-            let part = layers::unit_at(output, start, length);
-            let same = is_sent(part, &repair, badge, j.length, sent);
-            Verdict {
-                column,
-                repaired,
-                same,
-                channels: s,
-            }
-        }
-        al1m::Received::Refused(_) => not_handed_up(s),
-    }
-}
-
-// Judges a channel's unit of a round, which lies at `start` in the output. All that waits is sent in its round, so a unit that comes to an end is
+// A finished unit where it lies in the output, and what was sent. All that waits is sent in its round, so a unit that comes to an end is
 // compared with the one sent in that round: it differs also where a part of it was lost, or where it was joined to one whose end was lost.
-pub fn judge(
-    s: Channels,
-    number: ChannelNumber,
-    round: usize,
-    output: &[u8],
-    start: usize,
-    length: usize,
-) -> Verdict {
-    let channel = number.0;
-    let mut unit = [0u8; 128];
-    near::make(channel, round, &mut unit);
-    let sent = near::first(&unit, plan::unit_length(channel));
-    if channel == plan::CONTROL {
-        return by_al1(s, output, start, length, sent);
-    }
-    if channel == plan::DATA {
-        return by_al2(s, number, output, start, length, sent);
-    }
-    by_al1m(s, channel, output, start, length, sent)
+#[derive(Clone, Copy)]
+struct Case<'a> {
+    output: &'a [u8],
+    unit: Unit,
+    sent: &'a [u8],
 }
 
-// Whether a unit has a green badge, clean or corrected, and differs from what was sent.
-fn is_wrongly_green(v: Verdict) -> bool {
-    if v.same {
-        return false;
+impl Case<'_> {
+    fn whole(&self) -> &[u8] {
+        layers::unit_at(self.output, self.unit.start, self.unit.length)
     }
-    if v.column == 1 {
-        return true;
+
+    fn by_al1(&self) -> Option<Verdict> {
+        let badge = layers::al1_at(self.output, self.unit.start, self.unit.length).ok()?;
+        Some(Verdict {
+            badge,
+            repaired: 0,
+            same: self.whole() == self.sent,
+        })
     }
-    v.column == 2
+
+    fn by_al2(&self, channels: &mut Channels) -> Option<Verdict> {
+        let unit = self.unit;
+        let delivery = channels
+            .al2_at(unit.channel, true, self.output, unit.start, unit.length)
+            .ok()??;
+        Some(Verdict {
+            badge: delivery.badge,
+            repaired: 0,
+            same: al2::unit(self.whole(), true) == self.sent,
+        })
+    }
+
+    fn by_al1m(&self, width: u32, repairs: u32) -> Option<Verdict> {
+        let mut repair = [0u8; LONGEST_WORD];
+        let mut places = [0u8; MOST_PLACES];
+        let j = layers::al1m_at(
+            self.output,
+            self.unit.start,
+            self.unit.length,
+            width,
+            repairs,
+            &mut repair,
+            &mut places,
+        )
+        .ok()?;
+        let repaired = if j.badge == Badge::Corrected {
+            j.changed
+        } else {
+            0
+        };
+        Some(Verdict {
+            badge: j.badge,
+            repaired,
+            same: al1m::unit(self.whole(), &repair, j.badge, j.length) == self.sent,
+        })
+    }
 }
 
-// The tally with a judged unit.
-pub fn count(t: Tally, number: ChannelNumber, v: Verdict) -> Tally {
-    let channel = number.0;
-    let mut next = tally::add(t, channel, tally::UNITS, 1);
-    if 0 < v.column {
-        next = tally::add(next, channel, v.column, 1);
+// The far end: its channels, and what they hold; what was counted of their units; and the unit that is shown, once it has come.
+#[derive(Drop)]
+pub(crate) struct FarEnd {
+    channels: Channels,
+    held: [u8; ALL_OCTETS],
+    pub accounts: [Account; CHANNELS],
+    pub example: Option<Example>,
+}
+
+impl FarEnd {
+    pub(crate) fn new() -> Self {
+        FarEnd {
+            channels: plan::open_all(),
+            held: [0; ALL_OCTETS],
+            accounts: tally::open_accounts(),
+            example: None,
+        }
     }
-    if v.repaired <= LONGEST_WORD {
-        next = tally::add(next, channel, tally::REPAIRED, v.repaired as u32);
+
+    // Judges a unit that lies in the output, and counts it.
+    fn judge(&mut self, round: usize, output: &[u8], unit: Unit) {
+        let here = |a: &Account| a.plan.channel == unit.channel;
+        let Some(k) = self.accounts.iter().position(here) else {
+            return;
+        };
+        let account = &mut self.accounts[k];
+        let made = near::make(unit.channel, round);
+        let sent = octets::front(&made, account.plan.unit_length);
+        let case = Case { output, unit, sent };
+        let verdict = match account.plan.layer {
+            Layer::Al1 => case.by_al1(),
+            Layer::Al1m { width, repairs } => case.by_al1m(width, repairs),
+            Layer::Al2 => case.by_al2(&mut self.channels),
+        };
+        account.tally.count(verdict);
+        if self.example.is_none() {
+            self.example = verdict.and_then(|v| Example::of(&account.plan, case.whole(), v));
+        }
     }
-    if is_wrongly_green(v) {
-        next = tally::add(next, channel, tally::DIFFERS, 1);
+
+    // Demultiplexes what a packet carried, and judges each unit that it finishes.
+    pub(crate) fn demultiplex(&mut self, round: usize, table: &[u16; TABLE_NUMBERS], pdu: &Pdu) {
+        let mut output = [0u8; ENOUGH_OUTPUT];
+        let mut units = [0u16; ENOUGH_UNITS];
+        let finished = demultiplexer::demultiplex(
+            &mut self.channels,
+            &mut self.held,
+            table,
+            pdu.code,
+            pdu.mark,
+            pdu.payload,
+            &mut output,
+            &mut units,
+        );
+        let n = finished.unwrap_or(0);
+        for unit in (0..n).filter_map(|j| units::unit_at(&units, j)) {
+            self.judge(round, &output, unit);
+        }
     }
-    next
 }

@@ -1,127 +1,55 @@
-// A packet: written by the near end, damaged on the link, and counted by what the far end reads.
-use crate::link::{LONGEST_PACKET, Link};
-use crate::{link, tally};
-use calls::Length;
-use packets::{Packet, Reading};
+// What a packet carries, and what became of the packets.
+use calls::Refusal;
+use packets::Packet;
 use table::Code;
+
+// What a packet carries: a multiplex code, a closing mark or none, and a payload.
+#[derive(Clone, Copy)]
+pub(crate) struct Pdu<'a> {
+    pub code: Code,
+    pub mark: bool,
+    pub payload: &'a [u8],
+}
+
+impl Pdu<'_> {
+    // Whether a packet that was read says what was sent.
+    fn is_said(&self, read: Packet) -> bool {
+        read.code == self.code && read.mark == self.mark && read.length == self.payload.len()
+    }
+}
 
 // How many packets were sent; and of these how many were read, the header undamaged, through wrong bits of the header, or as another packet
 // than was sent; and how many were refused, by refusal: the header, the closing flag, the length.
-#[derive(Clone, Copy)]
-pub struct Counts {
-    pub sent: u32,
-    pub undamaged: u32,
-    pub through_wrong_bits: u32,
-    pub as_another: u32,
-    pub refused_17: u32,
-    pub refused_15: u32,
-    pub refused_2: u32,
+#[derive(Clone, Copy, Debug, Default, PartialEq, Eq)]
+pub(crate) struct Counts {
+    pub sent: usize,
+    pub undamaged: usize,
+    pub through_wrong_bits: usize,
+    pub as_another: usize,
+    pub bad_header: usize,
+    pub bad_form: usize,
+    pub bad_length: usize,
 }
 
-pub fn none() -> Counts {
-    Counts {
-        sent: 0,
-        undamaged: 0,
-        through_wrong_bits: 0,
-        as_another: 0,
-        refused_17: 0,
-        refused_15: 0,
-        refused_2: 0,
+impl Counts {
+    // Counts a packet that was sent so, came with so many wrong bits in its header, and was read so.
+    pub(crate) fn count(&mut self, sent: &Pdu, wrong: u32, reading: Result<Packet, Refusal>) {
+        self.sent = self.sent.saturating_add(1);
+        let became = match reading {
+            Ok(read) if !sent.is_said(read) => &mut self.as_another,
+            Ok(_) if wrong == 0 => &mut self.undamaged,
+            Ok(_) => &mut self.through_wrong_bits,
+            Err(Refusal::BadHeader) => &mut self.bad_header,
+            Err(Refusal::BadLength) => &mut self.bad_length,
+            Err(_) => &mut self.bad_form,
+        };
+        *became = became.saturating_add(1);
     }
-}
 
-// How many octets of a packet the far end has before it, and the link behind it.
-#[derive(Clone, Copy)]
-pub struct Came {
-    pub octets: usize,
-    pub link: Link,
-}
-
-// Writes a packet, opened by the closing flag of the one before, and sends it over the link.
-pub fn send(
-    link: Link,
-    code: Code,
-    mark: bool,
-    payload: &[u8],
-    packet: &mut [u8; LONGEST_PACKET],
-) -> Came {
-    let mut next = link;
-    match packets::write(link.complemented, code, mark, payload, packet) {
-        Length::Octets(n) => {
-            next.complemented = mark;
-            next = link::damage(next, packet, payload.len());
-            Came {
-                octets: n,
-                link: next,
-            }
-        }
-        Length::Refused(_) => Came {
-            octets: 0,
-            link: next,
-        },
-    }
-}
-
-// The octets of a packet that came.
-pub fn received(packet: &[u8; LONGEST_PACKET], n: usize) -> &[u8] {
-    octets::front(packet, n)
-}
-
-// Whether a packet says what was sent.
-fn is_sent(p: Packet, code: Code, mark: bool, length: usize) -> bool {
-    let read = p.code;
-    if read.0 != code.0 {
-        return false;
-    }
-    if p.mark != mark {
-        return false;
-    }
-    p.length == length
-}
-
-// The counts with a packet that was read; so many bits of its header are wrong.
-fn count_read(counts: Counts, wrong: u32, as_sent: bool) -> Counts {
-    let mut next = counts;
-    if !as_sent {
-        next.as_another = tally::plus(counts.as_another, 1);
-    } else if wrong == 0 {
-        next.undamaged = tally::plus(counts.undamaged, 1);
-    } else {
-        next.through_wrong_bits = tally::plus(counts.through_wrong_bits, 1);
-    }
-    next
-}
-
-// The counts with a packet that was refused.
-fn count_refused(counts: Counts, refusal: u8) -> Counts {
-    let mut next = counts;
-    match refusal {
-        17 => {
-            next.refused_17 = tally::plus(counts.refused_17, 1);
-        }
-        2 => {
-            next.refused_2 = tally::plus(counts.refused_2, 1);
-        }
-        _ => {
-            next.refused_15 = tally::plus(counts.refused_15, 1);
-        }
-    }
-    next
-}
-
-// The counts with a packet that was sent so, came with so many wrong bits in its header, and was read so.
-pub fn count(
-    counts: Counts,
-    code: Code,
-    mark: bool,
-    length: usize,
-    wrong: u32,
-    reading: Reading,
-) -> Counts {
-    let mut next = counts;
-    next.sent = tally::plus(counts.sent, 1);
-    match reading {
-        Reading::Packet(p) => count_read(next, wrong, is_sent(p, code, mark, length)),
-        Reading::Refused(k) => count_refused(next, k),
+    // How many packets were refused.
+    pub(crate) fn refused(&self) -> usize {
+        self.bad_header
+            .saturating_add(self.bad_form)
+            .saturating_add(self.bad_length)
     }
 }

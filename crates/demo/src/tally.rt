@@ -1,61 +1,55 @@
-// What was counted: for each channel its units, the five badges, the octets repaired and the green units that differ.
-#[derive(Clone, Copy)]
-pub struct Tally {
-    pub at: [u32; 40],
+// What was counted of a channel's units.
+use crate::far::Verdict;
+use crate::plan::{CHANNELS, PLANS, Plan};
+use adaptation::Badge;
+
+// How many units came; how many were handed up under each badge; how many octets were repaired; and how many units with a green badge differ
+// from what was sent.
+#[derive(Clone, Copy, Debug, Default, PartialEq, Eq)]
+pub(crate) struct Tally {
+    pub units: usize,
+    pub clean: usize,
+    pub corrected: usize,
+    pub out_of_reach: usize,
+    pub check_failed: usize,
+    pub unchecked: usize,
+    pub repaired: usize,
+    pub wrongly_green: usize,
 }
 
-pub const UNITS: usize = 0;
-
-// The badges' columns are 1 to 5, in document 01's order.
-pub const CLEAN: usize = 1;
-
-pub const REPAIRED: usize = 6;
-
-pub const DIFFERS: usize = 7;
-
-const COLUMNS: usize = 8;
-
-pub fn new() -> Tally {
-    Tally { at: [0; 40] }
+impl Tally {
+    // Counts a unit, and what was said of it where it was handed up.
+    pub(crate) fn count(&mut self, verdict: Option<Verdict>) {
+        self.units = self.units.saturating_add(1);
+        let Some(v) = verdict else {
+            return;
+        };
+        let under_badge = match v.badge {
+            Badge::Clean => &mut self.clean,
+            Badge::Corrected => &mut self.corrected,
+            Badge::OutOfReach => &mut self.out_of_reach,
+            Badge::CheckFailed => &mut self.check_failed,
+            Badge::Unchecked => &mut self.unchecked,
+        };
+        *under_badge = under_badge.saturating_add(1);
+        self.repaired = self.repaired.saturating_add(v.repaired);
+        if v.is_wrongly_green() {
+            self.wrongly_green = self.wrongly_green.saturating_add(1);
+        }
+    }
 }
 
-// The place of a channel's column, or 40.
-fn place(channel: u16, column: usize) -> usize {
-    let c = channel as usize;
-    if 5 <= c {
-        return 40;
-    }
-    if COLUMNS <= column {
-        return 40;
-    }
-    c * COLUMNS + column
+// A channel's plan, and what was counted of its units.
+#[derive(Clone, Copy, Debug, PartialEq, Eq)]
+pub(crate) struct Account {
+    pub plan: Plan,
+    pub tally: Tally,
 }
 
-pub fn get(t: Tally, channel: u16, column: usize) -> u32 {
-    let k = place(channel, column);
-    if 40 <= k {
-        return 0;
-    }
-    t.at[k]
-}
-
-// The sum, as far as it goes.
-pub fn plus(a: u32, b: u32) -> u32 {
-    let n = a as u64 + b as u64;
-    if 4294967295 < n {
-        return 4294967295;
-    }
-    n as u32
-}
-
-// One column with n more.
-pub fn add(t: Tally, channel: u16, column: usize, n: u32) -> Tally {
-    let mut next = t;
-    let k = place(channel, column);
-    if 40 <= k {
-        return next;
-    }
-    let old = t.at[k];
-    next.at[k] = plus(old, n);
-    next
+// The channels' accounts, nothing being counted yet.
+pub(crate) fn open_accounts() -> [Account; CHANNELS] {
+    PLANS.map(|plan| Account {
+        plan,
+        tally: Tally::default(),
+    })
 }

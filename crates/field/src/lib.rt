@@ -69,12 +69,10 @@ pub fn product(a: u8, b: u8) -> u8
     let mut total: u8 = 0;
     let mut multiple = a;
     let mut bits = b;
-    let mut left: usize = 8;
-    while 0 < left {
+    for _ in 0..8u8 {
         total = sum(total, bits % 2 * multiple);
         multiple = double(multiple);
         bits >>= 1;
-        left -= 1;
     }
     total
 }
@@ -86,11 +84,9 @@ fn mapped(images: &[u8], b: u8) -> u8
 {
     let mut total: u8 = 0;
     let mut bits = b;
-    let mut j: usize = 0;
-    while j < 8 {
-        total = sum(total, bits % 2 * images[j]);
+    for image in &images[..8] {
+        total = sum(total, bits % 2 * *image);
         bits >>= 1;
-        j += 1;
     }
     total
 }
@@ -142,18 +138,10 @@ pub fn powers() -> [u8; LAID]
     lay(&POWERS)
 }
 
-// Entry k of the powers times b, as `product`: its doublings are the seven entries behind it.
+// Entry k of the powers times b: its images are itself and the seven entries behind it, its doublings.
 pub fn product_at(powers: &[u8; LAID], k: usize, b: u8) -> u8
     requires { Table.Laid powers.now × Table.Doublings k }
     ensures { result ≡ Octet.product (Octet.power Octet.α k) b }
 {
-    let mut total: u8 = 0;
-    let mut bits = b;
-    let mut j: usize = 0;
-    while j < 8 {
-        total = sum(total, bits % 2 * powers[k + j]);
-        bits >>= 1;
-        j += 1;
-    }
-    total
+    mapped(&powers[k..k + 8], b)
 }

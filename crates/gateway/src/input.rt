@@ -1,155 +1,93 @@
 // The calls of a file of any length, a chunk at a time.
-use crate::carry;
-use channels::{ALL_OCTETS, Channels};
-use script::call::Call;
+use crate::state::Gateway;
+use script::call::{Call, Malformed};
 use script::read;
 use std::io::Read;
-use table::TABLE_NUMBERS;
 use table::form::LONGEST_ENTRY;
 use text::lines;
 use text::lines::Reading;
 
 // The octets of the longest line that is read, and of those that stand in it in hex.
-pub const LINE: usize = 16384;
+const LINE: usize = 16384;
 
-pub const OCTETS: usize = LINE / 2;
+const OCTETS: usize = LINE / 2;
 
 // How many octets are read at once.
 const CHUNK: usize = 4096;
 
-// The line that is being read, and the channels as the calls before it left them.
-#[derive(Clone, Copy)]
+// The line that is being read, room for the octets and the table entry that it gives, and the gateway as the calls before it left it. (No
+// heap: a call has parts of them.)
+#[derive(Drop)]
 struct Session {
     reading: Reading,
-    channels: Channels,
+    line: [u8; LINE],
+    octets: [u8; OCTETS],
+    entry: [u16; LONGEST_ENTRY],
+    gateway: Gateway,
 }
 
-// No line is read yet, and no call was carried out.
-fn open() -> Session {
-    Session {
-        reading: lines::begin(),
-        channels: channels::new(),
+// What the line that was read asks for: one that has no room cannot be read.
+fn call<'a>(
+    reading: Reading,
+    line: &[u8],
+    octets: &'a mut [u8],
+    entry: &'a mut [u16],
+) -> Result<Option<Call<'a>>, Malformed> {
+    if reading.over {
+        return Err(Malformed);
     }
+    read::call(octets::front(line, reading.length), octets, entry)
 }
 
-// What the line that was read asks for: one that the lent line does not hold cannot be read.
-fn call(
-    r: Reading,
-    line: &[u8; LINE],
-    octets: &mut [u8; OCTETS],
-    entry: &mut [u16; LONGEST_ENTRY],
-) -> Call {
-    if r.over {
-        return Call::Malformed;
-    }
-    read::call(octets::front(line, r.length), octets, entry)
-}
-
-// Answers the line that was read, and begins the next.
-fn finish(
-    rt: &(impl Print + Eprint),
-    session: Session,
-    line: &[u8; LINE],
-    octets: &mut [u8; OCTETS],
-    entry: &mut [u16; LONGEST_ENTRY],
-    held: &mut [u8; ALL_OCTETS],
-    waiting: &mut [u8; ALL_OCTETS],
-    table: &mut [u16; TABLE_NUMBERS],
-) -> Session {
-    let r = session.reading;
-    let s = session.channels;
-    let call = call(r, line, octets, entry);
-    let after = carry::carry_out(rt, call, octets, entry, s, held, waiting, table);
-    Session {
-        reading: lines::begin(),
-        channels: after,
-    }
-}
-
-// One octet more of the line.
-fn grow(session: Session, line: &mut [u8; LINE], octet: u8) -> Session {
-    let r = session.reading;
-    let s = session.channels;
-    Session {
-        reading: lines::take(r, line, octet),
-        channels: s,
-    }
-}
-
-// Takes the n octets that were read, one by one.
-fn feed(
-    rt: &(impl Print + Eprint),
-    session: Session,
-    chunk: &[u8; CHUNK],
-    n: usize,
-    line: &mut [u8; LINE],
-    octets: &mut [u8; OCTETS],
-    entry: &mut [u16; LONGEST_ENTRY],
-    held: &mut [u8; ALL_OCTETS],
-    waiting: &mut [u8; ALL_OCTETS],
-    table: &mut [u16; TABLE_NUMBERS],
-) -> Session {
-    let read = octets::front(chunk, n);
-    let mut next = session;
-    for octet in read {
-        next = grow(next, line, *octet);
-        if next.reading.whole {
-            next = finish(rt, next, line, octets, entry, held, waiting, table);
+impl Session {
+    // No line is read yet, and no call was carried out.
+    fn new() -> Session {
+        Session {
+            reading: lines::begin(),
+            line: [0; LINE],
+            octets: [0; OCTETS],
+            entry: [0; LONGEST_ENTRY],
+            gateway: Gateway::new(),
         }
     }
-    next
-}
 
-// Reads once, and tells how many octets there are: 0 at the end of the input and where it cannot be read, which is said under its name.
-fn read_some(rt: &impl Eprint, from: &mut impl Read, name: &str, chunk: &mut [u8; CHUNK]) -> usize {
-    match from.read(chunk) {
-        Ok(got) => got,
-        Err(error) => {
-            print::fail(rt, name, &error);
-            0
+    // Answers the line that was read, and begins the next.
+    fn finish(&mut self, rt: &(impl Print + Eprint)) {
+        match call(self.reading, &self.line, &mut self.octets, &mut self.entry) {
+            Ok(None) => (),
+            Ok(Some(call)) => self.gateway.answer(rt, call),
+            Err(Malformed) => print::line(rt, "malformed"),
+        }
+        self.reading = lines::begin();
+    }
+
+    // Takes octets of the input, one by one.
+    fn feed(&mut self, rt: &(impl Print + Eprint), octets: &[u8]) {
+        for octet in octets {
+            self.reading = lines::take(self.reading, &mut self.line, *octet);
+            if self.reading.whole {
+                self.finish(rt);
+            }
         }
     }
 }
 
-// Reads and answers calls until the input ends. A proved loop has to end, and nothing says that a file does: so the loop counts its
-// turns, to a number that no run uses up.
+// Reads and answers calls until the input ends, or says under its name why it cannot be read. A proved loop has to end, and nothing says
+// that a file does: so the loop counts its turns, to a number that no run uses up.
 pub fn serve(rt: &(impl Print + Eprint), from: &mut impl Read, name: &str) {
-    let mut held = [0u8; ALL_OCTETS];
-    let mut waiting = [0u8; ALL_OCTETS];
-    let mut table = [0u16; TABLE_NUMBERS];
-    let mut line = [0u8; LINE];
-    let mut octets = [0u8; OCTETS];
-    let mut entry = [0u16; LONGEST_ENTRY];
+    let mut session = Session::new();
     let mut chunk = [0u8; CHUNK];
-    let mut session = open();
     for _ in 0..u64::MAX {
-        let got = read_some(rt, from, name, &mut chunk);
-        if got == 0 {
-            break;
+        match from.read(&mut chunk) {
+            Ok(0) => break,
+            Ok(n) => session.feed(rt, &chunk[..n]),
+            Err(error) => {
+                print::fail(rt, name, &error);
+                break;
+            }
         }
-        session = feed(
-            rt,
-            session,
-            &chunk,
-            got,
-            &mut line,
-            &mut octets,
-            &mut entry,
-            &mut held,
-            &mut waiting,
-            &mut table,
-        );
     }
     if 0 < session.reading.length {
-        finish(
-            rt,
-            session,
-            &line,
-            &mut octets,
-            &mut entry,
-            &mut held,
-            &mut waiting,
-            &mut table,
-        );
+        session.finish(rt);
     }
 }

@@ -3,14 +3,13 @@
 
 #![tactic(auto)]
 
-mod answer; // answer.rt: what is printed
-mod carry; // carry.rt: a call, carried out
+mod answer; // answer.rt: what is printed in more than one place
 mod coding; // coding.rt: the calls that have no state: length, encode, receive, al1
 mod input; // input.rt: the calls of a file of any length
-mod lent; // lent.rt: the library's calls that write to a lent buffer
-mod outcome; // outcome.rt: the calls on channels and on the table: open, close, reset, entry, post
+mod lent; // lent.rt: as much of a buffer as a line names
 mod packet; // packet.rt: the calls on packets of level 2: pack, unpack
 mod payload; // payload.rt: the calls that make and read payloads: mux, demux
+mod state; // state.rt: what the gateway keeps, and a call carried out on it
 mod stream; // stream.rt: the call that takes the raw octets of packets: link
 mod units; // units.rt: the calls on AL2's units, by channel: send, take
 

@@ -1,122 +1,77 @@
 // The calls that make and read payloads: mux, demux.
-use crate::input::OCTETS;
-use crate::{answer, lent};
-use channels::{ALL_OCTETS, Channels, layers};
-use multiplex::demultiplexer::Finished;
-use multiplex::multiplexer::Made;
-use multiplex::units;
-use multiplex::units::{ENOUGH_OUTPUT, ENOUGH_UNITS, Listed};
+use crate::lent::lend;
+use crate::state::Gateway;
+use calls::Refusal;
+use channels::layers;
+use multiplex::units::{ENOUGH_OUTPUT, ENOUGH_UNITS};
+use multiplex::{demultiplexer, multiplexer, units};
+use print::values::Hex;
 use script::call::{DemuxCall, MuxCall};
-use table::{Code, LONGEST_PAYLOAD, TABLE_NUMBERS};
-
-// Says what came of multiplexing.
-fn made_payload(rt: &(impl Print + Eprint), made: Made, payload: &[u8; LONGEST_PAYLOAD]) {
-    match made {
-        Made::Payload { octets, mark } => answer::payload(rt, mark, octets::front(payload, octets)),
-        Made::Refused(k) => answer::refused(rt, k),
-    }
-}
-
-pub fn multiplex(
-    rt: &(impl Print + Eprint),
-    c: MuxCall,
-    s: Channels,
-    waiting: &[u8; ALL_OCTETS],
-    table: &[u16; TABLE_NUMBERS],
-) -> Channels {
-    let mut payload = [0u8; LONGEST_PAYLOAD];
-    let r = lent::multiplex(
-        s,
-        waiting,
-        table,
-        Code(c.code),
-        c.room,
-        &mut payload,
-        c.lent,
-    );
-    let made = r.made;
-    made_payload(rt, made, &payload);
-    r.channels
-}
-
-// The finished unit j of the list.
-fn deliver_one(rt: &(impl Print + Eprint), output: &[u8], units: &[u16], j: usize) {
-    let Listed::At(unit) = units::unit_at(units, j) else {
-        return;
-    };
-    answer::number_and_octets(
-        rt,
-        b"unit",
-        unit.channel.0 as usize,
-        layers::unit_at(output, unit.start, unit.length),
-    );
-}
+use table::{Code, LONGEST_PAYLOAD};
 
 // The finished units, one a line.
-fn deliver(
-    rt: &(impl Print + Eprint),
-    n: usize,
-    output: &[u8; ENOUGH_OUTPUT],
-    units: &[u16; ENOUGH_UNITS],
-) {
-    answer::number(rt, b"units", n);
-    for j in 0..n {
-        deliver_one(rt, output, units, j);
+fn deliver(rt: &(impl Print + Eprint), n: usize, output: &[u8], list: &[u16]) {
+    print::line(rt, format_args!("units {n}"));
+    for unit in (0..n).filter_map(|j| units::unit_at(list, j)) {
+        let octets = layers::unit_at(output, unit.start, unit.length);
+        print::line(rt, format_args!("unit {} {}", unit.channel.0, Hex(octets)));
     }
 }
 
-// Demultiplexes a payload and says what came of it, with so many octets and units lent for it.
-pub fn demultiplex_payload(
-    rt: &(impl Print + Eprint),
-    code: Code,
-    mark: bool,
-    payload: &[u8],
-    octets: u32,
-    units: u32,
-    s: Channels,
-    held: &mut [u8; ALL_OCTETS],
-    table: &[u16; TABLE_NUMBERS],
-) -> Channels {
-    let mut output = [0u8; ENOUGH_OUTPUT];
-    let mut list = [0u16; ENOUGH_UNITS];
-    let r = lent::demultiplex(
-        s,
-        held,
-        table,
-        code,
-        mark,
-        payload,
-        &mut output,
-        octets,
-        &mut list,
-        units,
-    );
-    let finished = r.finished;
-    match finished {
-        Finished::Units(k) => deliver(rt, k, &output, &list),
-        Finished::Refused(k) => answer::refused(rt, k),
+impl Gateway {
+    pub fn multiplex(&mut self, rt: &(impl Print + Eprint), c: MuxCall) -> Result<(), Refusal> {
+        let mut payload = [0u8; LONGEST_PAYLOAD];
+        let made = multiplexer::multiplex(
+            &mut self.channels,
+            &self.waiting,
+            &self.table,
+            Code(c.code),
+            c.room as usize,
+            lend(&mut payload, c.lent as usize),
+        )?;
+        let octets = Hex(octets::front(&payload, made.octets));
+        print::line(rt, format_args!("payload {} {octets}", u8::from(made.mark)));
+        Ok(())
     }
-    r.channels
-}
 
-pub fn demultiplex(
-    rt: &(impl Print + Eprint),
-    c: DemuxCall,
-    octets: &[u8; OCTETS],
-    s: Channels,
-    held: &mut [u8; ALL_OCTETS],
-    table: &[u16; TABLE_NUMBERS],
-) -> Channels {
-    let payload = octets::front(octets, c.octets);
-    demultiplex_payload(
-        rt,
-        Code(c.code),
-        c.mark,
-        payload,
-        c.room,
-        c.units,
-        s,
-        held,
-        table,
-    )
+    pub fn demultiplex(
+        &mut self,
+        rt: &(impl Print + Eprint),
+        c: DemuxCall<'_>,
+    ) -> Result<(), Refusal> {
+        let mut output = [0u8; ENOUGH_OUTPUT];
+        let mut list = [0u16; ENOUGH_UNITS];
+        self.take_payload(
+            rt,
+            Code(c.code),
+            c.mark,
+            c.octets,
+            lend(&mut output, c.room as usize),
+            lend(&mut list, 3 * c.units as usize),
+        )
+    }
+
+    // Demultiplexes a payload into what is lent for it, and says what came of it.
+    pub fn take_payload(
+        &mut self,
+        rt: &(impl Print + Eprint),
+        code: Code,
+        mark: bool,
+        payload: &[u8],
+        output: &mut [u8],
+        list: &mut [u16],
+    ) -> Result<(), Refusal> {
+        let n = demultiplexer::demultiplex(
+            &mut self.channels,
+            &mut self.held,
+            &self.table,
+            code,
+            mark,
+            payload,
+            output,
+            list,
+        )?;
+        deliver(rt, n, output, list);
+        Ok(())
+    }
 }

@@ -1,61 +1,44 @@
 // The calls on AL2's units, by channel: send, take.
-use crate::input::OCTETS;
-use crate::{answer, coding, lent};
+use crate::lent::lend;
+use crate::state::Gateway;
 use adaptation::{LONGEST_UNIT, al2};
-use channels::{ChannelNumber, Channels, layers};
+use calls::Refusal;
+use channels::ChannelNumber;
+use print::values::Hex;
 use script::call::UnitCall;
 
-pub fn send(
-    rt: &(impl Print + Eprint),
-    u: UnitCall,
-    room: u32,
-    octets: &[u8; OCTETS],
-    s: Channels,
-) -> Channels {
-    let mut out = [0u8; LONGEST_UNIT];
-    let unit = octets::front(octets, u.octets);
-    let r = lent::send(
-        s,
-        ChannelNumber(u.channel),
-        u.numbered,
-        unit,
-        &mut out,
-        room,
-    );
-    let length = r.length;
-    coding::sent(rt, length, &out);
-    r.channels
-}
-
-// Says what became of a received unit.
-fn taken(rt: &(impl Print + Eprint), received: al2::Received, whole: &[u8], numbered: bool) {
-    match received {
-        al2::Received::Unit {
-            badge,
-            missing,
-            due: _,
-        } => answer::unit(
-            rt,
-            badge,
-            b" missing",
-            missing as usize,
-            al2::unit(whole, numbered),
-        ),
-        al2::Received::Discarded => answer::word(rt, b"discarded"),
-        al2::Received::Refused(k) => answer::refused(rt, k),
+impl Gateway {
+    pub fn send(
+        &mut self,
+        rt: &(impl Print + Eprint),
+        u: UnitCall<'_>,
+        room: u32,
+    ) -> Result<(), Refusal> {
+        let mut out = [0u8; LONGEST_UNIT];
+        let number = ChannelNumber(u.channel);
+        let lent = lend(&mut out, room as usize);
+        let n = self.channels.send(number, u.numbered, u.octets, lent)?;
+        print::line(rt, format_args!("sent {}", Hex(octets::front(&out, n))));
+        Ok(())
     }
-}
 
-pub fn take(
-    rt: &(impl Print + Eprint),
-    u: UnitCall,
-    octets: &[u8; OCTETS],
-    s: Channels,
-) -> Channels {
-    let numbered = u.numbered;
-    let whole = octets::front(octets, u.octets);
-    let r = layers::take(s, ChannelNumber(u.channel), numbered, whole);
-    let received = r.received;
-    taken(rt, received, whole, numbered);
-    r.channels
+    pub fn take(&mut self, rt: &(impl Print + Eprint), u: UnitCall<'_>) -> Result<(), Refusal> {
+        let whole = u.octets;
+        let number = ChannelNumber(u.channel);
+        match self.channels.take(number, u.numbered, whole)? {
+            Some(d) => {
+                let unit = Hex(al2::unit(whole, u.numbered));
+                print::line(
+                    rt,
+                    format_args!(
+                        "badge {} missing {} unit {unit}",
+                        u8::from(d.badge),
+                        d.missing
+                    ),
+                );
+            }
+            None => print::line(rt, "discarded"),
+        }
+        Ok(())
+    }
 }

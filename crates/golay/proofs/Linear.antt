@@ -1,6 +1,7 @@
 -- The parity, and the word, of a sum of data are the sums of theirs.
 --
 --   product_xor    for any matrix
+--   product_next   a row added, and what those behind it give
 --   bit_fits       a bit times a number of k bits has k bits
 --   product_lt     a sum of rows that fit in k bits does too
 --   parity_xor
@@ -19,15 +20,16 @@ use mathlib.Core.Bool.{Bool, true, ◌&&◌}
 use mathlib.Core.List.{List, [], ◌∷◌}
 use Prim.Native.Nat.{ℕ, zero, suc, ◌+◌, ◌*◌, ◌/◌, ◌%◌, ◌^◌, ◌≤◌, ◌<◌}
 use native.Mathlib.Nat.{zero-mul, one-mul, zero-add, mod-lt, le_refl, lt_of_lt_of_le}
-use native.Mathlib.Numerals.{one-add}
+use native.Mathlib.Numerals.{one-add, add-one}
 use native.Mathlib.Omega.{arith}
 use lib.Arith.{digits_lt, lt-one}
-use lib.Bits.{bit_xor, xor_block, xor_lt, xor_shifted}
+use lib.Bits.{bit_and, bit_xor, and_mask, xor_block, xor_lt, xor_shifted}
 use lib.Dec.{T, ltb, eqb, ltb→lt, eqb→eq}
-use lib.ListN.{get_or}
+use lib.ListN.{length, get_or, drop}
+use lib.Seq.{drop-cons}
 use lib.Pow.{pow_pos, pow-lt, pow_mono, shr_lt, split}
 use Rattle.octets.specs.Every.{every, every_at, both_left, both_right}
-use Rattle.octets.specs.Xor.{bit-lt, xor_swap, xor_half, xor-bit}
+use Rattle.octets.specs.Xor.{bit-lt, xor_assoc, xor_swap, xor_half, xor-bit}
 use Rattle.golay.specs.Matrix.{matrix}
 use Rattle.golay.specs.Code.{product, parity, code_word}
 
@@ -39,6 +41,13 @@ product_xor [] a b = refl
 product_xor (r ∷ m) a b =
     ap₂ bit_xor (xor-bit a b r) (ap (product m) (xor_half a b) ∙ product_xor m (a / 2) (b / 2))
     ∙ xor_swap (a % 2 * r) (b % 2 * r) (product m (a / 2)) (product m (b / 2))
+
+-- the row at i added, and what the rows behind it give to the higher bits
+pub product_next : (m : List ℕ) (i d sum : ℕ) → i < length m
+    → bit_xor (bit_xor sum (bit_and d 1 * get_or m i 0)) (product (drop (i + 1) m) (d / 2)) ≡ bit_xor sum (product (drop i m) d)
+unfolding product
+product_next m i d sum h =
+    rw (and_mask d 1) (xor_assoc sum (d % 2 * get_or m i 0) (product (drop (i + 1) m) (d / 2)) ∙ rw (add-one i, drop-cons m i 0 h) refl)
 
 abbrev pub fit : ℕ → List ℕ → Bool
 fit k [] = true

@@ -2,7 +2,6 @@
 --
 --   row i              row i of the matrix
 --   unit_is            the code's 1 << i
---   unit_fits          .. which added to 12 bits is no number too large
 --   mod_lower          whole multiples of a power of two are so of a lower one
 --   mends_nothing      no bit is changed where the syndrome has few ones
 --   mends_added        data that mend what row i leaves do so with a one at place i
@@ -25,7 +24,7 @@ use Rattle.golay.specs.Matrix.{matrix}
 use Rattle.golay.specs.Code.{parity}
 use Rattle.golay.specs.Claims.{bit_at}
 use Rattle.golay.specs.Search.{Mends, Searched}
-use Rattle.golay.specs.declared.Found.TheVariants.{Nothing}
+use Rattle.std.specs.Prelude.{None}
 use Rattle.golay.proofs.Ones.{ones-zero, ones_none, ones_power}
 use Rattle.golay.proofs.Linear.{parity_xor, parity-zero, parity-row}
 
@@ -34,9 +33,6 @@ row i = get_or matrix i 0
 
 pub unit_is : (i : ℕ) → i < 12 → 1 * 2 ^ i % 2 ^ 32 ≡ 2 ^ i
 unit_is i h = shl_exact 1 i 32 (lit< tt) (omega arith) ∙ one-mul (2 ^ i)
-
-pub unit_fits : (v i : ℕ) → v < 2 ^ 12 → i < 12 → v + 1 * 2 ^ i % 2 ^ 32 < 2 ^ 32
-unit_fits v i l h = rw (unit_is i h) (omega (arith, l, pow-lt h))
 
 -- ---- a number with nothing below place k
 
@@ -88,7 +84,7 @@ mends_added s from left i v f h p m = record {
   few = omega (arith, added_wrong i v m.behind s h, m.few, p);
 }
 
-pub mends-behind : (s from left i : ℕ) → i < 12 → Searched (bit_xor s (row i)) (i + 1) (left - 1) Nothing
+pub mends-behind : (s from left i : ℕ) → i < 12 → Searched (bit_xor s (row i)) (i + 1) (left - 1) None
     → (u : ℕ) → Mends s from left u → u % 2 ^ i ≡ 0 → u % 2 ^ (i + 1) ≡ 0
 mends-behind s from left i h none u m e = by (bit_at u i) refl
   where

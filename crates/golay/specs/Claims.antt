@@ -18,12 +18,11 @@
 --   Golay               all of these
 --
 -- Assumes nothing.
-use Rattle.std.specs.Prelude.{◌≡◌, ◌↔◌, ◌≢◌, Bool, cond, not, ℕ, zero, suc, ◌+◌, ◌*◌, ◌/◌, ◌%◌, ◌^◌, ◌≤◌, ◌<◌, eqb, length, get_or}
+use Rattle.std.specs.Prelude.{◌≡◌, ◌↔◌, ◌≢◌, Bool, cond, not, ℕ, zero, suc, ◌+◌, ◌*◌, ◌/◌, ◌%◌, ◌^◌, ◌≤◌, ◌<◌, eqb, length, get_or, Some, None}
 use Rattle.std.specs.Int.Bits.{bit_xor}
 use Rattle.std.specs.Int.Count.{ones}
 use Rattle.golay.specs.Matrix.{matrix, polynomial}
 use Rattle.golay.specs.Code.{parity, code_word, distance, Within, nearest}
-use Rattle.golay.specs.declared.Found.TheVariants.{Data, Nothing}
 
 abbrev pub times : ℕ → ℕ → ℕ → ℕ
 times zero q g = 0
@@ -65,10 +64,10 @@ abbrev pub DistanceCounts : Type 0
 DistanceCounts = (a b : ℕ) → a < 2 ^ 24 → b < 2 ^ 24 → distance a b ≡ count 24 (λ j. not (eqb (bit_at a j) (bit_at b j)))
 
 abbrev pub FoundExactly : Type 0
-FoundExactly = (w d : ℕ) → nearest w ≡ Data d ↔ ((d < 2 ^ 12) × (distance w (code_word d) ≤ 3))
+FoundExactly = (w d : ℕ) → nearest w ≡ Some d ↔ ((d < 2 ^ 12) × (distance w (code_word d) ≤ 3))
 
 abbrev pub NothingExactly : Type 0
-NothingExactly = (w : ℕ) → nearest w ≡ Nothing ↔ ((d : ℕ) → Within w d → ⊥)
+NothingExactly = (w : ℕ) → nearest w ≡ None ↔ ((d : ℕ) → Within w d → ⊥)
 
 abbrev pub OnlyOne : Type 0
 OnlyOne = (w d c : ℕ) → Within w d → Within w c → d ≡ c

@@ -14,12 +14,10 @@
 -- That there are never two is claimed in specs/Claims.antt.
 --
 -- Assumes nothing.
-use Rattle.std.specs.Prelude.{Bool, cond, List, [], ◌∷◌, ℕ, zero, suc, ◌+◌, ◌*◌, ◌/◌, ◌%◌, ◌^◌, ◌≤◌, ◌<◌, leb}
+use Rattle.std.specs.Prelude.{Bool, cond, List, [], ◌∷◌, ℕ, zero, suc, ◌+◌, ◌*◌, ◌/◌, ◌%◌, ◌^◌, ◌≤◌, ◌<◌, leb, Option, Some, None}
 use Rattle.std.specs.Int.Bits.{bit_xor}
 use Rattle.std.specs.Int.Count.{ones}
 use Rattle.golay.specs.Matrix.{matrix}
-use Rattle.golay.specs.declared.Found.{Found}
-use Rattle.golay.specs.declared.Found.TheVariants.{Data, Nothing}
 
 unfoldable pub product : List ℕ → ℕ → ℕ
 product [] d = 0
@@ -43,9 +41,9 @@ Within w d = (d < 2 ^ 12) × (distance w (code_word d) ≤ most_wrong)
 abbrev pub is_near : ℕ → ℕ → Bool
 is_near w d = leb (distance w (code_word d)) most_wrong
 
-unfoldable pub first_near : ℕ → ℕ → Found
-first_near zero w = Nothing
-first_near (suc n) w = cond (is_near w n) (Data n) (first_near n w)
+unfoldable pub first_near : ℕ → ℕ → Option ℕ
+first_near zero w = None
+first_near (suc n) w = cond (is_near w n) (Some n) (first_near n w)
 
-unfoldable pub nearest : ℕ → Found
+unfoldable pub nearest : ℕ → Option ℕ
 nearest w = first_near 4096 w

@@ -5,18 +5,16 @@
 --   Searched s from left r    r is data that mend, or there are none
 --
 -- Assumes nothing.
-use Rattle.std.specs.Prelude.{◌≡◌, ℕ, ◌+◌, ◌%◌, ◌^◌, ◌≤◌, ◌<◌}
+use Rattle.std.specs.Prelude.{◌≡◌, ℕ, ◌+◌, ◌%◌, ◌^◌, ◌≤◌, ◌<◌, Option, Some, None}
 use Rattle.std.specs.Int.Bits.{bit_xor}
 use Rattle.std.specs.Int.Count.{ones}
 use Rattle.golay.specs.Code.{parity}
-use Rattle.golay.specs.declared.Found.{Found}
-use Rattle.golay.specs.declared.Found.TheVariants.{Data, Nothing}
 
 pub record Mends (s from left u : ℕ) : Type 0 where
   pub small : u < 2 ^ 12
   pub behind : u % 2 ^ from ≡ 0
   pub few : ones u + ones (bit_xor s (parity u)) ≤ left
 
-abbrev pub Searched : ℕ → ℕ → ℕ → Found → Type 0
-Searched s from left (Data u) = Mends s from left u
-Searched s from left Nothing = (u : ℕ) → Mends s from left u → ⊥
+abbrev pub Searched : ℕ → ℕ → ℕ → Option ℕ → Type 0
+Searched s from left (Some u) = Mends s from left u
+Searched s from left None = (u : ℕ) → Mends s from left u → ⊥

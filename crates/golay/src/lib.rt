@@ -18,61 +18,42 @@ const ROWS: [u32; 12] = [
     3189, 1183, 3403, 1763, 2483, 2918, 3788, 493, 986, 1972, 2845, 3642,
 ];
 
-// The data of the word that was sent, or that no word of the code lies within three bits.
-#[derive(Clone, Copy)]
-pub enum Found {
-    Data(u32),
-    Nothing,
-}
-
 // The parity of 12 bits of data: the sum of the rows at its ones. Higher bits do not count.
 pub fn parity(message: u32) -> u32
     ensures { result ≡ code.parity message }
 {
     let mut sum = 0;
     let mut bits = message;
-    let mut i = 0;
-    while i < ROWS.len() {
-        sum ^= (bits & 1) * ROWS[i];
+    for row in ROWS {
+        sum ^= (bits & 1) * row;
         bits >>= 1;
-        i += 1;
     }
     sum
 }
 
 // Which bits of data to change, from bit `from` on (0 is the first) and at most `left` of them, so that with the ones of the syndrome that are then
 // left no more than `left` bits are wrong.
-fn search(syndrome: u32, from: usize, left: u32) -> Found
+fn search(syndrome: u32, from: usize, left: u32) -> Option<u32>
     ensures { Searched syndrome from left result }
 {
-    if u32::count_ones(syndrome) <= left {
-        return Found::Data(0);
+    if syndrome.count_ones() <= left {
+        return Some(0);
     }
-    if left == 0 {
-        return Found::Nothing;
-    }
-    let rows = ROWS;
-    let mut i = from;
-    while i < rows.len() {
-        match search(syndrome ^ rows[i], i + 1, left - 1) {
-            Found::Data(u) => {
-                return Found::Data(u + (1 << i));
-            }
-            Found::Nothing => {}
+    let fewer = left.checked_sub(1)?;
+    for i in from..ROWS.len() {
+        if let Some(u) = search(syndrome ^ ROWS[i], i + 1, fewer) {
+            return Some(u + (1 << i));
         }
-        i += 1;
     }
-    Found::Nothing
+    None
 }
 
-// The data whose code word lies within three bits of a word of 24. Of a larger number, each further one is a wrong bit.
-pub fn find(word: u32) -> Found
+// The data whose code word lies within three bits of a word of 24, if there are any. Of a larger number, each further one is a wrong bit.
+#[tactic(auto, using(crate::proofs::Finding::nearest_by, crate::proofs::Finding::data_bits))]
+pub fn find(word: u32) -> Option<u32>
     ensures { result ≡ code.nearest word }
 {
     let data = word & 4095;
     let syndrome = parity(data) ^ (word >> DATA_BITS);
-    match search(syndrome, 0, MOST_WRONG) {
-        Found::Data(u) => Found::Data(data ^ u),
-        Found::Nothing => Found::Nothing,
-    }
+    Some(data ^ search(syndrome, 0, MOST_WRONG)?)
 }

@@ -12,10 +12,11 @@ use mathlib.Core.Path.{◌≡◌, sym, ap, ◌∙◌}
 use mathlib.Core.List.{List}
 use Prim.Native.Nat.{ℕ}
 use lib.IntN.{ℤ}
-use Rattle.calls.specs.Refusal.{length_says}
+use Rattle.calls.specs.Refusal.{says}
 use Rattle.adaptation.specs.Receiving.{RepairLent}
 use Rattle.adaptation.proofs.Laws.{encoded_unique, received_unique}
-use Rattle.calls.specs.declared.Length.{Length}
+use Rattle.calls.specs.declared.Refusal.{Refusal}
+use Rattle.std.specs.Prelude.{Result}
 use Rattle.kyteblossom.specs.Answer.{answer, receive_answer, EncodeIs, ReceiveIs}
 pub use Rattle.kyteblossom.proofs.Recorded.{record_write_answered, record_read_answered, record_write-once, record-read-once}
 pub use Rattle.kyteblossom.proofs.Framed.{forms_are, packet_write_answered, packet_read_answered, packet_back, packet_write-once, packet-read-once}
@@ -25,7 +26,7 @@ pub encode-once : (n e : ℕ) (u before after left : List ℕ) (r q : ℤ) → E
     → (r ≡ q) × (after ≡ left)
 encode-once n e u before after left r q a b =
     let same = encoded_unique n e u before after left a.outcome b.outcome a.encoded b.encoded in
-    (a.number ∙ ap (λ (l : Length). answer (length_says l)) same.0 ∙ sym b.number, same.1)
+    (a.number ∙ ap (λ (l : Result ℕ Refusal). answer (says l)) same.0 ∙ sym b.number, same.1)
 
 pub receive-once : (n e : ℕ) (w : List ℕ) (before after left : RepairLent) (r q : ℤ) → ReceiveIs n e w before r after
     → ReceiveIs n e w before q left → (r ≡ q) × (after ≡ left)

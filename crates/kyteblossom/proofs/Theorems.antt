@@ -13,9 +13,9 @@ use borrow.Author.Tests.{eqb-true}
 use lib.Dec.{eqb, ltb}
 use lib.IntN.{ℤ, pos}
 use lib.ListN.{length, take, length-append}
-use Rattle.calls.specs.Refusal.{Told, refused, told, ended, refusal, Refuses, length_says}
-use Rattle.calls.specs.declared.Length.{Length}
-use Rattle.calls.specs.declared.Length.TheVariants as sends
+use Rattle.calls.specs.Refusal.{Told, refused, told, ended, refusal, Refuses, number, says}
+use Rattle.calls.specs.declared.Refusal.{Refusal}
+use Rattle.std.specs.Prelude.{Result, Ok, Err}
 use Rattle.calls.proofs.Laws.{told-refused, allowed_refuses, refused_refuses, told_refuses}
 use Rattle.adaptation.specs.Handed.{badge_number}
 use Rattle.checks.specs.Check.{check_of, none, eight, sixteen}
@@ -26,8 +26,6 @@ use Rattle.adaptation.specs.Receiving.{RepairLent, has_repair_room, is_word, rec
 use Rattle.adaptation.specs.declared.Badge.{Badge}
 use Rattle.adaptation.specs.declared.Badge.TheVariants.{Clean, Corrected, OutOfReach, CheckFailed, Unchecked}
 use Rattle.adaptation.specs.declared.al1m.Judgement.{Judgement}
-use Rattle.adaptation.specs.declared.al1m.Received.{Received}
-use Rattle.adaptation.specs.declared.al1m.Received.TheVariants as al1m
 use Rattle.adaptation.proofs.Laws.{coding-all, sent-small, handed-small, badge_most, refused_none}
 use Rattle.kyteblossom.proofs.Answering.{answered, not-below}
 use Rattle.kyteblossom.specs.Answer.{answer, packed, receive_answer}
@@ -66,36 +64,36 @@ length_answered t b e r is =
 -- ---- sent units
 
 module _ (b e : ℕ) (u before after : List ℕ) where
-  sends-refuses : (o : Length) → Sends b e u before o after
-      → Refuses (ended (length_says o) after) (encode_tests (length u) b e (length before)) before
-  sends-refuses (sends.Octets m) s = allowed_refuses before _ m after s.0
-  sends-refuses (sends.Refused k) s = refused_refuses before _ k after s.first s.same
+  sends-refuses : (o : Result ℕ Refusal) → Sends b e u before o after
+      → Refuses (ended (says o) after) (encode_tests (length u) b e (length before)) before
+  sends-refuses (Ok m) s = allowed_refuses before _ m after s.0
+  sends-refuses (Err k) s = refused_refuses before _ (number k) after s.first s.same
 
-  written-octets : refusal (encode_tests (length u) b e (length before)) ≡ told tt → (r : ℤ) (o : Length) → Sends b e u before o after
-      → r ≡ answer (length_says o) → (m : ℕ) × (r ≡ pos m) × WordLength m × Sends b e u before (sends.Octets m) after
-  written-octets h r (sends.Octets m) s is =
+  written-octets : refusal (encode_tests (length u) b e (length before)) ≡ told tt → (r : ℤ) (o : Result ℕ Refusal) → Sends b e u before o after
+      → r ≡ answer (says o) → (m : ℕ) × (r ≡ pos m) × WordLength m × Sends b e u before (Ok m) after
+  written-octets h r (Ok m) s is =
       let p = refused_none (is_setting b e) (is_sendable (length u) b e) (ltb (length before) (sent_octets (length u) b e)) h in
       let c = s.1 in
       let some = (length_whole (length u) b e p.0 p.1).0 in
       (m, is, (omega (arith, c.count, c.coded.long, length-append u (check_of (kind_at b) u)), sent-small b e m u before after s), s)
-  written-octets h r (sends.Refused k) s is = told-refused h s.first
+  written-octets h r (Err k) s is = told-refused h s.first
 
 pub encode_answered : EncodeAnswered
 encode_answered b e u before after r a =
     let is = answered _ (positive (is_setting b e) (is_sendable (length u) b e) (ltb (length before) (sent_octets (length u) b e))) before after r
-    (length_says a.outcome) a.number (sends-refuses b e u before after a.outcome a.encoded) in
+    (says a.outcome) a.number (sends-refuses b e u before after a.outcome a.encoded) in
     (is, λ h. written-octets b e u before after (not-below _ before after r is h) r a.outcome a.encoded a.number)
 
 -- ---- units that are handed up
 
-receive_says : Received → Told ℕ
-receive_says (al1m.Unit j) = told (packed j)
-receive_says (al1m.Refused k) = refused k
+receive_says : Result Judgement Refusal → Told ℕ
+receive_says (Ok j) = told (packed j)
+receive_says (Err k) = refused (number k)
 
-receive-answer : (o : Received) → receive_answer o ≡ answer (receive_says o)
+receive-answer : (o : Result Judgement Refusal) → receive_answer o ≡ answer (receive_says o)
 unfolding receive_says
-receive-answer (al1m.Unit j) = refl
-receive-answer (al1m.Refused k) = refl
+receive-answer (Ok j) = refl
+receive-answer (Err k) = refl
 
 -- only badge 1 has the number 1
 corrected-one : (x : Badge) → eqb (badge_number x) 1 ≡ is_corrected x
@@ -125,18 +123,18 @@ module _ (j : Judgement) (few : j.changed < 256) (short : j.length < 256) (w aft
   }
 
 module _ (b e : ℕ) (w : List ℕ) (before after : RepairLent) where
-  receives-refuses : (o : Received) → Receives b e w before o after
+  receives-refuses : (o : Result Judgement Refusal) → Receives b e w before o after
       → Refuses (ended (receive_says o) after) (receive_tests (length w) b e before) before
   unfolding receive_says
-  receives-refuses (al1m.Unit j) p = allowed_refuses before _ (packed j) after p.0
-  receives-refuses (al1m.Refused k) p = refused_refuses before _ k after p.first p.same
+  receives-refuses (Ok j) p = allowed_refuses before _ (packed j) after p.0
+  receives-refuses (Err k) p = refused_refuses before _ (number k) after p.first p.same
 
-  handed-parts : refusal (receive_tests (length w) b e before) ≡ told tt → (r : ℤ) (o : Received) → Receives b e w before o after
-      → r ≡ receive_answer o → (j : Judgement) × Receives b e w before (al1m.Unit j) after × Parts r j w after.repair
-  handed-parts h r (al1m.Unit j) p is =
+  handed-parts : refusal (receive_tests (length w) b e before) ≡ told tt → (r : ℤ) (o : Result Judgement Refusal) → Receives b e w before o after
+      → r ≡ receive_answer o → (j : Judgement) × Receives b e w before (Ok j) after × Parts r j w after.repair
+  handed-parts h r (Ok j) p is =
       let small = handed-small b e w before after j p in
       (j, p, rw is (parts j (omega (arith, small)) (omega (arith, small)) w after.repair))
-  handed-parts h r (al1m.Refused k) p is = told-refused h p.first
+  handed-parts h r (Err k) p is = told-refused h p.first
 
 pub receive_answered : ReceiveAnswered
 receive_answered b e w before after r a =

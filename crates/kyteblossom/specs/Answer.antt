@@ -15,17 +15,15 @@
 --   packet_says t                  .. of what a packet says, or a refusal's number: what kyte_packet_read answers, by the packet's reading
 --
 -- Assumes nothing.
-use Rattle.std.specs.Prelude.{◌≡◌, Bool, cond, not, List, ℕ, ◌+◌, ◌*◌, eqb, ℤ, pos, neg_ℤ}
-use Rattle.calls.specs.Refusal.{Told, refused, told, ended, length_says}
+use Rattle.std.specs.Prelude.{◌≡◌, Bool, cond, not, List, ℕ, ◌+◌, ◌*◌, eqb, ℤ, pos, neg_ℤ, Result, Ok, Err}
+use Rattle.calls.specs.Refusal.{Told, refused, told, ended, number, says}
+use Rattle.calls.specs.declared.Refusal.{Refusal}
 use Rattle.adaptation.specs.Handed.{badge_number}
 use Rattle.adaptation.specs.Sending.{Sends}
 use Rattle.adaptation.specs.Receiving.{RepairLent, Receives}
 use Rattle.record.specs.Call.{Writes, ReadLent, Reads}
 use Rattle.packets.specs.Packet.{wrote, Heading}
-use Rattle.calls.specs.declared.Length.{Length}
 use Rattle.adaptation.specs.declared.al1m.Judgement.{Judgement}
-use Rattle.adaptation.specs.declared.al1m.Received.{Received}
-use Rattle.adaptation.specs.declared.al1m.Received.TheVariants.{Unit, Refused}
 
 abbrev pub answer : Told ℕ → ℤ
 answer (told n) = pos n
@@ -37,17 +35,17 @@ one_number b c t = b + 256 * c + 65536 * t
 abbrev pub packed : Judgement → ℕ
 packed j = one_number (badge_number j.badge) j.changed j.length
 
-abbrev pub receive_answer : Received → ℤ
-receive_answer (Unit j) = pos (packed j)
-receive_answer (Refused k) = neg_ℤ (pos k)
+abbrev pub receive_answer : Result Judgement Refusal → ℤ
+receive_answer (Ok j) = pos (packed j)
+receive_answer (Err r) = neg_ℤ (pos (number r))
 
 pub record EncodeIs (b e : ℕ) (u before : List ℕ) (r : ℤ) (after : List ℕ) : Type 0 where
-  pub outcome : Length
+  pub outcome : Result ℕ Refusal
   pub encoded : Sends b e u before outcome after
-  pub number : r ≡ answer (length_says outcome)
+  pub number : r ≡ answer (says outcome)
 
 pub record ReceiveIs (b e : ℕ) (w : List ℕ) (before : RepairLent) (r : ℤ) (after : RepairLent) : Type 0 where
-  pub outcome : Received
+  pub outcome : Result Judgement Refusal
   pub received : Receives b e w before outcome after
   pub number : r ≡ receive_answer outcome
 

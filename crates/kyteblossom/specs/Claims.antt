@@ -20,16 +20,14 @@
 --   CheckedExactly               kyte_trusted takes a width for one with a check exactly where the check has octets
 --
 -- Assumes nothing.
-use Rattle.std.specs.Prelude.{◌≡◌, ◌↔◌, true, false, cond, not, List, [], ◌++◌, ℕ, suc, ◌+◌, ◌*◌, ◌^◌, ◌≤◌, ◌<◌, eqb, ℤ, pos, neg_ℤ, length, take, drop}
+use Rattle.std.specs.Prelude.{◌≡◌, ◌↔◌, true, false, cond, not, List, [], ◌++◌, ℕ, suc, ◌+◌, ◌*◌, ◌^◌, ◌≤◌, ◌<◌, eqb, ℤ, pos, neg_ℤ, length, take, drop, Ok}
 use Rattle.calls.specs.Refusal.{refused, told, leaving, Test, refusal}
-use Rattle.calls.specs.declared.Length.TheVariants.{Octets}
 use Rattle.adaptation.specs.Handed.{badge_number}
 use Rattle.checks.specs.Width.{kind_at}
 use Rattle.adaptation.specs.AL1M.{length_tests, sent_octets, sent_length}
 use Rattle.adaptation.specs.Sending.{encode_tests, Sends}
 use Rattle.adaptation.specs.Receiving.{RepairLent, receive_tests, handed_unit, Receives}
 use Rattle.adaptation.specs.declared.al1m.Judgement.{Judgement}
-use Rattle.adaptation.specs.declared.al1m.Received.TheVariants as al1m
 use Rattle.record.specs.Call.{Listing, write_tests, Writes, Contents, read_tests, Reads}
 use Rattle.packets.specs.Claims.{Carries}
 use Rattle.packets.specs.Packet.{packet_of, write_tests as packet_write_tests, Heading, read_tests as packet_read_tests, read}
@@ -55,7 +53,7 @@ abbrev pub EncodeAnswered : Type 0
 EncodeAnswered =
     (b e : ℕ) (u before after : List ℕ) (r : ℤ) → EncodeIs b e u before r after
     → Answered r (encode_tests (length u) b e (length before)) before after
-    × (is_below r ≡ false → (m : ℕ) × (r ≡ pos m) × WordLength m × Sends b e u before (Octets m) after)
+    × (is_below r ≡ false → (m : ℕ) × (r ≡ pos m) × WordLength m × Sends b e u before (Ok m) after)
 
 -- each part has the room of its own in the number of 32 bits, so that none runs into the next
 pub record Parts (r : ℤ) (j : Judgement) (w after : List ℕ) : Type 0 where
@@ -70,7 +68,7 @@ abbrev pub ReceiveAnswered : Type 0
 ReceiveAnswered =
     (b e : ℕ) (w : List ℕ) (before after : RepairLent) (r : ℤ) → ReceiveIs b e w before r after
     → Answered r (receive_tests (length w) b e before) before after
-    × (is_below r ≡ false → (j : Judgement) × Receives b e w before (al1m.Unit j) after × Parts r j w after.repair)
+    × (is_below r ≡ false → (j : Judgement) × Receives b e w before (Ok j) after × Parts r j w after.repair)
 
 -- ---- records; specs/Claims.antt of `record` says what is written and read
 

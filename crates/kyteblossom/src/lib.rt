@@ -1,67 +1,60 @@
 // What a host in C calls: numbers and octet buffers, nothing else. kyteblossom_c exports each public function under its name.
 #![tactic(auto)]
 
-ghost use Rattle.std.specs.Prelude.{◌≡◌, ◌≤◌, ◌<◌, pos, neg_ℤ};
+ghost use Rattle.std.specs.Prelude.{◌≡◌, ◌≤◌, ◌<◌, ◌^◌};
+ghost use Rattle.std.specs.Result.{ForOk};
+ghost use Rattle.calls.specs.Refusal.{says};
 ghost use Rattle.adaptation.specs.AL1M.{sent_length};
 ghost use Rattle.packets.specs.Packet.{read};
 ghost use Rattle.kyteblossom.specs.Answer.{answer, packed, EncodeIs, ReceiveIs, RecordWriteIs, RecordReadIs, packet_number, packet_says, PacketWriteIs};
 
 use adaptation::al1m;
-use adaptation::al1m::{Judgement, Received};
-use calls::Length;
+use adaptation::al1m::Judgement;
+use calls::Refusal;
 use packets::Packet;
 use table::Code;
 
-// A refusal as the host reads it: minus its number.
-fn refusal(k: u8) -> i32
-    ensures { result ≡ neg_ℤ (pos k) }
+// What was answered as the host reads it: a number, or minus the refusal's.
+fn answer(answered: Result<usize, Refusal>) -> i32
+    requires { ForOk answered (λ n. n < 2 ^ 31) }
+    ensures { result ≡ answer (says answered) }
 {
-    0 - k as i32
+    match answered {
+        Ok(n) => n as i32,
+        Err(refused) => -i32::from(u8::from(refused)),
+    }
 }
 
 // A unit that is handed up, as one number.
-fn pack(j: Judgement) -> i32
+fn pack(j: Judgement) -> usize
     requires { (j.changed < 256) × (j.length < 256) }
-    ensures { result ≡ pos (packed j) }
+    ensures number { result ≡ packed j }
+    ensures fits { result < 2 ^ 31 }
 {
-    let badge = j.badge;
-    let changed = j.changed as u32;
-    let length = j.length as u32;
-    (adaptation::badge_number(badge) as u32 + 256 * changed + 65536 * length) as i32
+    usize::from(u8::from(j.badge)) + 256 * j.changed + 65536 * j.length
 }
 
 // What a packet says, as one number.
-fn pack_packet(p: Packet) -> i32
+fn pack_packet(p: Packet) -> usize
     requires { (p.code.0 ≤ 15) × (p.length ≤ 254) }
-    ensures { result ≡ pos (packet_number p.code.0 p.mark p.length) }
+    ensures number { result ≡ packet_number p.code.0 p.mark p.length }
+    ensures fits { result < 2 ^ 31 }
 {
-    let length = p.length as u32;
-    let unmarked = p.code.0 + 256 * length;
-    if p.mark {
-        (unmarked + 16) as i32
-    } else {
-        unmarked as i32
-    }
+    p.code.0 as usize + 16 * usize::from(p.mark) + 256 * p.length
 }
 
 // How many octets a unit is sent in, or minus the refusal's number.
 pub fn kyte_length(unit: usize, width: u32, e: u32) -> i32
     ensures { result ≡ answer (sent_length unit width e) }
 {
-    match al1m::sent_length(unit, width, e) {
-        Length::Octets(n) => n as i32,
-        Length::Refused(k) => refusal(k),
-    }
+    answer(al1m::sent_length(unit, width, e))
 }
 
 // Encodes a unit: how many octets of `sent` were written, or minus the refusal's number.
 pub fn kyte_encode(unit: &[u8], width: u32, e: u32, sent: &mut [u8]) -> i32
     ensures { EncodeIs width e unit.now sent.old result sent.new }
 {
-    match al1m::encode(unit, width, e, sent) {
-        Length::Octets(n) => n as i32,
-        Length::Refused(k) => refusal(k),
-    }
+    answer(al1m::encode(unit, width, e, sent))
 }
 
 // Receives a word: badge + 256 changed + 65,536 unit length, or minus the refusal's number. The changed places are at the front of `places`.
@@ -75,48 +68,34 @@ pub fn kyte_receive(
     ensures { ReceiveIs width e received.now (record { repair = repair.old; places = places.old }) result
         (record { repair = repair.new; places = places.new }) }
 {
-    match al1m::receive(received, width, e, repair, places) {
-        Received::Unit(j) => pack(j),
-        Received::Refused(k) => refusal(k),
-    }
+    answer(al1m::receive(received, width, e, repair, places).map(pack))
 }
 
 // Writes the record of a list of units: how many octets of `output` were written, or minus the refusal's number.
 pub fn kyte_record_write(units: &[u16], content: &[u8], output: &mut [u8]) -> i32
     ensures { RecordWriteIs units.now content.now output.old result output.new }
 {
-    match record::write(units, content, output) {
-        Length::Octets(n) => n as i32,
-        Length::Refused(k) => refusal(k),
-    }
+    answer(record::write(units, content, output))
 }
 
 // Reads a record: how many units there are, or minus the refusal's number.
 pub fn kyte_record_read(input: &[u8], units: &mut [u16], content: &mut [u8]) -> i32
     ensures { RecordReadIs input.now units.old content.old result units.new content.new }
 {
-    match record::read(input, units, content) {
-        record::Reading::Units(n) => n as i32,
-        record::Reading::Refused(k) => refusal(k),
-    }
+    answer(record::read(input, units, content))
 }
 
 // Writes a packet: how many octets of `packet` were written, or minus the refusal's number. A flag is plain for 0, and else complemented.
 pub fn kyte_packet_write(opens: u32, code: u32, mark: u32, payload: &[u8], packet: &mut [u8]) -> i32
     ensures { PacketWriteIs opens code mark payload.now packet.old result packet.new }
 {
-    match packets::write(opens != 0, Code(code), mark != 0, payload, packet) {
-        Length::Octets(written) => written as i32,
-        Length::Refused(k) => refusal(k),
-    }
+    let written = packets::write(opens != 0, Code(code), mark != 0, payload, packet);
+    answer(written)
 }
 
 // Reads the packet at the front of the octets: code + 16 mark + 256 payload length, or minus the refusal's number.
 pub fn kyte_packet_read(octets: &[u8]) -> i32
     ensures { result ≡ answer (packet_says (read octets.now)) }
 {
-    match packets::read(octets) {
-        packets::Reading::Packet(p) => pack_packet(p),
-        packets::Reading::Refused(k) => refusal(k),
-    }
+    answer(packets::read(octets).map(pack_packet))
 }

@@ -16,7 +16,7 @@ use Prim.Native.Nat.{ℕ, ◌+◌, ◌-◌, ◌≤◌, ◌<◌}
 use native.Mathlib.Nat.{add-sub_cancel_left}
 use native.Mathlib.Omega.{arith}
 use lib.ListN.{length, take, drop, get_or, length-drop}
-use lib.Seq.{length-take-le, take-take, get_or-take}
+use lib.Seq.{length-take-le, take-take}
 use Rattle.octets.specs.Written.{written, written-length, written-append, written_nothing}
 use Rattle.channels.specs.declared.Channels.{Channels}
 use Rattle.channels.specs.Channels.{channel_at, waits, waiting_from, waiting_of, place_count, all_octets}
@@ -39,22 +39,14 @@ abbrev pub from : Channels → Piece → ℕ
 from s q = waiting_from (channel_at s q.place) q.place
 
 module _ (s₀ : Channels) (w : List ℕ) (l₀ : List Piece) (d₀ d : List ℕ) (s : Channels) (at : ℕ) where
-  pub gathers-end : (n : ℕ) (ps ls : List ℕ) (j : ℕ) → n ≤ length ps → n ≤ j
-      → Gathering s₀ w l₀ d₀ d s at (drop j (laid (take n ps) (take n ls))) → d ≡ written d₀ 0 (gathered s₀ w l₀)
+  pub gathers-end : (ps ls : List ℕ) (j : ℕ) → length ps ≤ j → Gathering s₀ w l₀ d₀ d s at (drop j (laid ps ls)) → d ≡ written d₀ 0 (gathered s₀ w l₀)
   unfolding gathered
-  gathers-end n ps ls j a h g =
-      let e : length (take n ps) ≤ j = rw (length-take-le n ps a) h in
-      sym (g.gathers ∙ ap (λ (l : List Piece). written d at (gathered s w l)) (paired-end piece (take n ps) (take n ls) j e) ∙ written_nothing d at)
+  gathers-end ps ls j h g =
+      sym (g.gathers ∙ ap (λ (l : List Piece). written d at (gathered s w l)) (paired-end piece ps ls j h) ∙ written_nothing d at)
 
-  pub gathers-at : (n : ℕ) (ps ls : List ℕ) (j : ℕ) → n ≤ length ps → n ≤ length ls → j < n
-      → Gathering s₀ w l₀ d₀ d s at (drop j (laid (take n ps) (take n ls)))
-      → Gathering s₀ w l₀ d₀ d s at (piece_at ps ls j ∷ drop (j + 1) (laid (take n ps) (take n ls)))
-  gathers-at n ps ls j a b h g =
-      let a' : j < length (take n ps) = rw (length-take-le n ps a) h in
-      let b' : j < length (take n ls) = rw (length-take-le n ls b) h in
-      subst (λ (l : List Piece). Gathering s₀ w l₀ d₀ d s at l)
-      (paired_at piece (take n ps) (take n ls) j a' b' ∙ rw (get_or-take n ps j 0 h, get_or-take n ls j 0 h))
-      g
+  pub gathers-at : (ps ls : List ℕ) (j : ℕ) → j < length ps → j < length ls → Gathering s₀ w l₀ d₀ d s at (drop j (laid ps ls))
+      → Gathering s₀ w l₀ d₀ d s at (piece_at ps ls j ∷ drop (j + 1) (laid ps ls))
+  gathers-at ps ls j a b g = subst (λ (l : List Piece). Gathering s₀ w l₀ d₀ d s at l) (paired_at piece ps ls j a b) g
 
   module _ (q : Piece) (l : List Piece) (g : Gathering s₀ w l₀ d₀ d s at (q ∷ l)) where
     pub first_moves : (q.place < place_count) × (q.octets ≤ waits (channel_at s q.place)) × (at + q.octets ≤ length d)

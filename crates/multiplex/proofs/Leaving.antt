@@ -36,7 +36,8 @@ use Rattle.channels.specs.declared.Channels.{Channels}
 use Rattle.channels.specs.Channels.{place_count, place_octets, all_octets, place_of, is_in, all_open, channel_at, waiting, waits, waiting_from, waiting_of}
 use Rattle.channels.proofs.Laws.{seats, seats-put, seats-length, place-seats, place_unique, put-there, put-elsewhere}
 use Rattle.multiplex.specs.Pieces.{Piece, placed, total}
-use Rattle.multiplex.specs.Multiplexer.{MuxLent, Payload, left, Walk, walked, gathered, multiplex_tests, multiplexed}
+use Rattle.multiplex.specs.declared.multiplexer.Payload.{Payload}
+use Rattle.multiplex.specs.Multiplexer.{MuxLent, left, Walk, walked, gathered, multiplex_tests, multiplexed}
 use Rattle.multiplex.specs.Walks.{turned, Sendable}
 use Rattle.multiplex.specs.declared.multiplexer.Turn.{Turn}
 use Rattle.multiplex.specs.declared.multiplexer.Turn.TheVariants.{Stop, On, Last}

@@ -15,6 +15,7 @@ pub mod Packing
 pub mod Tallying
 pub mod Pouring
 pub mod Closing
+pub mod Marking
 pub mod Refusing
 pub mod Sorting
 pub mod Unique

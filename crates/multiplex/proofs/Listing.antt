@@ -11,12 +11,12 @@ use native.Mathlib.Omega.{arith}
 use borrow.Author.Tests.{lt-leb}
 use lib.ListN.{length, get_or, drop, length-drop}
 use lib.Seq.{get_or-drop}
-use Rattle.multiplex.specs.declared.units.Listed.TheVariants.{At}
+use Rattle.std.specs.Prelude.{Some}
 use Rattle.multiplex.specs.Units.{unit_at, unit_in, units_in}
 use Rattle.multiplex.specs.Claims.{ListRead}
 
 pub unit-there : (l : List ℕ) (j : ℕ) → 3 * j + 3 ≤ length l
-    → unit_at l j ≡ At (record { channel = record { 0 = get_or l (3 * j) 0 }; start = get_or l (3 * j + 1) 0; length = get_or l (3 * j + 2) 0 })
+    → unit_at l j ≡ Some (record { channel = record { 0 = get_or l (3 * j) 0 }; start = get_or l (3 * j + 1) 0; length = get_or l (3 * j + 2) 0 })
 unfolding unit_at
 unit-there l j h = rw (lt-leb (length l / 3) j (omega arith))
 

@@ -21,7 +21,7 @@ use Rattle.channels.specs.declared.Channels.{Channels}
 use Rattle.channels.specs.Channels.{channel_at, held_of}
 use Rattle.channels.specs.Parts.{part_at}
 use Rattle.multiplex.specs.declared.units.Unit.{Unit}
-use Rattle.multiplex.specs.declared.units.Listed.TheVariants.{At}
+use Rattle.std.specs.Prelude.{Some}
 use Rattle.multiplex.specs.Pieces.{Piece, placed, last_place}
 use Rattle.multiplex.specs.Demultiplexer.{Delivery, DemuxLent, nothing, took, took_all, delivery, too_small, writes, demultiplex_tests, demultiplexed}
 use Rattle.multiplex.specs.Units.{UnitOn, unit_at, unit_in, units_in}
@@ -91,7 +91,7 @@ module _ (x : DemuxLent) (d : Delivery) (us : List UnitOn) (t : Tells d us) (sma
       let z : i ≡ 0 + i = omega arith in
       ap (λ (k : ℕ). get_or l k 0) z ∙ written_inside x.units 0 d.units (omega (arith, units_fit)) i 0 h ∙ ap (λ (a : List ℕ). get_or a i 0) t.units
 
-  lies : (j : ℕ) (u : Unit) (z : UnitOn) → j < length us → unit_at l j ≡ At u → part_at o u.start u.length ≡ (get_or (units_in o l (length us)) j z).octets
+  lies : (j : ℕ) (u : Unit) (z : UnitOn) → j < length us → unit_at l j ≡ Some u → part_at o u.start u.length ≡ (get_or (units_in o l (length us)) j z).octets
   unfolding part_at
   lies j u z h e =
       let long : length l ≡ length x.units = written-length x.units 0 d.units (omega (arith, units_fit)) in
@@ -112,10 +112,10 @@ module _ (x : DemuxLent) (d : Delivery) (us : List UnitOn) (t : Tells d us) (sma
       ap (λ (b : Bool). cond b (take u.length (drop u.start o)) []) (le-leb (u.start + u.length) (length o) within)
       ∙ sym (ap (λ (a : UnitOn). a.octets) (list_read o l (length us) j z h (omega (arith, long, units_fit, numbers)) ∙ ap (unit_in o) e))
     where
-      start_is : (u : Unit) {v : Unit} → At u ≡ At v → u.start ≡ v.start
+      start_is : (u : Unit) {v : Unit} → Some u ≡ Some v → u.start ≡ v.start
       start_is u e = cc
 
-      length_is : (u : Unit) {v : Unit} → At u ≡ At v → u.length ≡ v.length
+      length_is : (u : Unit) {v : Unit} → Some u ≡ Some v → u.length ≡ v.length
       length_is u e = cc
 
 pub lies-there : LiesThere
@@ -124,7 +124,7 @@ lies-there x y t c mark xs k j u z =
     let d = delivery x.channels x.held mark (placed x.channels (payload_slots (entry_of t c) (length xs))) xs in
     let tale = tale-delivery x.channels x.held mark (placed x.channels (payload_slots (entry_of t c) (length xs))) xs in
     by_tests
-    (λ (r : Ended ℕ DemuxLent). r ≡ leaving k y → j < k → unit_at y.units j ≡ At u
+    (λ (r : Ended ℕ DemuxLent). r ≡ leaving k y → j < k → unit_at y.units j ≡ Some u
     → part_at y.output u.start u.length ≡ (get_or (units_in y.output y.units k) j z).octets)
     (refusing x) (demultiplex_tests x t c mark xs) (leaving d.count (writes d x.output x.units))
     (λ i e. told-refused (ap (λ (r : Ended ℕ DemuxLent). r.answer) e) refl)
@@ -133,6 +133,6 @@ lies-there x y t c mark xs k j u z =
     let same = leaving-same d.count k (writes d x.output x.units) y e in
     let n : length tale.0 ≡ k = sym tale.1.count ∙ same.0 in
     subst
-    (λ (r : DemuxLent). unit_at r.units j ≡ At u → part_at r.output u.start u.length ≡ (get_or (units_in r.output r.units k) j z).octets) same.1
+    (λ (r : DemuxLent). unit_at r.units j ≡ Some u → part_at r.output u.start u.length ≡ (get_or (units_in r.output r.units k) j z).octets) same.1
     (λ g. lies x d tale.0 tale.1 small j u z (omega (arith, n)) g
     ∙ ap (λ (m : ℕ). (get_or (units_in (written x.output 0 d.octets) (written x.units 0 d.units) m) j z).octets) n) f)

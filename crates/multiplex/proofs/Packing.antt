@@ -13,7 +13,7 @@
 --
 -- Assumes nothing.
 use mathlib.Core.Path.{◌≡◌, sym, ap₂, subst, ◌∙◌}
-use mathlib.Core.Bool.{true, false}
+use mathlib.Core.Bool.{false}
 use mathlib.Core.List.{List}
 use Prim.Native.Nat.{ℕ, ◌≤◌}
 use native.Mathlib.Omega.{arith}
@@ -30,7 +30,8 @@ use Rattle.channels.specs.declared.Channels.{Channels}
 use Rattle.multiplex.specs.declared.multiplexer.Walked.{Walked}
 use Rattle.multiplex.specs.Pieces.{laid, total}
 use Rattle.multiplex.specs.Multiplexer.{MuxLent, Walk, walked, gathered, packed}
-use Rattle.multiplex.specs.Walks.{slotted, Sendable, WalkIs}
+use Rattle.multiplex.specs.Walks.{slotted, Sendable, WalkIs, Walks}
+use Rattle.std.specs.Prelude.{Option}
 use Rattle.multiplex.proofs.Laying.{Slotted, lays-slotted}
 use Rattle.multiplex.proofs.Slotting.{slotted-back}
 use Rattle.multiplex.proofs.Walking.{walked-sendable, walked-most}
@@ -54,9 +55,9 @@ module _ (entry : List ℕ) (room : ℕ) (few : room ≤ longest_payload) where
     lays-slots = ap₂ slotted down.channels down.lengths ∙ slotted-back (payload_slots entry room)
 
     -- what a walk over what stands in the lists gives
-    pub walk_over : (s : Channels) (v : Walked) (ps ns : List ℕ)
-        → WalkIs (walked s (slotted (take r.count cs) (take r.count ls))) v ps ns → WalkIs (walked s (payload_slots entry room)) v ps ns
-    walk_over s v ps ns is = subst (λ (l : List Slot). WalkIs (walked s l) v ps ns) lays-slots is
+    pub walk_over : (s : Channels) (o : Option Walked) (ps ns : List ℕ)
+        → Walks (walked s (slotted (take r.count cs) (take r.count ls))) o ps ns → Walks (walked s (payload_slots entry room)) o ps ns
+    walk_over s o ps ns is = subst (λ (l : List Slot). Walks (walked s l) o ps ns) lays-slots is
 
   -- what it leaves in them
   module _ (s : Channels) (r : Walked) (ps ls : List ℕ) (is : WalkIs (walked s (payload_slots entry room)) r ps ls) where
@@ -68,19 +69,19 @@ module _ (entry : List ℕ) (room : ℕ) (few : room ≤ longest_payload) where
 
 -- ---- the answer
 
-module _ (x : MuxLent) (w : List ℕ) (v : Walk) (r : Walked) (ps ls : List ℕ) (is : WalkIs v r ps ls) where
-  pub packed-closed : r.all_open ≡ false → refusing x 5 ≡ packed x w v
+module _ (x : MuxLent) (w : List ℕ) (v : Walk) where
+  pub packed-closed : false ≡ v.all_open → refusing x 5 ≡ packed x w v
   unfolding packed
-  packed-closed e = rw (← is.all_open, e)
+  packed-closed e = rw (← e)
 
-  module _ (e : r.all_open ≡ true) where
+  module _ (r : Walked) (ps ls : List ℕ) (is : WalkIs v r ps ls) where
     pub packed_empty : r.octets ≡ 0 → refusing x 9 ≡ packed x w v
     unfolding packed
-    packed_empty z = rw (← is.all_open, e, ← is.octets, z)
+    packed_empty z = rw (← is.all_open, ← is.octets, z)
 
     pub packed-sent : (r.octets ≡ 0 → ⊥)
         → leaving (record { octets = r.octets; mark = r.mark })
         (record { channels = r.channels; payload = written x.payload 0 (gathered x.channels w (laid (take r.count ps) (take r.count ls))) })
         ≡ packed x w v
     unfolding packed
-    packed-sent z = rw (← is.all_open, e, ← is.octets, ne_eqb _ _ z, is.mark, is.channels, is.pieces)
+    packed-sent z = rw (← is.all_open, ← is.octets, ne_eqb _ _ z, is.mark, is.channels, is.pieces)

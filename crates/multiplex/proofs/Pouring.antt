@@ -1,11 +1,11 @@
 -- The writes: one more piece, or the unit that the closing mark ends, shown as it is taken.
 --
 --   part_exact, part_length       a piece as the code cuts it, and its length
---   takes-held, takes-unit        one piece written on a segmentable channel, and on another
+--   takes-unit                    one piece written as a unit, on a channel that is not segmentable
 --   closed_tallies                the closing mark, counted
 --   closes-least                  it makes octets and units no fewer, and at most one unit more
 --   leaving-shown                 where a delivery is shown, the call hands_back it
---   finishes-marked, finishes-plain   .. and written, where it is set, and where it is not
+--   finishes                      .. and the unit that it ends, written
 --
 -- Assumes nothing.
 use mathlib.Core.Path.{◌≡◌, refl, ap, ◌∙◌}
@@ -21,9 +21,9 @@ use Rattle.calls.specs.Slices.{Slice, SharedSlice}
 use Rattle.calls.specs.Refusal.{leaving}
 use Rattle.channels.specs.declared.Channel.{Channel}
 use Rattle.multiplex.specs.declared.demultiplexer.Tally.{Tally}
-use Rattle.channels.specs.Channels.{channel_at, put, holding, held_of, place_octets}
+use Rattle.channels.specs.Channels.{channel_at, held_of}
 use Rattle.multiplex.specs.Demultiplexer.{Delivery, DemuxLent, finished, closed, writes}
-use Rattle.multiplex.specs.Tally.{closes, Tallies, Shows, RoomFor, Takes, Poured, Exact, Finishes}
+use Rattle.multiplex.specs.Tally.{ends, closes, Tallies, Shows, RoomFor, Takes, Poured, Exact, Finishes}
 use Rattle.multiplex.specs.Units.{listed}
 
 module _ (xs : List ℕ) (at n : ℕ) where
@@ -42,15 +42,6 @@ shows-unit {o} {u} {d} w room v n x k e = record {
 }
 
 module _ {c : Channel} {p octets count : ℕ} {x : List ℕ} {held output units : Slice} where
-  pub takes-held : c.segmentable ≡ true → held.exit.now ≡ written held.entry.now (place_octets * p + c.held) x
-      → output.exit.now ≡ output.entry.now → units.exit.now ≡ units.entry.now → Takes c p octets count x held output units
-  takes-held g h o u = record {
-    more = λ {d = d} e w room v.
-        let on : channel_at d.channels p ≡ c = rw w.channels at e in
-        let f : (channel_at d.channels p).segmentable ≡ true = ap (λ (c : Channel). c.segmentable) on ∙ g in
-        record { held = rw (f, h, v.held, on); output = rw f (o ∙ v.output); units = rw f (u ∙ v.units) };
-  }
-
   pub takes-unit : c.segmentable ≡ false → held.exit.now ≡ held.entry.now → output.exit.now ≡ written output.entry.now octets x
       → units.exit.now ≡ written units.entry.now (3 * count) (listed c.number.0 octets (length x)) → Takes c p octets count x held output units
   takes-unit g h o u = record {
@@ -63,11 +54,7 @@ module _ {c : Channel} {p octets count : ℕ} {x : List ℕ} {held output units 
 
 -- ---- the closing mark
 
-pub closed_tallies : (d : Delivery) (t : Tally) (p : ℕ) → Tallies d t → Exact d p → Tallies (closed d p) (record {
-  channels = put t.channels p (holding (channel_at t.channels p) 0);
-  octets = t.octets + (channel_at t.channels p).held;
-  units = t.units + 1;
-})
+pub closed_tallies : (d : Delivery) (t : Tally) (p : ℕ) → Tallies d t → Exact d p → Tallies (closed d p) (ends t p)
 closed_tallies d t p w e =
     let x = held_of d.channels d.held p in
     record {
@@ -89,22 +76,19 @@ pub leaving-shown : {o u : List ℕ} {d : Delivery} {t : Tally} {h o' u' : List 
     → leaving {X = DemuxLent} t.units (record { channels = t.channels; held = h; output = o'; units = u' }) ≡ leaving d.count (writes d o u)
 leaving-shown v = rw (v.tallies.units, v.tallies.channels, v.shows.held, v.shows.output, v.shows.units)
 
-module _ {mark : Bool} {p : ℕ} {t : Tally} {held : SharedSlice} {output units : Slice} where
-  pub finishes-marked : mark ≡ true → length (held_of t.channels held.entry.now p) ≡ (channel_at t.channels p).held
+module _ {p : ℕ} {t : Tally} {held : SharedSlice} {output units : Slice} where
+  pub finishes : length (held_of t.channels held.entry.now p) ≡ (channel_at t.channels p).held
       → output.exit.now ≡ written output.entry.now t.octets (held_of t.channels held.entry.now p)
       → units.exit.now
       ≡ written units.entry.now (3 * t.units) (listed (channel_at t.channels p).number.0 t.octets (channel_at t.channels p).held)
-      → {t₁ : Tally} → ((d : Delivery) → Tallies d t → (mark ≡ true → Exact d p) → Tallies (closes d mark p) t₁) → Finishes mark p t held output units t₁
-  finishes-marked m e o u f = record {
+      → Finishes p t (ends t p) held output units
+  finishes e o u = record {
     more = λ {d = d} room v.
         let w = v.tallies.channels in
         let x : Exact d p = rw (w, v.shows.held) at e in
         let y = shows-unit v.tallies room v.shows (channel_at d.channels p).number.0 (held_of d.channels d.held p) _ x in
         record {
-          tallies = f d v.tallies (λ _. x);
-          shows = record { held = rw m v.shows.held; output = rw (m, o, w, v.shows.held) y.output; units = rw (m, u, w) y.units };
+          tallies = closed_tallies d t p v.tallies x;
+          shows = record { held = v.shows.held; output = rw (o, w, v.shows.held) y.output; units = rw (u, w) y.units };
         };
   }
-
-  pub finishes-plain : mark ≡ false → output.exit.now ≡ output.entry.now → units.exit.now ≡ units.entry.now → Finishes mark p t held output units t
-  finishes-plain m o u = record { more = λ room v. rw (m, o, u) v }

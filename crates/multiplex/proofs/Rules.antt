@@ -30,7 +30,8 @@ use Rattle.channels.specs.Claims.{Orderly, channel_of}
 use Rattle.channels.proofs.Laws.{segmentable-place, place_unique}
 use Rattle.multiplex.specs.Pieces.{placed, last_place, total}
 use Rattle.multiplex.specs.Demultiplexer.{Delivery, DemuxLent, nothing, took_all, closed, delivery, too_small, writes, demultiplex_tests, demultiplexed}
-use Rattle.multiplex.specs.Multiplexer.{MuxLent, Payload, walked, multiplex_tests, multiplexed}
+use Rattle.multiplex.specs.declared.multiplexer.Payload.{Payload}
+use Rattle.multiplex.specs.Multiplexer.{MuxLent, walked, multiplex_tests, multiplexed}
 use Rattle.multiplex.specs.Units.{UnitOn, units_on, units_in}
 use Rattle.multiplex.specs.Claims.{going_to, held_on}
 use Rattle.multiplex.specs.Rules.{finished_octets, SlotIsUnit, MarkEnds, ThreeExactly, DemuxRest, WalkMakes}

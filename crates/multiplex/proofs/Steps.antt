@@ -5,14 +5,14 @@
 --   Walking       at slot j: the pieces before it stand in the lists, and the walk from it on is still to come
 --   begun         at the first slot
 --   ended         where the walk stops behind the last slot
---   closed        .. before one whose channel is not open
+--   closed        not every channel that it reaches is open, where that before it is not
 --   blocked       .. where nothing can be sent
 --   goes          one piece more
 --   last          .. and where that is the last
 --
 -- Assumes nothing.
-use mathlib.Core.Path.{◌≡◌, refl, sym, ap, ◌∙◌}
-use mathlib.Core.Bool.{Bool, true, false}
+use mathlib.Core.Path.{◌≡◌, refl, sym, ap, subst, ◌∙◌}
+use mathlib.Core.Bool.{true, false}
 use mathlib.Core.List.{List, [], ◌∷◌, ◌++◌, append_assoc, append-nil}
 use Prim.Native.Nat.{ℕ, ◌+◌, ◌*◌, ◌≤◌, ◌<◌}
 use native.Mathlib.Numerals.{add-one}
@@ -68,9 +68,9 @@ module _ (n : ℕ) (ns₀ ls₀ : List ℕ) (s₀ : Channels) (ns ls : List ℕ)
   abbrev so_far : List Piece
   so_far = laid (take j ns) (take j ls)
 
-  stops : (b : Bool) → walked s (drop j all) ≡ stopped s b
-      → WalkIs (walked s₀ all) (record { count = j; octets = octets; mark = false; all_open = b; channels = s }) ns ls
-  stops b e =
+  stops : walked s (drop j all) ≡ stopped s true
+      → WalkIs (walked s₀ all) (record { count = j; octets = octets; mark = false; channels = s }) ns ls
+  stops e =
       let whole = w.walk ∙ ap (before so_far) e in
       let pieces = sym (ap (λ (r : Walk). r.pieces) whole ∙ append-nil so_far) in
       record {
@@ -82,11 +82,13 @@ module _ (n : ℕ) (ns₀ ls₀ : List ℕ) (s₀ : Channels) (ns ls : List ℕ)
         channels = sym (ap (λ (r : Walk). r.channels) whole);
       }
 
-  pub ended : n ≤ j → WalkIs (walked s₀ all) (record { count = j; octets = octets; mark = false; all_open = true; channels = s }) ns ls
+  pub ended : n ≤ j → WalkIs (walked s₀ all) (record { count = n; octets = octets; mark = false; channels = s }) ns ls
   unfolding walked
   ended h =
       let m : length (take n ns₀) ≤ j = rw (length-take-le n ns₀ (omega arith)) h in
-      stops true (ap (walked s) (paired-end _ (take n ns₀) (take n ls₀) j m))
+      let e : j ≡ n = omega (arith, w.within) in
+      subst (λ (k : ℕ). WalkIs (walked s₀ all) (record { count = k; octets = octets; mark = false; channels = s }) ns ls) e
+      (stops (ap (walked s) (paired-end _ (take n ns₀) (take n ls₀) j m)))
 
   module _ (h : j < n) (p : ℕ) (e : p ≡ place_of s (get_or ns j 0)) where
     here : Slot
@@ -101,9 +103,10 @@ module _ (n : ℕ) (ns₀ ls₀ : List ℕ) (s₀ : Channels) (ns ls : List ℕ)
         paired_at _ (take n ns₀) (take n ls₀) j a b
         ∙ rw (get_or-take n ns₀ j 0 h, get_or-take n ls₀ j 0 h, w.later_numbers j i, w.later_lengths j i)
 
-    pub closed : place_count ≤ p → WalkIs (walked s₀ all) (record { count = j; octets = octets; mark = false; all_open = false; channels = s }) ns ls
+    pub closed : place_count ≤ p → false ≡ (walked s₀ all).all_open
     unfolding here
-    closed far = stops false (ap (walked s) at ∙ walked-closed s here (drop (j + 1) all) p e far)
+    closed far =
+        sym (ap (λ (r : Walk). r.all_open) (w.walk ∙ ap (before so_far) (ap (walked s) at ∙ walked-closed s here (drop (j + 1) all) p e far)))
 
     module _ (near : p < place_count) where
       turned-at : (t : Turn) → t ≡ turned (channel_at s p) (get_or ls j 0) → walked s (drop j all) ≡ by_turn s p (λ r. walked r (drop (j + 1) all)) t
@@ -111,8 +114,8 @@ module _ (n : ℕ) (ns₀ ls₀ : List ℕ) (s₀ : Channels) (ns ls : List ℕ)
       turned-at t f = ap (walked s) at ∙ walked_open s here (drop (j + 1) all) p e near ∙ ap (by_turn s p (λ r. walked r (drop (j + 1) all))) (sym f)
 
       pub blocked : Stop ≡ turned (channel_at s p) (get_or ls j 0)
-          → WalkIs (walked s₀ all) (record { count = j; octets = octets; mark = false; all_open = true; channels = s }) ns ls
-      blocked f = stops true (turned-at Stop f)
+          → WalkIs (walked s₀ all) (record { count = j; octets = octets; mark = false; channels = s }) ns ls
+      blocked f = stops (turned-at Stop f)
 
       -- the lists with one piece more
       module _ (k : ℕ) where
@@ -142,7 +145,7 @@ module _ (n : ℕ) (ns₀ ls₀ : List ℕ) (s₀ : Channels) (ns ls : List ℕ)
         }
 
         pub last : Last k ≡ turned (channel_at s p) (get_or ls j 0)
-            → WalkIs (walked s₀ all) (record { count = j + 1; octets = octets + k; mark = (channel_at s p).segmentable; all_open = true; channels = left s p k })
+            → WalkIs (walked s₀ all) (record { count = j + 1; octets = octets + k; mark = (channel_at s p).segmentable; channels = left s p k })
             (set ns j p) (set ls j k)
         last f =
             let whole = w.walk ∙ ap (before so_far) (turned-at (Last k) f) in

@@ -3,25 +3,23 @@
 --   at-once-most               no more are finished at once than come
 --   room-held                  what has room on a segmentable channel stays within 1,024
 --   took_ind                   what holds of octets joined, and of a finished unit, holds of octets taken
---   counts t p n               the tally t with one more piece, as the loops count it
---   tallies-next               .. tells of one more piece taken
+--   tallies-next               a tally with one more piece counted tells of one more piece taken
 --   took-channels              the channels with it are those of refusal 8's definition
 --   fits_met, fits_missed, fits-split, fits-end   `fits` by the room of the first piece, and of none
 --   Grows d r n k              the delivery r has what d has finished, and at most n octets and k units more
 --   took_all_grows              .. at most the octets and pieces that came
---   piece-at                   the pieces behind place j: the one there and those behind it
+--   piece-at                   the pieces behind place j: the one there, whose place is one, and those behind it
 --   Way                        what the first j pieces lead to, the octets behind them, and the whole by those
 --   way-none, way_next, way-all   .. at the start, after one more piece, and after all
 --   way-within                 the octets of the piece there are among those left
 --   way-room                   where there is room for the whole, there is for what they lead to
---   get_d_any                   an element of a list, whatever stands for those behind it
 --
 -- Assumes nothing.
 use mathlib.Core.Path.{◌≡◌, refl, sym, ap, ap₂, subst, ◌∙◌}
 use mathlib.Core.List.{List, [], ◌∷◌}
 use mathlib.Core.Bool.{Bool, true, false, cond, not, ◌||◌}
-use Prim.Native.Nat.{ℕ, zero, suc, ◌+◌, ◌*◌, ◌≤◌, ◌<◌}
-use native.Mathlib.Nat.{le_refl, le_trans, not-suc-le-zero, le_of_suc-le-suc}
+use Prim.Native.Nat.{ℕ, ◌+◌, ◌*◌, ◌≤◌, ◌<◌}
+use native.Mathlib.Nat.{le_refl, le_trans}
 use native.Mathlib.Omega.{arith}
 use borrow.Author.Tests.{leb-true}
 use lib.Dec.{leb}
@@ -31,10 +29,10 @@ use Rattle.octets.specs.Tests.{both_true}
 use Rattle.channels.specs.declared.Channel.{Channel}
 use Rattle.channels.specs.declared.Channels.{Channels}
 use Rattle.multiplex.specs.declared.demultiplexer.Tally.{Tally}
-use Rattle.channels.specs.Channels.{vacant, channel_at, put, place_octets}
+use Rattle.channels.specs.Channels.{vacant, channel_at, put, place_count, place_octets}
 use Rattle.multiplex.specs.Pieces.{Piece, piece, laid, total}
 use Rattle.multiplex.specs.Demultiplexer.{Delivery, joined, finished, took, took_all, nothing, counted, room_in, has_room, fits}
-use Rattle.multiplex.specs.Tally.{joins, at_once, Tallies, RoomFor, InPlaces}
+use Rattle.multiplex.specs.Tally.{joins, at_once, begins, counts, Tallies, RoomFor, InPlaces}
 use Rattle.multiplex.specs.Units.{listed}
 use Rattle.multiplex.proofs.Slotting.{paired_at}
 
@@ -59,13 +57,6 @@ took_ind d p x P = by (channel_at d.channels p).segmentable
         → P (cond b (joined d p x) (finished d (channel_at d.channels p).number.0 x))
     by true f g = f refl
     by false f g = g refl
-
-abbrev pub counts : Tally → (p n : ℕ) → Tally
-counts t p n = record {
-  channels = put t.channels p (joins (channel_at t.channels p) n);
-  octets = t.octets + at_once (channel_at t.channels p) n;
-  units = t.units + at_once (channel_at t.channels p) 1;
-}
 
 pub record Grows (d r : Delivery) (n k : ℕ) : Type 0 where
   pub octets_least : length d.octets ≤ length r.octets
@@ -140,9 +131,9 @@ took_all_grows d (q ∷ l) xs h =
 
 -- ---- the way
 
-pub piece-at : {ps ls : List ℕ} {j : ℕ} → InPlaces ps ls → j < length ps
-    → drop j (laid ps ls) ≡ piece (get_or ps j 0) (get_or ls j 0) ∷ drop (j + 1) (laid ps ls)
-piece-at {ps} {ls} {j} w h = paired_at piece ps ls j h (omega (arith, w.same))
+pub piece-at : {ps ls : List ℕ} {j p n : ℕ} → InPlaces ps ls → j < length ps → p ≡ get_or ps j 0 → n ≡ get_or ls j 0
+    → (p < place_count) × (drop j (laid ps ls) ≡ piece p n ∷ drop (j + 1) (laid ps ls))
+piece-at {ps} {ls} {j} w h e f = (rw e (w.within j h), rw (e, f) (paired_at piece ps ls j h (omega (arith, w.same))))
 
 pub record Way (s : Channels) (h : List ℕ) (l : List Piece) (xs : List ℕ) (j : ℕ) (t : Tally) (far : Delivery) (rest : List ℕ) : Type 0 where
   pub tallies : Tallies far t
@@ -150,7 +141,7 @@ pub record Way (s : Channels) (h : List ℕ) (l : List Piece) (xs : List ℕ) (j
   pub enough : total (drop j l) ≤ length rest
 
 pub way-none : (s : Channels) (h : List ℕ) (l : List Piece) (xs : List ℕ) → total l ≤ length xs
-    → Way s h l xs 0 (record { channels = s; octets = 0; units = 0 }) (nothing s h) xs
+    → Way s h l xs 0 (begins s) (nothing s h) xs
 way-none s h l xs k = record { tallies = record { channels = refl; octets = refl; units = refl; even = refl }; onward = refl; enough = k }
 
 module _ {s : Channels} {h : List ℕ} {l : List Piece} {xs : List ℕ} {j : ℕ} {t : Tally} {far : Delivery} {rest : List ℕ}
@@ -179,9 +170,3 @@ module _ {s : Channels} {h : List ℕ} {l : List Piece} {xs : List ℕ} {j : ℕ
   pub way-all : drop j l ≡ [] → far ≡ took_all (nothing s h) l xs
   unfolding took_all
   way-all e = rw e at w.onward
-
--- a place within the list has the same element whatever stands for those behind it
-pub get_d_any : (l : List ℕ) (j a b : ℕ) → j < length l → get_or l j a ≡ get_or l j b
-get_d_any [] j a b h = absurd (not-suc-le-zero h)
-get_d_any (x ∷ l) zero a b h = refl
-get_d_any (x ∷ l) (suc j) a b h = get_d_any l j a b (le_of_suc-le-suc h)

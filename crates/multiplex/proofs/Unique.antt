@@ -4,64 +4,38 @@
 --   demultiplexed-once to demultiplexing, with the octets held, the output and the list of units
 --
 -- Assumes nothing.
-use mathlib.Core.Path.{◌≡◌, refl, ap, ap₂}
+use mathlib.Core.Path.{◌≡◌, ap}
 use mathlib.Core.Bool.{Bool}
 use mathlib.Core.List.{List}
 use Prim.Native.Nat.{ℕ}
-use Rattle.calls.specs.Refusal.{Told, refused, told, ended}
-use Rattle.calls.proofs.Laws.{both-once}
-use Rattle.multiplex.specs.declared.multiplexer.Made.{Made}
-use Rattle.multiplex.specs.declared.multiplexer.Made.TheVariants as made
-use Rattle.multiplex.specs.declared.multiplexer.Multiplexed.{Multiplexed}
-use Rattle.multiplex.specs.declared.demultiplexer.Finished.{Finished}
-use Rattle.multiplex.specs.declared.demultiplexer.Finished.TheVariants as finished
-use Rattle.multiplex.specs.declared.demultiplexer.Delivered.{Delivered}
-use Rattle.multiplex.specs.Multiplexer.{MuxLent, Payload, multiplexed, made_says}
-use Rattle.multiplex.specs.Demultiplexer.{DemuxLent, demultiplexed, finished_says}
+use Rattle.std.specs.Prelude.{Result}
+use Rattle.calls.specs.declared.Refusal.{Refusal}
+use Rattle.calls.specs.Refusal.{ended, says}
+use Rattle.calls.proofs.Laws.{both_say-once}
+use Rattle.channels.specs.declared.Channels.{Channels}
+use Rattle.multiplex.specs.declared.multiplexer.Payload.{Payload}
+use Rattle.multiplex.specs.Multiplexer.{MuxLent, multiplexed}
+use Rattle.multiplex.specs.Demultiplexer.{DemuxLent, demultiplexed}
 
--- ---- the multiplexer
+pub multiplexed-once : (x : MuxLent) (w t : List ℕ) (c room : ℕ) (a b : Result Payload Refusal) (y z : Channels) (d e : List ℕ)
+    → ended (says a) (record { channels = y; payload = d }) ≡ multiplexed x w t c room
+    → ended (says b) (record { channels = z; payload = e }) ≡ multiplexed x w t c room
+    → (a ≡ b) × (y ≡ z) × (d ≡ e)
+multiplexed-once x w t c room a b y z d e p q =
+    let f = both_say-once a b (record { channels = y; payload = d }) (record { channels = z; payload = e }) (multiplexed x w t c room) p q in
+    (f.0, ap (λ (y : MuxLent). y.channels) f.1, ap (λ (y : MuxLent). y.payload) f.1)
 
-made_back : Told Payload → Made
-made_back (told p) = made.Payload p.octets p.mark
-made_back (refused k) = made.Refused k
+abbrev lent : Channels → (held output units : List ℕ) → DemuxLent
+lent s h o u = record { channels = s; held = h; output = o; units = u }
 
-pub multiplexed-once : (x : MuxLent) (w t : List ℕ) (c room : ℕ) (a b : Multiplexed) (d e : List ℕ)
-    → ended (made_says a.made) (record { channels = a.channels; payload = d }) ≡ multiplexed x w t c room
-    → ended (made_says b.made) (record { channels = b.channels; payload = e }) ≡ multiplexed x w t c room
-    → (a ≡ b) × (d ≡ e)
-unfolding made_back
-multiplexed-once x w t c room a b d e p q =
-    let f =
-    both-once made_says made_back back a.made b.made (record { channels = a.channels; payload = d }) (record { channels = b.channels; payload = e })
-    (multiplexed x w t c room) p q in
-    (ap₂ (λ (r : Made) (y : MuxLent). record { made = r; channels = y.channels }) f.0 f.1, ap (λ (y : MuxLent). y.payload) f.1)
-  where
-    back : (r : Made) → made_back (made_says r) ≡ r
-    back (made.Payload n m) = refl
-    back (made.Refused k) = refl
-
--- ---- the demultiplexer
-
-finished_back : Told ℕ → Finished
-finished_back (told n) = finished.Units n
-finished_back (refused k) = finished.Refused k
-
-abbrev lent : Delivered → (held output units : List ℕ) → DemuxLent
-lent r h o u = record { channels = r.channels; held = h; output = o; units = u }
-
-pub demultiplexed-once : (x : DemuxLent) (t : List ℕ) (c : ℕ) (mark : Bool) (xs : List ℕ) (a b : Delivered) (h o u h' o' u' : List ℕ)
-    → ended (finished_says a.finished) (lent a h o u) ≡ demultiplexed x t c mark xs
-    → ended (finished_says b.finished) (lent b h' o' u') ≡ demultiplexed x t c mark xs
-    → (a ≡ b) × (h ≡ h') × (o ≡ o') × (u ≡ u')
-unfolding finished_back
-demultiplexed-once x t c mark xs a b h o u h' o' u' p q =
-    let f = both-once finished_says finished_back back a.finished b.finished (lent a h o u) (lent b h' o' u') (demultiplexed x t c mark xs) p q in (
-      ap₂ (λ (r : Finished) (y : DemuxLent). record { finished = r; channels = y.channels }) f.0 f.1,
+pub demultiplexed-once : (x : DemuxLent) (t : List ℕ) (c : ℕ) (mark : Bool) (xs : List ℕ) (a b : Result ℕ Refusal) (y z : Channels)
+    (h o u h' o' u' : List ℕ) → ended (says a) (lent y h o u) ≡ demultiplexed x t c mark xs → ended (says b) (lent z h' o' u') ≡ demultiplexed x t c mark xs
+    → (a ≡ b) × (y ≡ z) × (h ≡ h') × (o ≡ o') × (u ≡ u')
+demultiplexed-once x t c mark xs a b y z h o u h' o' u' p q =
+    let f = both_say-once a b (lent y h o u) (lent z h' o' u') (demultiplexed x t c mark xs) p q in (
+      f.0,
+      ap (λ (y : DemuxLent). y.channels) f.1,
       ap (λ (y : DemuxLent). y.held) f.1,
       ap (λ (y : DemuxLent). y.output) f.1,
       ap (λ (y : DemuxLent). y.units) f.1,
     )
-  where
-    back : (r : Finished) → finished_back (finished_says r) ≡ r
-    back (finished.Units n) = refl
-    back (finished.Refused k) = refl

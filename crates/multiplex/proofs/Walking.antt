@@ -1,6 +1,5 @@
 -- The multiplexer's walk, a slot at a time.
 --
---   turn-none, turn_more, turn_end, turn-long, turn-full, turn_short   what becomes of a slot, in each case
 --   turn_on, turn_last   no slot takes more than waits, nor than it has
 --   by_turn           the walk from a slot on, by what becomes of it
 --   walked-closed    a walk stops where a channel is not open
@@ -13,9 +12,9 @@
 use mathlib.Core.Path.{◌≡◌, refl, sym, subst}
 use mathlib.Core.Bool.{Bool, true, false, cond}
 use mathlib.Core.List.{List, [], ◌∷◌}
-use Prim.Native.Nat.{ℕ, ◌+◌, ◌≤◌, ◌<◌, min}
+use Prim.Native.Nat.{ℕ, ◌+◌, ◌≤◌, ◌<◌}
 use native.Mathlib.Omega.{arith}
-use borrow.Author.Tests.{lt-ltb, le-ltb, eq-eqb, ne_eqb, ltb-true, ltb-false}
+use borrow.Author.Tests.{lt-ltb, le-ltb, ltb-true, ltb-false}
 use Rattle.table.specs.Slots.{Slot, octets_of}
 use Rattle.channels.specs.declared.Channel.{Channel}
 use Rattle.channels.specs.declared.Channels.{Channels}
@@ -25,43 +24,6 @@ use Rattle.channels.specs.Channels.{place_of, is_in, channel_at, waits, place_co
 use Rattle.multiplex.specs.Pieces.{total}
 use Rattle.multiplex.specs.Multiplexer.{is_blocked, goes_on, moved, left, Walk, stopped, sending, ending, visit, walked}
 use Rattle.multiplex.specs.Walks.{turned, Sendable}
-
--- ---- what becomes of a slot
-
-module _ (c : Channel) (n w : ℕ) (e : w ≡ waits c) where
-  pub turn-none : w ≡ 0 → Stop ≡ turned c n
-  unfolding turned
-  turn-none z = rw (← e, z)
-
-  module _ (some : w ≡ 0 → ⊥) where
-    module _ (is : c.segmentable ≡ true) where
-      pub turn_more : n < w → On n ≡ turned c n
-      unfolding turned
-      turn_more h = let m : min w n ≡ n = omega arith in rw (← e, ne_eqb _ _ some, is, lt-ltb _ _ h, m)
-
-      pub turn_end : w ≤ n → Last w ≡ turned c n
-      unfolding turned
-      turn_end h = let m : min w n ≡ w = omega arith in rw (← e, ne_eqb _ _ some, is, le-ltb _ _ h, m)
-
-    module _ (is : c.segmentable ≡ false) where
-      pub turn-long : n < w → Stop ≡ turned c n
-      unfolding turned
-      turn-long h = rw (← e, ne_eqb _ _ some, is, lt-ltb _ _ h)
-
-      pub turn-full : w ≡ n → On w ≡ turned c n
-      unfolding turned
-      turn-full f =
-          let h : w ≤ n = omega arith in
-          let m : min w n ≡ w = omega arith in
-          rw (← e, ne_eqb _ _ some, is, le-ltb _ _ h, eq-eqb _ _ f, m)
-
-      pub turn_short : w < n → Last w ≡ turned c n
-      unfolding turned
-      turn_short f =
-          let h : w ≤ n = omega arith in
-          let z : w ≡ n → ⊥ = λ z. omega arith in
-          let m : min w n ≡ w = omega arith in
-          rw (← e, ne_eqb _ _ some, is, le-ltb _ _ h, ne_eqb _ _ z, m)
 
 -- what a slot takes, where it takes something
 abbrev taken : Turn → ℕ

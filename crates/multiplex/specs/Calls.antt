@@ -29,7 +29,8 @@ use Rattle.channels.specs.Channels.{all_octets, start, open_tests, close_tests, 
 use Rattle.channels.specs.Layers as layers
 use Rattle.channels.specs.Claims.{Bounded}
 use Rattle.multiplex.specs.Demultiplexer.{DemuxLent, demultiplex_tests, demultiplexed}
-use Rattle.multiplex.specs.Multiplexer.{MuxLent, Payload, multiplex_tests, multiplexed}
+use Rattle.multiplex.specs.declared.multiplexer.Payload.{Payload}
+use Rattle.multiplex.specs.Multiplexer.{MuxLent, multiplex_tests, multiplexed}
 
 pub record Link : Type 0 where
   pub channels : Channels

@@ -20,7 +20,7 @@
 --   ClosingNeverSix    .. and none is where the entry ends until closing
 --
 -- Assumes nothing.
-use Rattle.std.specs.Prelude.{◌≡◌, ◌↔◌, Bool, true, cond, ℕ, ◌+◌, ◌*◌, ◌≤◌, ◌<◌, eqb, length, get_or, take, drop}
+use Rattle.std.specs.Prelude.{◌≡◌, ◌↔◌, Bool, true, cond, ℕ, ◌+◌, ◌*◌, ◌≤◌, ◌<◌, eqb, length, get_or, take, drop, Some}
 use mathlib.Core.List.{List, [], ◌∷◌, ◌++◌, flatten}
 use Rattle.calls.specs.Refusal.{leaving, refusing, Refuses}
 use Rattle.table.specs.Entry.{Elements, is_entry_tree, numbers, is_finite, is_closing, octets_in}
@@ -30,9 +30,9 @@ use Rattle.channels.specs.Channels.{place_count, all_octets, place_of, held_of, 
 use Rattle.channels.specs.Parts.{part_at}
 use Rattle.channels.specs.Claims.{Orderly}
 use Rattle.multiplex.specs.declared.units.Unit.{Unit}
-use Rattle.multiplex.specs.declared.units.Listed.TheVariants.{At}
 use Rattle.multiplex.specs.Demultiplexer.{DemuxLent, demultiplexed}
-use Rattle.multiplex.specs.Multiplexer.{MuxLent, Payload, multiplexed}
+use Rattle.multiplex.specs.declared.multiplexer.Payload.{Payload}
+use Rattle.multiplex.specs.Multiplexer.{MuxLent, multiplexed}
 use Rattle.multiplex.specs.Units.{UnitOn, units_on, unit_at, unit_in, units_in}
 use Rattle.multiplex.specs.Calls.{Link, Call, called, tests_of}
 
@@ -46,7 +46,7 @@ ListRead =
 abbrev pub LiesThere : Type 0
 LiesThere =
     (x y : DemuxLent) (t : List ℕ) (c : ℕ) (mark : Bool) (xs : List ℕ) (k j : ℕ) (u : Unit) (d : UnitOn) → demultiplexed x t c mark xs ≡ leaving k y
-    → j < k → unit_at y.units j ≡ At u → part_at y.output u.start u.length ≡ (get_or (units_in y.output y.units k) j d).octets
+    → j < k → unit_at y.units j ≡ Some u → part_at y.output u.start u.length ≡ (get_or (units_in y.output y.units k) j d).octets
 
 -- ---- one payload
 

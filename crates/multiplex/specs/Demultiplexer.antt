@@ -22,22 +22,19 @@
 --   demultiplex_tests   .. all of these, in this order
 --   delivered, sorted  how the call ends, where only the last of these, and the last two, are looked at
 --   demultiplexed      how the call ends: with the number of finished units, or a refusal
---   finished_says       what an answer says
 --   lent               what the demultiplexer is lent to write to
 --   hands_back          .. and how the call ends with it
 --
 -- Assumes nothing.
-use Rattle.std.specs.Prelude.{Bool, true, cond, not, ◌&&◌, ◌||◌, List, [], ◌∷◌, ◌++◌, ℕ, ◌+◌, ◌*◌, leb, ltb, length, take, drop}
+use Rattle.std.specs.Prelude.{Bool, true, cond, not, ◌&&◌, ◌||◌, List, [], ◌∷◌, ◌++◌, ℕ, ◌+◌, ◌*◌, leb, ltb, length, take, drop, Result}
 use Rattle.octets.specs.Written.{written}
-use Rattle.calls.specs.Refusal.{Told, refused, told, Ended, ended, leaving, refusing, Test, ◌when◌, checked}
+use Rattle.calls.specs.Refusal.{says, Ended, ended, leaving, refusing, Test, ◌when◌, checked}
 use Rattle.calls.specs.Slices.{Slice}
 use Rattle.table.specs.Slots.{Slot, payload_slots, octets_of, numbers_of}
 use Rattle.table.specs.Table.{longest_payload, entry_of, is_defined}
 use Rattle.channels.specs.declared.Channel.{Channel}
 use Rattle.channels.specs.declared.Channels.{Channels}
-use Rattle.multiplex.specs.declared.demultiplexer.Delivered.{Delivered}
-use Rattle.multiplex.specs.declared.demultiplexer.Finished.{Finished}
-use Rattle.multiplex.specs.declared.demultiplexer.Finished.TheVariants.{Units, Refused}
+use Rattle.calls.specs.declared.Refusal.{Refusal}
 use Rattle.channels.specs.Channels.{place_octets, all_open, channel_at, put, holding, held_of}
 use Rattle.multiplex.specs.Pieces.{Piece, placed, last_place}
 use Rattle.multiplex.specs.Units.{listed}
@@ -163,15 +160,11 @@ demultiplexed x t c mark xs =
     let d = delivery x.channels x.held mark (placed x.channels (payload_slots (entry_of t c) (length xs))) xs in
     checked (refusing x) (demultiplex_tests x t c mark xs) (leaving d.count (writes d x.output x.units))
 
-abbrev pub finished_says : Finished → Told ℕ
-finished_says (Units n) = told n
-finished_says (Refused k) = refused k
-
 -- ---- a call's slices
 
 abbrev pub lent : Channels → (held output units : Slice) → DemuxLent
 lent s held output units = record { channels = s; held = held.entry.now; output = output.entry.now; units = units.entry.now }
 
-abbrev pub hands_back : Delivered → (held output units : Slice) → Ended ℕ DemuxLent
-hands_back r held output units =
-    ended (finished_says r.finished) (record { channels = r.channels; held = held.exit.now; output = output.exit.now; units = units.exit.now })
+abbrev pub hands_back : Result ℕ Refusal → Channels → (held output units : Slice) → Ended ℕ DemuxLent
+hands_back r s held output units =
+    ended (says r) (record { channels = s; held = held.exit.now; output = output.exit.now; units = units.exit.now })

@@ -15,27 +15,25 @@
 --   walked s l        the walk over the slots l
 --   gathered s w l    the octets of the pieces l, from those that wait
 --   MuxLent              what is lent to write to: the channels and the payload
---   Payload           what is answered: how many octets the payload has, and its closing mark
+--   Payload           what is answered: how many octets the payload has, and its closing mark (the code's own)
 --   walk_tests r       what refuses, by the walk r
 --   multiplex_tests    .. and all that refuses, in this order
 --   packed            how the call ends, where only the walk is looked at
 --   multiplexed       how the call ends
---   made_says          what an answer says
 --   makes             what the multiplexer is lent to write to
 --   leaves_made        .. and how the call ends with it
 --
 -- Assumes nothing.
-use Rattle.std.specs.Prelude.{Bool, true, false, cond, not, ◌&&◌, ◌||◌, List, [], ◌∷◌, ◌++◌, ℕ, ◌-◌, min, ltb, eqb, length, take}
+use Rattle.std.specs.Prelude.{Bool, true, false, cond, not, ◌&&◌, ◌||◌, List, [], ◌∷◌, ◌++◌, ℕ, ◌-◌, min, ltb, eqb, length, take, Result}
 use Rattle.octets.specs.Written.{written}
-use Rattle.calls.specs.Refusal.{Told, refused, told, Ended, ended, leaving, refusing, Test, ◌when◌, checked}
+use Rattle.calls.specs.Refusal.{says, Ended, ended, leaving, refusing, Test, ◌when◌, checked}
 use Rattle.calls.specs.Slices.{Slice}
 use Rattle.table.specs.Slots.{Slot, payload_slots}
 use Rattle.table.specs.Table.{longest_payload, entry_of, is_defined}
 use Rattle.channels.specs.declared.Channel.{Channel}
 use Rattle.channels.specs.declared.Channels.{Channels}
-use Rattle.multiplex.specs.declared.multiplexer.Made.{Made}
-use Rattle.multiplex.specs.declared.multiplexer.Multiplexed.{Multiplexed}
-use Rattle.multiplex.specs.declared.multiplexer.Made.TheVariants as made
+use Rattle.calls.specs.declared.Refusal.{Refusal}
+use Rattle.multiplex.specs.declared.multiplexer.Payload.{Payload}
 use Rattle.channels.specs.Channels.{channel_at, put, place_of, is_in, waits, waiting, waiting_of}
 use Rattle.multiplex.specs.Pieces.{Piece, piece, total}
 
@@ -90,10 +88,6 @@ pub record MuxLent : Type 0 where
   pub channels : Channels
   pub payload : List ℕ
 
-pub record Payload : Type 0 where
-  pub octets : ℕ
-  pub mark : Bool
-
 abbrev pub walk_tests : Walk → List Test
 walk_tests r = 5 when not r.all_open ∷ 9 when eqb (total r.pieces) 0 ∷ []
 
@@ -117,14 +111,10 @@ multiplexed x w t c room =
     (leaving (record { octets = total r.pieces; mark = r.mark })
     (record { channels = r.channels; payload = written x.payload 0 (gathered x.channels w r.pieces) }))
 
-abbrev pub made_says : Made → Told Payload
-made_says (made.Payload n mark) = told (record { octets = n; mark = mark })
-made_says (made.Refused k) = refused k
-
 -- ---- a call's slices
 
 abbrev pub makes : Channels → (payload : Slice) → MuxLent
 makes s payload = record { channels = s; payload = payload.entry.now }
 
-abbrev pub leaves_made : Multiplexed → (payload : Slice) → Ended Payload MuxLent
-leaves_made r payload = ended (made_says r.made) (record { channels = r.channels; payload = payload.exit.now })
+abbrev pub leaves_made : Result Payload Refusal → Channels → (payload : Slice) → Ended Payload MuxLent
+leaves_made r s payload = ended (says r) (record { channels = s; payload = payload.exit.now })

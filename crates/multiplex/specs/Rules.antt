@@ -34,7 +34,8 @@ use Rattle.channels.specs.Channels.{is_in, place_of, all_open, waits}
 use Rattle.channels.specs.Claims.{Orderly, channel_of}
 use Rattle.multiplex.specs.Pieces.{Piece, piece, placed, last_place, total}
 use Rattle.multiplex.specs.Demultiplexer.{DemuxLent, fits, demultiplexed}
-use Rattle.multiplex.specs.Multiplexer.{MuxLent, Payload, Walk, left, stopped, sending, ending, walked, multiplexed}
+use Rattle.multiplex.specs.declared.multiplexer.Payload.{Payload}
+use Rattle.multiplex.specs.Multiplexer.{MuxLent, Walk, left, stopped, sending, ending, walked, multiplexed}
 use Rattle.multiplex.specs.Units.{UnitOn, units_on, units_in, enough_output, enough_units}
 use Rattle.multiplex.specs.Claims.{going_to, held_on}
 

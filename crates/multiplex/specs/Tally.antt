@@ -4,6 +4,10 @@
 --   joins c n          the channel c after n octets came to it
 --   at_once c k         of k that come to c, how many are finished at once
 --   closes d mark p    the delivery d with what place p holds ended as a unit, where the mark is set
+--   begins s           the tally where no piece has come yet
+--   counts t p n       the tally t with n octets more for place p
+--   ends t p           .. with what place p holds ended as a unit
+--   marked s m ps      the place whose unit the closing mark m ends, the last of the places ps; or refusal 7
 --   Tallies d t        the tally t tells how far the delivery d has led
 --   Shows o u d ..     what is held, the output and the list of units show the delivery d, written over o and u
 --   Poured             .. and a tally tells it
@@ -11,6 +15,7 @@
 --   InPlaces ps ls     pieces of these places and lengths can be looked up
 --   Deliverable        .. and their octets are there, and so is what is held
 --   DryRun s l r       what the dry run finds out of the pieces l
+--   Countable, Notable   what a piece needs to be counted, and a unit to be written behind the others
 --   Puts, Takes        what the octets of one piece need to be written, and what they make of a delivery that is shown
 --   Pours, PouredBy    .. and those of all pieces, from the start
 --   Exact d p          place p holds as many octets as its channel says
@@ -18,15 +23,16 @@
 --   Closable, Finishes   what the closing mark needs, where the unit is written, and what it makes of a delivery that is shown
 --
 -- Assumes nothing.
-use Rattle.std.specs.Prelude.{◌≡◌, Bool, true, cond, List, ℕ, ◌+◌, ◌*◌, ◌≤◌, ◌<◌, length, get_or}
+use Rattle.std.specs.Prelude.{◌≡◌, Bool, true, false, cond, ◌&&◌, List, ℕ, ◌+◌, ◌-◌, ◌*◌, ◌^◌, ◌≤◌, ◌<◌, ltb, length, get_or, Option, Some, None, Result, Ok, Err}
 use Rattle.octets.specs.Written.{written}
 use Rattle.calls.specs.Slices.{Slice, SharedSlice}
+use Rattle.calls.specs.declared.Refusal.{Refusal}
+use Rattle.calls.specs.declared.Refusal.TheVariants.{BadMark}
 use Rattle.table.specs.Slots.{Slot, payload_slots}
 use Rattle.table.specs.Table.{longest_payload, entry_of}
 use Rattle.channels.specs.declared.Channel.{Channel}
 use Rattle.channels.specs.declared.Channels.{Channels}
-use Rattle.channels.specs.Channels.{place_count, place_octets, all_octets, channel_at, holding, held_of}
-use Rattle.multiplex.specs.declared.demultiplexer.Counted.{Counted}
+use Rattle.channels.specs.Channels.{place_count, place_octets, all_octets, channel_at, put, holding, held_of}
 use Rattle.multiplex.specs.declared.demultiplexer.Tally.{Tally}
 use Rattle.multiplex.specs.Pieces.{Piece, laid, total}
 use Rattle.multiplex.specs.Demultiplexer.{Delivery, took, took_all, closed, nothing, room_in, fits}
@@ -46,6 +52,29 @@ at_once c k = cond c.segmentable 0 k
 
 abbrev pub closes : Delivery → (mark : Bool) → (p : ℕ) → Delivery
 closes d mark p = cond mark (closed d p) d
+
+abbrev pub begins : Channels → Tally
+begins s = record { channels = s; octets = 0; units = 0 }
+
+abbrev pub counts : Tally → (p n : ℕ) → Tally
+counts t p n = record {
+  channels = put t.channels p (joins (channel_at t.channels p) n);
+  octets = t.octets + at_once (channel_at t.channels p) n;
+  units = t.units + at_once (channel_at t.channels p) 1;
+}
+
+abbrev pub ends : Tally → (p : ℕ) → Tally
+ends t p = record {
+  channels = put t.channels p (holding (channel_at t.channels p) 0);
+  octets = t.octets + (channel_at t.channels p).held;
+  units = t.units + 1;
+}
+
+-- refusal 7: the mark is set, and the last octet is absent or not on a segmentable channel
+abbrev pub marked : Channels → (mark : Bool) → (places : List ℕ) → Result (Option ℕ) Refusal
+marked s mark ps =
+    let p = get_or ps (length ps - 1) place_count in
+    cond mark (cond (ltb p place_count && (channel_at s p).segmentable) (Ok (Some p)) (Err BadMark)) (Ok None)
 
 pub record Tallies (d : Delivery) (t : Tally) : Type 0 where
   pub channels : t.channels ≡ d.channels
@@ -81,9 +110,22 @@ pub record Deliverable (ps ls xs h : List ℕ) : Type 0 where
   pub whole : length h ≡ all_octets
 
 -- the dry run is given neither the payload nor what is held: it tells of all
-pub record DryRun (s : Channels) (l : List Piece) (r : Counted) : Type 0 where
-  pub fit : r.fits ≡ fits s l
-  pub tallies : r.fits ≡ true → (h xs : List ℕ) → total l ≤ length xs → Tallies (took_all (nothing s h) l xs) r.tally
+abbrev pub DryRun : Channels → List Piece → Option Tally → Type 0
+DryRun s l (Some t) = (true ≡ fits s l) × ((h xs : List ℕ) → total l ≤ length xs → Tallies (took_all (nothing s h) l xs) t)
+DryRun s l None = false ≡ fits s l
+
+pub record Countable (t : Tally) (p n : ℕ) : Type 0 where
+  pub near : p < place_count
+  pub room : room_in (channel_at t.channels p) n ≡ true
+  pub octets : t.octets < 2 ^ 32
+  pub units : t.units < 2 ^ 32
+
+pub record Notable (t : Tally) (x o u : List ℕ) : Type 0 where
+  pub short : length x < 65536
+  pub octets : t.octets < 65536
+  pub units : t.units < 65536
+  pub output : t.octets + length x ≤ length o
+  pub list : 3 * (t.units + 1) ≤ length u
 
 pub record Puts (c : Channel) (p octets count : ℕ) (h o u x : List ℕ) : Type 0 where
   pub near : p < place_count
@@ -129,6 +171,6 @@ pub record Closable (t : Tally) (p : ℕ) (h o u : List ℕ) : Type 0 where
   pub output : t.octets + (channel_at t.channels p).held ≤ length o
   pub units : 3 * (t.units + 1) ≤ length u
 
-pub record Finishes (mark : Bool) (p : ℕ) (t : Tally) (held : SharedSlice) (output units : Slice) (t₁ : Tally) : Type 0 where
+pub record Finishes (p : ℕ) (t t₁ : Tally) (held : SharedSlice) (output units : Slice) : Type 0 where
   pub more : {o u : List ℕ} {d : Delivery} → RoomFor o u d → Poured o u d t held.entry.now output.entry.now units.entry.now
-      → Poured o u (closes d mark p) t₁ held.entry.now output.exit.now units.exit.now
+      → Poured o u (closed d p) t₁ held.entry.now output.exit.now units.exit.now

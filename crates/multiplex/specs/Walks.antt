@@ -5,9 +5,10 @@
 --   Sendable s l      the pieces l can be sent, one after another: each has a place, and no more octets than wait there
 --   Gatherable        pieces of these places and lengths can be gathered into so much room
 --   WalkIs w r ps ls  r gives the walk w, whose pieces stand in the places ps and lengths ls
+--   Walks w o ps ls   .. where every channel that it reaches is open; else there is nothing
 --
 -- Assumes nothing.
-use Rattle.std.specs.Prelude.{◌≡◌, cond, List, [], ◌∷◌, ℕ, ◌≤◌, ◌<◌, length, take}
+use Rattle.std.specs.Prelude.{◌≡◌, true, false, cond, List, [], ◌∷◌, ℕ, ◌≤◌, ◌<◌, length, take, Option, Some, None}
 use Rattle.table.specs.Table.{longest_payload}
 use Rattle.table.specs.Slots.{Slot}
 use Rattle.channels.specs.declared.Channel.{Channel}
@@ -34,9 +35,12 @@ pub record WalkIs (w : Walk) (r : Walked) (ps ls : List ℕ) : Type 0 where
   pub pieces : laid (take r.count ps) (take r.count ls) ≡ w.pieces
   pub octets : r.octets ≡ total w.pieces
   pub mark : r.mark ≡ w.mark
-  pub all_open : r.all_open ≡ w.all_open
+  pub all_open : true ≡ w.all_open
   pub channels : r.channels ≡ w.channels
 
-abbrev pub Gatherable : Channels → (n : ℕ) → (waiting places lengths payload : List ℕ) → Type 0
-Gatherable s n w ps ls xs =
-    (length w ≡ all_octets) × (n ≤ length ps) × (n ≤ length ls) × Sendable s (laid (take n ps) (take n ls)) × (total (laid (take n ps) (take n ls)) ≤ length xs)
+abbrev pub Walks : Walk → Option Walked → (ps ls : List ℕ) → Type 0
+Walks w (Some r) ps ls = WalkIs w r ps ls
+Walks w None ps ls = false ≡ w.all_open
+
+abbrev pub Gatherable : Channels → (waiting places lengths payload : List ℕ) → Type 0
+Gatherable s w ps ls xs = (length w ≡ all_octets) × (length ps ≡ length ls) × Sendable s (laid ps ls) × (total (laid ps ls) ≤ length xs)

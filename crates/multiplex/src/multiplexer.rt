@@ -1,4 +1,4 @@
-// The multiplexer: the walk first, by value; then the writes.
+// The multiplexer: the walk first, by value; then the writes. The slots stand in two lists, as in demultiplexer.rt.
 ghost use Rattle.std.specs.Prelude.{◌≡◌, ◌-◌, ◌≤◌, length, take};
 ghost use Rattle.octets.specs.Written.{written};
 ghost use Rattle.channels.specs.Channels as the;
@@ -6,60 +6,50 @@ ghost use Rattle.multiplex.specs.Pieces.{laid};
 ghost use Rattle.table.specs.Slots.{payload_slots};
 ghost use Rattle.table.specs.Table.{highest_code, longest_payload, entry_of};
 ghost use Rattle.multiplex.specs.Multiplexer.{walked, gathered, packed, multiplexed, makes, leaves_made};
-ghost use Rattle.multiplex.specs.Walks.{turned, slotted, WalkIs, Gatherable};
+ghost use Rattle.multiplex.specs.Walks.{turned, slotted, Walks, Gatherable};
 
-use channels::places::{numbers_of, seek};
-use channels::{ALL_OCTETS, Channel, Channels, PLACE_OCTETS, PLACES};
+use calls::Refusal;
+use channels::places::seek;
+use channels::{ALL_OCTETS, Channel, Channels, PLACE_OCTETS};
 use table::{Code, LONGEST_PAYLOAD, TABLE_NUMBERS};
 
-// A payload's octets and closing mark, or document 01's refusal number.
-#[derive(Clone, Copy)]
-pub enum Made {
-    Payload { octets: usize, mark: bool },
-    Refused(u8),
-}
-
-// What a call for a payload is answered with, and the channels as the call leaves them.
-#[derive(Clone, Copy)]
-pub struct Multiplexed {
-    pub made: Made,
-    pub channels: Channels,
+// How many octets a payload has, and its closing mark.
+#[derive(Clone, Copy, Debug, PartialEq, Eq)]
+pub struct Payload {
+    pub octets: usize,
+    pub mark: bool,
 }
 
 // What becomes of a slot: the walk stops before it; or it takes so many octets, and the walk goes on after it or ends there.
-#[derive(Clone, Copy)]
+#[derive(Clone, Copy, Debug, PartialEq, Eq)]
 enum Turn {
     Stop,
     On(usize),
     Last(usize),
 }
 
-// What a walk gives: how many pieces are sent, and their octets; the closing mark; whether every channel reached is open.
+// What a walk gives: how many pieces are sent, their octets, the closing mark, and the channels after it.
 #[derive(Clone, Copy)]
 struct Walked {
     count: usize,
     octets: usize,
     mark: bool,
-    all_open: bool,
     channels: Channels,
 }
 
 // How many octets wait at a channel.
-fn waits(c: Channel) -> usize
-    ensures { result ≡ the.waits c }
+fn waits(c: &Channel) -> usize
+    ensures { result ≡ the.waits c.now }
 {
-    let n = c.waiting as usize;
-    if PLACE_OCTETS < n {
-        return PLACE_OCTETS;
-    }
-    n
+    usize::from(c.waiting).min(PLACE_OCTETS)
 }
 
 // What becomes of a slot of a channel, by how many octets it has.
-fn turn_of(c: Channel, slot: u16) -> Turn
-    ensures { result ≡ turned c slot }
+#[tactic(auto, unfolding(crate::specs::Walks::turned))]
+fn turn_of(c: &Channel, slot: u16) -> Turn
+    ensures { result ≡ turned c.now slot }
 {
-    let n = slot as usize;
+    let n = usize::from(slot);
     let w = waits(c);
     if w == 0 {
         return Turn::Stop;
@@ -79,153 +69,127 @@ fn turn_of(c: Channel, slot: u16) -> Turn
     Turn::Stop
 }
 
-// The channel after k of its waiting octets were sent.
-fn leave(c: Channel, k: usize) -> Channel
-    requires { k ≤ the.waits c }
-    ensures { result ≡ the.waiting c (the.waits c - k) }
+// Sends k of a channel's waiting octets.
+fn leave(c: &mut Channel, k: usize)
+    requires { k ≤ the.waits c.old }
+    ensures { c.new ≡ the.waiting c.old (the.waits c.old - k) }
 {
-    let mut next = c;
-    next.waiting = (waits(c) - k) as u16;
-    next
+    c.waiting = (waits(c) - k) as u16;
 }
 
-fn ended(count: usize, octets: usize, mark: bool, all_open: bool, channels: Channels) -> Walked
-    ensures { result ≡ record { count = count; octets = octets; mark = mark; all_open = all_open; channels = channels } }
-{
-    Walked {
-        count,
-        octets,
-        mark,
-        all_open,
-        channels,
-    }
-}
-
-// Walks over the first n slots, and puts the places and octets of the pieces that are sent instead of them.
-fn walk(s: Channels, n: usize, numbers: &mut [u16], lengths: &mut [u16]) -> Walked
+// Walks over the first n slots, and puts the places and octets of the pieces that are sent instead of them; nothing, where a channel
+// that it reaches is not open.
+fn walk(s: &Channels, n: usize, numbers: &mut [u16], lengths: &mut [u16]) -> Option<Walked>
     requires { (n ≤ longest_payload) × (n ≤ length numbers.old) × (n ≤ length lengths.old) }
-    ensures { WalkIs (walked s (slotted (take n numbers.old) (take n lengths.old))) result numbers.new lengths.new }
+    ensures { Walks (walked s.now (slotted (take n numbers.old) (take n lengths.old))) result numbers.new lengths.new }
 {
-    let seats = numbers_of(s);
-    let mut cur = s;
+    let seats = s.numbers();
+    let mut channels = *s;
     let mut octets = 0;
-    let mut j = 0;
-    while j < n {
-        let number = numbers[j];
-        let p = seek(&seats, number as u32);
-        if PLACES <= p {
-            return ended(j, octets, false, false, cur);
-        }
-        let c = cur.at[p];
-        let slot = lengths[j];
-        match turn_of(c, slot) {
+    for j in 0..n {
+        let p = seek(&seats, u32::from(numbers[j]))?;
+        let segmentable = channels.at[p].segmentable;
+        match turn_of(&channels.at[p], lengths[j]) {
             Turn::Stop => {
-                return ended(j, octets, false, true, cur);
+                return Some(Walked {
+                    count: j,
+                    octets,
+                    mark: false,
+                    channels,
+                });
             }
             Turn::On(k) => {
-                cur.at[p] = leave(c, k);
+                leave(&mut channels.at[p], k);
                 numbers[j] = p as u16;
                 lengths[j] = k as u16;
                 octets += k;
-                j += 1;
             }
             Turn::Last(k) => {
-                cur.at[p] = leave(c, k);
+                leave(&mut channels.at[p], k);
                 numbers[j] = p as u16;
                 lengths[j] = k as u16;
-                return ended(j + 1, octets + k, c.segmentable, true, cur);
+                return Some(Walked {
+                    count: j + 1,
+                    octets: octets + k,
+                    mark: segmentable,
+                    channels,
+                });
             }
         }
     }
-    ended(j, octets, false, true, cur)
+    Some(Walked {
+        count: n,
+        octets,
+        mark: false,
+        channels,
+    })
 }
 
-// Writes the octets of the first n pieces, from those that wait, to the front of payload.
-fn gather(
-    s: Channels,
-    waiting: &[u8],
-    n: usize,
-    places: &[u16],
-    lengths: &[u16],
-    payload: &mut [u8],
-)
-    requires { Gatherable s n waiting.now places.now lengths.now payload.old }
-    ensures { payload.new ≡ written payload.old 0
-        (gathered s waiting.now (laid (take n places.now) (take n lengths.now))) }
+// Writes the octets of the pieces, from those that wait, to the front of payload.
+fn gather(s: &Channels, waiting: &[u8], places: &[u16], lengths: &[u16], payload: &mut [u8])
+    requires { Gatherable s.now waiting.now places.now lengths.now payload.old }
+    ensures { payload.new ≡ written payload.old 0 (gathered s.now waiting.now (laid places.now lengths.now)) }
 {
-    let mut cur = s;
+    let mut channels = *s;
     let mut at = 0;
-    let mut j = 0;
-    while j < n {
-        let p = places[j] as usize;
-        let k = lengths[j] as usize;
-        let c = cur.at[p];
-        let from = PLACE_OCTETS * p + (PLACE_OCTETS - waits(c));
+    for (place, octets) in places.iter().zip(lengths) {
+        let p = usize::from(*place);
+        let k = usize::from(*octets);
+        let from = PLACE_OCTETS * p + (PLACE_OCTETS - waits(&channels.at[p]));
         octets::write(payload, at, &waiting[from..from + k]);
-        cur.at[p] = leave(c, k);
+        leave(&mut channels.at[p], k);
         at += k;
-        j += 1;
     }
-}
-
-fn refused(s: Channels, k: u8) -> Multiplexed
-    ensures { result ≡ record { made = Made.Refused k; channels = s } }
-{
-    let made = Made::Refused(k);
-    Multiplexed { made, channels: s }
 }
 
 // Walks the slots of a payload of `room` octets, and writes what it sends: refusals 5, 9.
 fn pack(
-    s: Channels,
+    s: &mut Channels,
     waiting: &[u8; ALL_OCTETS],
     table: &[u16; TABLE_NUMBERS],
     code: Code,
     room: usize,
     payload: &mut [u8],
-) -> Multiplexed
+) -> Result<Payload, Refusal>
     requires { (room ≤ longest_payload) × (code.0 ≤ highest_code) × (room ≤ length payload.old) }
-    ensures { leaves_made result payload ≡ packed (makes s payload) waiting.now (walked s (payload_slots (entry_of table.now code.0) room)) }
+    ensures { leaves_made result s.new payload
+        ≡ packed (makes s.old payload) waiting.now (walked s.old (payload_slots (entry_of table.now code.0) room)) }
 {
     let mut places = [0u16; LONGEST_PAYLOAD];
     let mut lengths = [0u16; LONGEST_PAYLOAD];
     let laid = table::payload_slots(table, code, room, &mut places, &mut lengths);
-    let w = walk(s, laid.count, &mut places, &mut lengths);
-    if w.all_open {
-        let octets = w.octets;
-        if octets == 0 {
-            return refused(s, 9);
-        }
-        gather(s, waiting, w.count, &places, &lengths, payload);
-        let made = Made::Payload {
-            octets,
-            mark: w.mark,
-        };
-        let channels = w.channels;
-        return Multiplexed { made, channels };
+    let w = walk(s, laid.count, &mut places, &mut lengths).ok_or(Refusal::NotOpen)?;
+    if w.octets == 0 {
+        return Err(Refusal::NothingWaits);
     }
-    refused(s, 5)
+    gather(s, waiting, &places[..w.count], &lengths[..w.count], payload);
+    *s = w.channels;
+    Ok(Payload {
+        octets: w.octets,
+        mark: w.mark,
+    })
 }
 
 // Lays out what waits as a payload of at most `room` octets at the front of payload: refusals 2, 4, 3, 5, 9.
+#[tactic(auto, unfolding(crate::specs::Multiplexer::multiplexed, crate::specs::Multiplexer::packed, table::specs::Table::is_defined))]
 pub fn multiplex(
-    s: Channels,
+    s: &mut Channels,
     waiting: &[u8; ALL_OCTETS],
     table: &[u16; TABLE_NUMBERS],
     code: Code,
     room: usize,
     payload: &mut [u8],
-) -> Multiplexed
-    ensures { leaves_made result payload ≡ multiplexed (makes s payload) waiting.now table.now code.0 room }
+) -> Result<Payload, Refusal>
+    ensures { leaves_made result s.new payload ≡ multiplexed (makes s.old payload) waiting.now table.now code.0 room }
 {
     if LONGEST_PAYLOAD < room {
-        return refused(s, 2);
+        return Err(Refusal::BadLength);
     }
-    if table::is_defined(table, code) {
-        if payload.len() < room {
-            return refused(s, 3);
-        }
-        return pack(s, waiting, table, code, room, payload);
+    if !table::is_defined(table, code) {
+        return Err(Refusal::NoEntry);
     }
-    refused(s, 4)
+    if payload.len() < room {
+        return Err(Refusal::NoRoom);
+    }
+    pack(s, waiting, table, code, room, payload)
 }

@@ -1,4 +1,5 @@
-// The list that the demultiplexer writes of its finished units: three numbers to a unit.
+// The list that the demultiplexer writes of its finished units: three numbers to a unit. (Numbers, and no list of units: the claims
+// FitsExactly, StartsAre and ListRead speak of the numbers that stand in it.)
 ghost use Rattle.std.specs.Prelude.{◌≡◌};
 ghost use Rattle.multiplex.specs.Units.{unit_at, enough_output, enough_units};
 
@@ -26,32 +27,24 @@ pub fn enough_units() -> usize
 }
 
 // A finished unit: the number of its channel, and where in the output it starts and how long it is.
-#[derive(Clone, Copy)]
+#[derive(Clone, Copy, Debug, PartialEq, Eq)]
 pub struct Unit {
     pub channel: ChannelNumber,
     pub start: usize,
     pub length: usize,
 }
 
-// What a list has of a unit, or that it has none.
-#[derive(Clone, Copy)]
-pub enum Listed {
-    At(Unit),
-    Nothing,
-}
-
-// Unit j of a list, counted from 0.
-pub fn unit_at(units: &[u16], j: usize) -> Listed
+// Unit j of a list, counted from 0, if the list goes so far.
+#[tactic(auto, unfolding(crate::specs::Units::unit_at))]
+pub fn unit_at(units: &[u16], j: usize) -> Option<Unit>
     ensures { result ≡ unit_at units.now j }
 {
     if units.len() / 3 <= j {
-        return Listed::Nothing;
+        return None;
     }
-    let start = units[3 * j + 1] as usize;
-    let length = units[3 * j + 2] as usize;
-    Listed::At(Unit {
+    Some(Unit {
         channel: ChannelNumber(units[3 * j]),
-        start,
-        length,
+        start: usize::from(units[3 * j + 1]),
+        length: usize::from(units[3 * j + 2]),
     })
 }

@@ -4,12 +4,18 @@
 --   octets_next     a part with one octet more, where the part is a number in k octets
 --   part-high       a part of octets is the number that it is worth
 --   worth-same      .. so that two of one length and worth are equal
+--   next_byte       a byte of a number is the one below it of the number without its low end
+--   bytes_next      the bytes of a number are those without its low end, and its low end
+--   bytes-high      .. and so the number in octets
+--   be_bytes-high   `to_be_bytes` is the number in as many octets as its type has
 --   fields-length   the length of a row of numbers is the widths' sum
 --   fields-same     two rows of numbers that fit, with the same octets, are equal, and so is what stands behind them
 --
 -- Assumes nothing.
-use Rattle.std.specs.Prelude.{◌≡◌, refl, List, [], ◌∷◌, ◌++◌, ℕ, zero, suc, ◌+◌, ◌*◌, ◌^◌, ◌≤◌, ◌<◌, length, get_or, take, drop}
+use Rattle.std.specs.Prelude.{◌≡◌, refl, List, [], ◌∷◌, ◌++◌, ℕ, zero, suc, ◌+◌, ◌*◌, ◌/◌, ◌%◌, ◌^◌, ◌≤◌, ◌<◌, length, get_or, take, drop}
 use Rattle.std.proofs.Common.{sym, ap, ap₂, ◌∙◌, append_assoc, arith, length-append}
+use Rattle.std.proofs.Math.Nat.{pow-succ', div-div-eq-div-mul}
+use Rattle.std.specs.Int.{Width, byte_len, byte_at, bytes_high_first, to_be_bytes}
 use Rattle.octets.specs.High.{high, worth, high-length, high_next, worth-snoc, worth-high, part-snoc, fields, Fit, widths, append-same}
 
 pub high_same : (k n m : ℕ) → n < 256 ^ k → m < 256 ^ k → high k n ≡ high k m → n ≡ m
@@ -33,6 +39,24 @@ part-high (suc k) at s h small =
 pub worth-same : (k at : ℕ) (s t : List ℕ) → at + k ≤ length s → at + k ≤ length t → ((i : ℕ) → get_or s i 0 < 256) → ((i : ℕ) → get_or t i 0 < 256)
     → worth (take k (drop at s)) ≡ worth (take k (drop at t)) → take k (drop at s) ≡ take k (drop at t)
 worth-same k at s t h j f g e = part-high k at s h f ∙ ap (high k) e ∙ sym (part-high k at t j g)
+
+-- ---- what `to_be_bytes` answers
+
+next_byte : (k n : ℕ) → byte_at (suc k) n ≡ byte_at k (n / 256)
+next_byte zero n = refl
+next_byte (suc k) n = ap (λ (m : ℕ). m % 256) (ap (λ (d : ℕ). n / d) (pow-succ' 256 (suc k)) ∙ sym (div-div-eq-div-mul n 256 (256 ^ suc k)))
+
+bytes_next : (k n : ℕ) → bytes_high_first (suc k) n ≡ bytes_high_first k (n / 256) ++ n % 256 ∷ []
+bytes_next zero n = refl
+bytes_next (suc k) n = ap₂ (λ (a : ℕ) (l : List ℕ). a ∷ l) (next_byte k n) (bytes_next k n)
+
+bytes-high : (k n : ℕ) → bytes_high_first k n ≡ high k n
+unfolding high
+bytes-high zero n = refl
+bytes-high (suc k) n = bytes_next k n ∙ ap (λ (l : List ℕ). l ++ n % 256 ∷ []) (bytes-high k (n / 256))
+
+pub be_bytes-high : (w : Width) (n : ℕ) → to_be_bytes w n ≡ high (byte_len w) n
+be_bytes-high w n = bytes-high (byte_len w) n
 
 -- ---- numbers in a row
 

@@ -2,7 +2,8 @@
 -- what they speak of.
 --
 --   numbers in octets   high_same, octets_next, worth-same
+--   .. as written       be_bytes-high: `to_be_bytes` is the number in octets
 --   numbers in a row    fields-length, fields-same
 --
 -- Assumes nothing.
-pub use Rattle.octets.proofs.High.{high_same, octets_next, worth-same, fields-length, fields-same}
+pub use Rattle.octets.proofs.High.{high_same, octets_next, worth-same, be_bytes-high, fields-length, fields-same}

@@ -19,13 +19,11 @@ use lib.ListN.{length, take, drop}
 use Rattle.calls.specs.Refusal.{refused, told}
 use Rattle.golay.specs.Code.{nearest, Within}
 use Rattle.golay.proofs.Laws.{golay}
-use Rattle.golay.specs.declared.Found.{Found}
-use Rattle.golay.specs.declared.Found.TheVariants as golay
+use Rattle.std.specs.Prelude.{Option, Some, None}
 use Rattle.packets.specs.Flag.{flag_of, flag_in, is_neither}
 use Rattle.packets.specs.Header.{header_word}
 use Rattle.packets.specs.Packet.{heading, closed, read}
 use Rattle.packets.specs.Claims.{BeginsWithFlag}
-use Rattle.packets.specs.declared.flags.Flag.TheVariants.{Neither}
 use Rattle.packets.proofs.Opening.{form_marks, flag-stands, flag_cases, begins-flag, flagless, neither-none}
 use Rattle.packets.proofs.Cases.{read_no-flag, read_short, read_no_word, read_unused, read-closed}
 
@@ -56,7 +54,7 @@ flagless-ends u f = read_no-flag u (flagless u f)
 pub short-ends : (u : List ℕ) → length u < 5 → read u ≡ refused 15
 short-ends u l = by (flag_cases u)
   where
-    by : BeginsWithFlag u ⊎ (flag_in u ≡ Neither) → read u ≡ refused 15
+    by : BeginsWithFlag u ⊎ (flag_in u ≡ None) → read u ≡ refused 15
     by (inl b) = read_short u (begins-flag u b) l
     by (inr e) = read_no-flag u (ap is_neither e)
 
@@ -65,7 +63,7 @@ module _ (u : List ℕ) where
   wordless-ends b l none = read_no_word u (begins-flag u b) l (((golay).nothing_exactly (header_word (drop 2 u))).1 none)
 
   module _ (d : ℕ) (says : DataStand u d) where
-    found : nearest (header_word (drop 2 u)) ≡ golay.Data d
+    found : nearest (header_word (drop 2 u)) ≡ Some d
     found = ((golay).found_exactly (header_word (drop 2 u)) d).1 says.1.1
 
     pub unused-ends : d / 16 ≡ 255 → read u ≡ refused 2
@@ -83,7 +81,7 @@ module _ (u : List ℕ) where
   pub ends : Ends u
   ends = by (flag_cases u)
     where
-      closes : (d : ℕ) (says : DataStand u d) → d / 16 ≤ 254 → BeginsWithFlag (drop (5 + d / 16) u) ⊎ (flag_in (drop (5 + d / 16) u) ≡ Neither) → Ends u
+      closes : (d : ℕ) (says : DataStand u d) → d / 16 ≤ 254 → BeginsWithFlag (drop (5 + d / 16) u) ⊎ (flag_in (drop (5 + d / 16) u) ≡ None) → Ends u
       closes d says l (inl (m, e)) = tells d m says l e (told-ends d says m l e)
       closes d says l (inr e) =
           let none = neither-none (drop (5 + d / 16) u) e in
@@ -96,10 +94,10 @@ module _ (u : List ℕ) where
           let all : d / 16 ≡ 255 = omega arith in
           refuses 2 (inr (inr (refl, (d, (says, all))))) (unused-ends d says all)
 
-      finds : BeginsWithFlag u → 5 ≤ length u → (f : Found) → nearest (header_word (drop 2 u)) ≡ f → Ends u
-      finds b l (golay.Data d) e =
+      finds : BeginsWithFlag u → 5 ≤ length u → (f : Option ℕ) → nearest (header_word (drop 2 u)) ≡ f → Ends u
+      finds b l (Some d) e =
           measures d (b, (l, ((golay).found_exactly (header_word (drop 2 u)) d).0 e)) (dec_le (d / 16) 254)
-      finds b l golay.Nothing e =
+      finds b l None e =
           let none = ((golay).nothing_exactly (header_word (drop 2 u))).0 e in
           refuses 17 (inr (inl (refl, (b, (l, none))))) (wordless-ends b l none)
 
@@ -107,7 +105,7 @@ module _ (u : List ℕ) where
       counts b (yes l) = refuses 15 (inl (refl, inr (inl l))) (short-ends u l)
       counts b (no l) = finds b (omega arith) (nearest (header_word (drop 2 u))) refl
 
-      by : BeginsWithFlag u ⊎ (flag_in u ≡ Neither) → Ends u
+      by : BeginsWithFlag u ⊎ (flag_in u ≡ None) → Ends u
       by (inl b) = counts b (dec_lt (length u) 5)
       by (inr e) =
           let none = neither-none u e in

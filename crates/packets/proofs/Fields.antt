@@ -4,6 +4,7 @@
 --   code_of, length_of       .. from which both are read
 --   data-of                  .. and which they make
 --   header_is_word           the header is the code's word of its data
+--   header_octets            .. whose octets it is, the lowest first
 --   fields_stand             figure B.2
 --   header_word-same         the first three octets are the header
 --   header_near              the word of data, and a header
@@ -13,7 +14,7 @@
 --
 -- Assumes nothing.
 use mathlib.Core.Path.{◌≡◌, refl, sym, ap, ap₂, ◌∙◌}
-use mathlib.Core.List.{List}
+use mathlib.Core.List.{List, [], ◌∷◌}
 use Prim.Native.Nat.{ℕ, zero, suc, ◌+◌, ◌-◌, ◌*◌, ◌/◌, ◌%◌, ◌^◌, ◌≤◌, ◌<◌}
 use native.Mathlib.Omega.{arith}
 use lib.ListN.{get_or, take, drop}
@@ -42,6 +43,17 @@ data-of d = omega arith
 
 pub header_is_word : HeaderIsWord
 header_is_word c n hc hn = omega arith
+
+-- the first three octets of the word of 24 bits
+pub header_octets : (c n p w : ℕ) → c < 16 → n < 256 → p ≡ parity (data_of c n) → w ≡ data_of c n + p * 4096 % 2 ^ 32
+    → (w % 256) ∷ (w / 256 % 256) ∷ (w / 65536 % 256) ∷ [] ≡ header_of c n
+header_octets c n p w hc hn e f =
+    let s = (golay.systematic (data_of c n) (data-small c n hc hn)).2 in
+    let small : p < 4096 = rw e s in
+    let a : w % 256 ≡ c + n % 16 * 16 = omega arith in
+    let b : w / 256 % 256 ≡ n / 16 + p % 16 * 16 = omega arith in
+    let d : w / 65536 % 256 ≡ p / 16 = omega arith in
+    rw (a, b, d, e) refl
 
 pub column_is : (c n i : ℕ) → c < 16 → bit_at (data_of c n) i ≡ column_at c n i
 column_is c n zero h = omega arith

@@ -1,47 +1,28 @@
--- How a writing ends, case by case.
+-- What a writing lays down where nothing refuses it.
 --
---   write_over      a code over 15
---   write_long      a payload that is too long
---   write_full      too little room
 --   write_laid      the packet
 --   laid_is         .. which is its parts, laid one behind another
 --   flag-length     a flag has two octets
---   nothing-behind  what is cut short has no payload
 --
 -- Assumes nothing.
 use mathlib.Core.Path.{◌≡◌, refl, ◌∙◌}
 use mathlib.Core.Bool.{Bool, true, false}
-use mathlib.Core.List.{List, [], ◌++◌}
-use Prim.Native.Nat.{ℕ, ◌+◌, ◌≤◌, ◌<◌}
+use mathlib.Core.List.{List, ◌++◌}
+use Prim.Native.Nat.{ℕ, ◌+◌, ◌≤◌}
 use native.Mathlib.Omega.{arith}
-use borrow.Author.Tests.{lt-ltb, le-ltb}
-use lib.ListN.{length, take, drop, drop_of_length-le, length-append}
-use lib.Seq.{take-nil}
+use borrow.Author.Tests.{le-ltb}
+use lib.ListN.{length, length-append}
 use Rattle.octets.specs.Written.{written, written_next}
-use Rattle.calls.specs.Refusal.{leaving, refusing}
+use Rattle.calls.specs.Refusal.{leaving}
 use Rattle.packets.specs.Flag.{flag_of}
 use Rattle.packets.specs.Header.{header_of}
 use Rattle.packets.specs.Packet.{longest, packet_of, wrote}
 
 module _ (o : Bool) (c : ℕ) (m : Bool) (xs before : List ℕ) where
-  pub write_over : 15 < c → wrote o c m xs before ≡ refusing before 4
+  pub write_laid : c ≤ 15 → length xs ≤ longest → length xs + 7 ≤ length before
+      → wrote o c m xs before ≡ leaving (length xs + 7) (written before 0 (packet_of o c m xs))
   unfolding wrote
-  write_over h = rw (lt-ltb 15 c h)
-
-  module _ (code : c ≤ 15) where
-    pub write_long : longest < length xs → wrote o c m xs before ≡ refusing before 2
-    unfolding wrote
-    write_long h = rw (le-ltb 15 c code, lt-ltb longest (length xs) h)
-
-    module _ (short : length xs ≤ longest) where
-      pub write_full : length before < length xs + 7 → wrote o c m xs before ≡ refusing before 3
-      unfolding wrote
-      write_full h = rw (le-ltb 15 c code, le-ltb longest (length xs) short, lt-ltb (length before) (length xs + 7) h)
-
-      module _ (room : length xs + 7 ≤ length before) where
-        pub write_laid : wrote o c m xs before ≡ leaving (length xs + 7) (written before 0 (packet_of o c m xs))
-        unfolding wrote
-        write_laid = rw (le-ltb 15 c code, le-ltb longest (length xs) short, le-ltb (length before) (length xs + 7) room)
+  write_laid code short room = rw (le-ltb 15 c code, le-ltb longest (length xs) short, le-ltb (length before) (length xs + 7) room)
 
 -- ---- part by part
 
@@ -70,6 +51,3 @@ module _ (o : Bool) (c : ℕ) (m : Bool) (xs d a b e z f h g : List ℕ) (room :
         laid_next d (flag_of o ++ header_of c (length xs)) xs 5 five (omega arith),
       )
       (laid_next d (flag_of o ++ header_of c (length xs) ++ xs) (flag_of m) (5 + length xs) all (omega arith))
-
-pub nothing-behind : (n : ℕ) (u : List ℕ) → length u < 5 → take n (drop 5 u) ≡ []
-nothing-behind n u h = let l : length u ≤ 5 = omega arith in rw (drop_of_length-le u l, take-nil)

@@ -22,13 +22,14 @@ use Rattle.packets.specs.Flag.{flag_of, is_flag, flag_in, is_neither}
 use Rattle.packets.specs.Packet.{is_mark}
 use Rattle.packets.specs.Claims.{BeginsWithFlag}
 use Rattle.packets.specs.declared.flags.Flag.{Flag}
-use Rattle.packets.specs.declared.flags.Flag.TheVariants.{Plain, Complemented, Neither}
+use Rattle.packets.specs.declared.flags.Flag.TheVariants.{Plain, Complemented}
+use Rattle.std.specs.Prelude.{Option, Some, None}
 use Rattle.packets.proofs.Standing.{is_plain, is-complemented, is-neither}
 use Rattle.packets.proofs.Laying.{flag-length}
 
-abbrev pub form : Bool → Flag
-form false = Plain
-form true = Complemented
+abbrev pub form : Bool → Option Flag
+form false = Some Plain
+form true = Some Complemented
 
 pub form_marks : (m : Bool) → (is_neither (form m) ≡ false) × (is_mark (form m) ≡ m)
 form_marks false = (refl, refl)
@@ -43,10 +44,10 @@ module _ (u : List ℕ) where
   passed true e = tt
   passed false e = never (cc)
 
-  pub flag_cases : BeginsWithFlag u ⊎ (flag_in u ≡ Neither)
+  pub flag_cases : BeginsWithFlag u ⊎ (flag_in u ≡ None)
   flag_cases = by (is_flag false u) refl (is_flag true u) refl
     where
-      by : (s : Bool) → is_flag false u ≡ s → (t : Bool) → is_flag true u ≡ t → BeginsWithFlag u ⊎ (flag_in u ≡ Neither)
+      by : (s : Bool) → is_flag false u ≡ s → (t : Bool) → is_flag true u ≡ t → BeginsWithFlag u ⊎ (flag_in u ≡ None)
       by true e t f = inl (false, same-equal (take 2 u) (flag_of false) (passed (is_flag false u) e))
       by false e true f = inl (true, same-equal (take 2 u) (flag_of true) (passed (is_flag true u) f))
       by false e false f = inr (is-neither u e f)
@@ -57,11 +58,11 @@ module _ (u : List ℕ) where
   pub flagless : (BeginsWithFlag u → ⊥) → is_neither (flag_in u) ≡ true
   flagless f = by flag_cases
     where
-      by : BeginsWithFlag u ⊎ (flag_in u ≡ Neither) → is_neither (flag_in u) ≡ true
+      by : BeginsWithFlag u ⊎ (flag_in u ≡ None) → is_neither (flag_in u) ≡ true
       by (inl b) = absurd (f b)
       by (inr e) = ap is_neither e
 
-  pub neither-none : flag_in u ≡ Neither → BeginsWithFlag u → ⊥
+  pub neither-none : flag_in u ≡ None → BeginsWithFlag u → ⊥
   neither-none e b = never (cc (begins-flag b, ap is_neither e))
 
   pub begins_long : BeginsWithFlag u → 2 ≤ length u

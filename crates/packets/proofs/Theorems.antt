@@ -48,7 +48,7 @@ packets = record {
   length_unused = length_unused;
   of_writing = of_writing;
   write_answered = write_answered;
-  says_so = λ c m n next k. (refl, refl);
+  says_so = λ c m n next r. (refl, refl);
   read_back = read_back;
   next_flag = next_flag;
 }

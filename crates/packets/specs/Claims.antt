@@ -20,21 +20,21 @@
 --   LengthUnused     a header that says 255, to within three bits, behind a flag, is refused with 2
 --   OfWriting        when writing gives each refusal, and that nothing lent has changed then
 --   WriteAnswered    .. and what it leaves where it gives none
---   SaysSo           what a value of `Reading` says: each of its parts under its name
+--   SaysSo           what the result of a reading says: each of its parts under its name
 --   ReadBack         reading what was written, whatever stands behind it, tells what was handed in, and the payload lies there
 --   NextFlag         the next packet's flag lies where it is told, and is the closing flag
 --   Packets          all of these
 --
 -- Assumes nothing.
-use Rattle.std.specs.Prelude.{◌≡◌, ◌↔◌, ◌⊎◌, Bool, true, false, cond, List, [], ◌∷◌, ◌++◌, ℕ, ◌+◌, ◌*◌, ◌-◌, ◌/◌, ◌%◌, ◌≤◌, ◌<◌, ltb, length, get_or, take, drop}
-use Rattle.calls.specs.Refusal.{refused, told, leaving}
+use Rattle.std.specs.Prelude.{◌≡◌, ◌↔◌, ◌⊎◌, Bool, true, false, cond, List, [], ◌∷◌, ◌++◌, ℕ, ◌+◌, ◌*◌, ◌-◌, ◌/◌, ◌%◌, ◌≤◌, ◌<◌, ltb, length, get_or, take, drop, Ok, Err}
+use Rattle.calls.specs.Refusal.{refused, told, leaving, number}
 use Rattle.golay.specs.Matrix.{matrix}
 use Rattle.golay.specs.Code.{code_word, distance}
 use Rattle.golay.specs.Claims.{total, bit_at}
 use Rattle.packets.specs.Flag.{flag_of}
 use Rattle.packets.specs.Header.{data_of, header_of, header_word, wrong_bits}
 use Rattle.packets.specs.Packet.{packet_of, wrote, Heading, heading, read, payload_at, read_says}
-use Rattle.packets.specs.declared.Reading.TheVariants as answered
+use Rattle.calls.specs.declared.Refusal.{Refusal}
 
 abbrev pub FlagsAre : Type 0
 FlagsAre = (flag_of false ≡ 225 ∷ 77 ∷ []) × (flag_of true ≡ 30 ∷ 178 ∷ []) × ((i : ℕ) → i < 2 → get_or (flag_of false) i 0 + get_or (flag_of true) i 0 ≡ 255)
@@ -130,10 +130,10 @@ WriteAnswered =
 
 abbrev pub SaysSo : Type 0
 SaysSo =
-    (c : ℕ) (m : Bool) (n next k : ℕ)
-    → (read_says (answered.Packet (record { code = record { 0 = c }; mark = m; length = n; next = next }))
+    (c : ℕ) (m : Bool) (n next : ℕ) (r : Refusal)
+    → (read_says (Ok (record { code = record { 0 = c }; mark = m; length = n; next = next }))
     ≡ told (record { code = c; mark = m; length = n; next = next }))
-    × (read_says (answered.Refused k) ≡ refused k)
+    × (read_says (Err r) ≡ refused (number r))
 
 abbrev pub ReadBack : Type 0
 ReadBack =

@@ -15,22 +15,19 @@
 --   read u                  what the packet says that u begins with, or the refusal's number
 --   closed c n f            .. of a packet of code c and length n that the flag f closes
 --   payload_at n u           where a payload of n octets lies in a packet: behind flag and header
---   read_says r              what a value of `Reading` says
+--   read_says r              what the result of a reading says
 --
 -- Assumes nothing.
-use Rattle.std.specs.Prelude.{Bool, true, false, cond, not, List, [], ◌∷◌, ◌++◌, ℕ, ◌+◌, ◌/◌, ◌%◌, ltb, length, take, drop}
+use Rattle.std.specs.Prelude.{Bool, true, false, cond, not, List, [], ◌∷◌, ◌++◌, ℕ, ◌+◌, ◌/◌, ◌%◌, ltb, length, take, drop, Option, Some, None, Result, Ok, Err}
 use Rattle.octets.specs.Written.{written}
-use Rattle.calls.specs.Refusal.{Told, refused, told, Ended, leaving, refusing, Test, ◌when◌, checked}
+use Rattle.calls.specs.Refusal.{Told, refused, told, Ended, leaving, refusing, Test, ◌when◌, checked, number}
 use Rattle.table.specs.Table.{highest_code}
 use Rattle.golay.specs.Code.{nearest}
-use Rattle.golay.specs.declared.Found.{Found}
-use Rattle.golay.specs.declared.Found.TheVariants as golay
-use Rattle.packets.specs.Flag.{flag_of, flag_in, is_neither}
+use Rattle.calls.specs.declared.Refusal.{Refusal}
+use Rattle.packets.specs.Flag.{flag_of, is_complement, flag_in, is_neither}
 use Rattle.packets.specs.Header.{header_of, header_word}
-use Rattle.packets.specs.declared.Reading.{Reading}
-use Rattle.packets.specs.declared.Reading.TheVariants as answered
+use Rattle.packets.specs.declared.Packet.{Packet}
 use Rattle.packets.specs.declared.flags.Flag.{Flag}
-use Rattle.packets.specs.declared.flags.Flag.TheVariants.{Plain, Complemented, Neither}
 
 abbrev pub longest : ℕ
 longest = 254
@@ -55,16 +52,16 @@ pub record Heading : Type 0 where
   pub length : ℕ
   pub next : ℕ
 
-abbrev pub header_in : List ℕ → Found
+abbrev pub header_in : List ℕ → Option ℕ
 header_in u = nearest (header_word (drop 2 u))
 
-abbrev pub is_found : Found → Bool
-is_found (golay.Data d) = true
-is_found golay.Nothing = false
+abbrev pub is_found : Option ℕ → Bool
+is_found (Some d) = true
+is_found None = false
 
-abbrev pub found : Found → ℕ
-found (golay.Data d) = d
-found golay.Nothing = 0
+abbrev pub found : Option ℕ → ℕ
+found (Some d) = d
+found None = 0
 
 abbrev pub code_in : List ℕ → ℕ
 code_in u = found (header_in u) % 16
@@ -75,13 +72,12 @@ length_in u = found (header_in u) / 16
 abbrev pub heading : (code : ℕ) (mark : Bool) (length : ℕ) → Heading
 heading c m n = record { code = c; mark = m; length = n; next = 5 + n }
 
-abbrev pub is_mark : Flag → Bool
-is_mark Plain = false
-is_mark Complemented = true
-is_mark Neither = false
+abbrev pub is_mark : Option Flag → Bool
+is_mark (Some f) = is_complement f
+is_mark None = false
 
 -- what stands behind the payload
-abbrev pub closing_in : List ℕ → Flag
+abbrev pub closing_in : List ℕ → Option Flag
 closing_in u = flag_in (drop (5 + length_in u) u)
 
 abbrev pub read_tests : List ℕ → List Test
@@ -97,12 +93,12 @@ unfoldable pub read : List ℕ → Told Heading
 read u = checked refused (read_tests u) (told (heading (code_in u) (is_mark (closing_in u)) (length_in u)))
 
 -- .. of a packet of code c and length n that the flag f closes
-abbrev pub closed : (code length : ℕ) → Flag → Told Heading
+abbrev pub closed : (code length : ℕ) → Option Flag → Told Heading
 closed c n f = cond (is_neither f) (refused 15) (told (heading c (is_mark f) n))
 
 abbrev pub payload_at : (length : ℕ) → List ℕ → List ℕ
 payload_at n u = take n (drop 5 u)
 
-abbrev pub read_says : Reading → Told Heading
-read_says (answered.Packet p) = told (record { code = p.code.0; mark = p.mark; length = p.length; next = p.next })
-read_says (answered.Refused k) = refused k
+abbrev pub read_says : Result Packet Refusal → Told Heading
+read_says (Ok p) = told (record { code = p.code.0; mark = p.mark; length = p.length; next = p.next })
+read_says (Err r) = refused (number r)

@@ -7,12 +7,10 @@ pub fn of(code: u32, length: u32) -> [u8; 3]
     requires { (code < 16) × (length < 256) }
     ensures { result ≡ header_of code length }
 {
-    let p = golay::parity(code + 16 * length);
-    [
-        (code + length % 16 * 16) as u8,
-        (length / 16 + p % 16 * 16) as u8,
-        (p / 16) as u8,
-    ]
+    let data = code + 16 * length;
+    let word = data + (golay::parity(data) << golay::DATA_BITS);
+    let [first, second, third, _] = word.to_le_bytes();
+    [first, second, third]
 }
 
 // The 24 bits of the header that stands behind a flag, the first octet's first.
@@ -20,5 +18,5 @@ pub fn word(octets: &[u8]) -> u32
     requires { 5 ≤ length octets.now }
     ensures { (result ≡ header_word (drop 2 octets.now)) × (result < 16777216) }
 {
-    octets[2] as u32 + 256 * octets[3] as u32 + 65536 * octets[4] as u32
+    u32::from_le_bytes([octets[2], octets[3], octets[4], 0])
 }

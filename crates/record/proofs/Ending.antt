@@ -104,13 +104,14 @@ module _ (s : List ℕ) (lent : ReadLent) (us : List Recorded) (r : IsRecord us 
     at : length s - trailer_octets + trailer_octets ≡ length s
     at = omega (arith, record-length r)
 
-    pub reads_deliverable : Deliverable (take (length s - trailer_octets) s) lent.numbers lent.octets
-    reads_deliverable =
+    pub reads_deliverable : {k : ℕ} → k ≡ length us → Deliverable (take (length s - trailer_octets) s) k lent.numbers lent.octets
+    reads_deliverable e =
         let units = backed-units [] us in
         record {
           list = backed [] us;
           fits = record-fits r (length s - trailer_octets) at;
-          numbers_fit = omega (arith, a, sym (ap length units) ∙ length-map (backed [] us) (λ (p : Stored). p.unit));
+          count = e ∙ ap length (sym units) ∙ length-map (backed [] us) (λ (p : Stored). p.unit);
+          numbers_fit = omega (arith, a, e);
           octets_fit = omega (arith, b, ap (λ (l : List Recorded). length (octets_of l)) units);
         }
 

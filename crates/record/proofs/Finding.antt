@@ -12,7 +12,8 @@
 -- Assumes nothing.
 use mathlib.Core.Path.{◌≡◌, sym, ap, subst, ◌∙◌}
 use mathlib.Core.Bool.{Bool, true, false, true≢false}
-use mathlib.Core.List.{List, reverse}
+use mathlib.Core.List.{List}
+use Rattle.std.specs.Prelude.{Some, None}
 use Prim.Native.Nat.{ℕ, ◌+◌, ◌-◌, ◌≤◌}
 use native.Mathlib.Omega.{arith}
 use lib.Dec.{T}
@@ -21,11 +22,11 @@ use lib.Seq.{length-take-le, take_all}
 use Rattle.octets.specs.Same.{same, same_self, same-equal}
 use Rattle.record.specs.Recorded.{Recorded}
 use Rattle.record.specs.Layout.{Stored}
-use Rattle.record.specs.Trailer.{used, trailer_octets, most_before}
+use Rattle.record.specs.Trailer.{trailer_octets, most_before}
 use Rattle.record.specs.Call.{IsRecord}
-use Rattle.record.specs.Walk.{UsedIs, units_of, Surveyed, SurveyIs, CheckedIs}
+use Rattle.record.specs.Walk.{Surveyed, SurveyIs, CheckedIs}
 use Rattle.record.specs.declared.reader.Survey.{Survey}
-use Rattle.record.specs.declared.reader.Checked.{Checked}
+use Rattle.record.specs.declared.places.Places.{Places}
 use Rattle.record.proofs.Laying.{laid_same}
 use Rattle.record.proofs.Forming.{record-length, record-fits, record_right, Whole}
 
@@ -42,38 +43,28 @@ module _ (k : ℕ) (s l : List ℕ) (r : Bool) (is : r ≡ same (take (length s 
   pub end_differs : r ≡ false → drop k s ≡ l → ⊥
   end_differs h e = true≢false (sym (same_self l) ∙ ap (λ (x : List ℕ). same x l) (sym (part-all ∙ e)) ∙ sym is ∙ h)
 
-module _ (s : List ℕ) (long : trailer_octets ≤ length s) (v : Survey) (is : SurveyIs (take (length s - trailer_octets) s) v) where
-  at : length s - trailer_octets + trailer_octets ≡ length s
-  at = omega (arith, long)
+-- the record's first k octets stand before the trailer
+module _ (s : List ℕ) (k : ℕ) (at : k + trailer_octets ≡ length s) where
+  pub survey-none : SurveyIs (take k s) None → (us : List Recorded) → IsRecord us s → ⊥
+  survey-none is us r = is _ (record-fits r k at)
 
-  pub survey-none : v.ok ≡ false → (us : List Recorded) → IsRecord us s → ⊥
-  survey-none bad us r = is.none bad _ (record-fits r (length s - trailer_octets) at)
+  pub checked-none : CheckedIs (take k s) None → (us : List Recorded) → IsRecord us s → ⊥
+  checked-none is us r = is.backs (record_right r k at is.list is.fits)
 
-  module _ (short : length s - trailer_octets ≤ most_before) (good : v.ok ≡ true) where
-    pub survey_some : Surveyed (take (length s - trailer_octets) s) v.used
-    survey_some = record {
-      list = (is.found good).0;
-      fits = (is.found good).1;
-      used_is = (is.found good).2;
-      short = omega (arith, length-take-le (length s - trailer_octets) s (omega (arith, at)), short);
-    }
+  module _ (short : k ≤ most_before) (v : Survey) (is : SurveyIs (take k s) (Some v)) where
+    pub survey_some : Surveyed (take k s) v.places
+    survey_some = record { list = is.0; fits = is.1; places = is.2; short = omega (arith, length-take-le k s (omega (arith, at)), short) }
 
-    module _ (w : Checked) (right : CheckedIs (take (length s - trailer_octets) s) w) where
-      pub checked-none : w.ok ≡ false → (us : List Recorded) → IsRecord us s → ⊥
-      checked-none bad us r = right.wrong bad (record_right r (length s - trailer_octets) at right.list right.fits)
-
-      pub checked_whole : w.ok ≡ true → Whole s (length s - trailer_octets) v.used v.units w.tally
-      checked_whole ok =
-          let seen = is.found good in
-          let same : seen.0 ≡ right.list
-          = laid_same seen.0 right.list seen.1.ranges right.fits.ranges (sym seen.1.octets ∙ right.fits.octets) in
-          record {
-            list = right.list;
-            fits = right.fits;
-            right = (right.right ok).0;
-            used_is = subst (λ (l : List Stored). UsedIs (used (reverse (units_of l))) v.used) same seen.2;
-            count = seen.3 ∙ ap length same ∙ sym (length-map right.list (λ (p : Stored). p.unit));
-            tally = (right.right ok).1;
-            at = at;
-            short = short;
-          }
+    pub checked_whole : (p : Places) → CheckedIs (take k s) (Some p) → Whole s k v.units p
+    checked_whole p right =
+        let same : is.0 ≡ right.list
+        = laid_same is.0 right.list is.1.ranges right.fits.ranges (sym is.1.octets ∙ right.fits.octets) in
+        record {
+          list = right.list;
+          fits = right.fits;
+          right = right.backs.0;
+          count = is.3 ∙ ap length same ∙ sym (length-map right.list (λ (q : Stored). q.unit));
+          places = right.backs.1;
+          at = at;
+          short = short;
+        }

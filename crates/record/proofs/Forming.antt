@@ -26,13 +26,13 @@ use Rattle.record.specs.Recorded.{Recorded, AllInRange}
 use Rattle.record.specs.Layout.{total, Stored, laid, backed, body_of}
 use Rattle.record.specs.Trailer.{used, most_channels, trailer_of, trailer_octets, most_before}
 use Rattle.record.specs.Call.{IsRecord}
-use Rattle.record.specs.Walk.{UsedIs, TallyIs, trailer_from, units_of, AllStored, Fits}
-use Rattle.record.specs.declared.places.Used.{Used}
-use Rattle.record.specs.declared.trailer.Tally.{Tally}
+use Rattle.record.specs.Walk.{PlacesAre, trailer_from, units_of, channels_of, AllStored, Fits}
+use Rattle.record.specs.declared.places.Places.{Places}
 use Rattle.record.proofs.Laying.{laid-length, laid_same}
 use Rattle.record.proofs.Listing.{total-reverse}
 use Rattle.record.proofs.Backing.{backed-units, backed_ranges, body-length}
-use Rattle.record.proofs.Tallying.{trailer-from, trailer-length}
+use Rattle.record.proofs.Placing.{trailer-from}
+use Rattle.record.proofs.Tallying.{trailer-length}
 
 pub total-turned : (us : List Recorded) → total (reverse us) ≡ total us
 unfolding total
@@ -74,17 +74,16 @@ units_ranges : (ps : List Stored) → AllStored ps → AllInRange (units_of ps)
 units_ranges [] r = tt
 units_ranges (p ∷ ps) r = (r.0.0, units_ranges ps r.1)
 
-pub record Whole (s : List ℕ) (k : ℕ) (u : Used) (n : ℕ) (t : Tally) : Type 0 where
+pub record Whole (s : List ℕ) (k : ℕ) (n : ℕ) (p : Places) : Type 0 where
   pub list : List Stored
   pub fits : Fits list (take k s)
   pub right : list ≡ backed [] (units_of list)
-  pub used_is : UsedIs (used (reverse (units_of list))) u
   pub count : n ≡ length (units_of list)
-  pub tally : TallyIs (used (reverse (units_of list))) (reverse (units_of list)) t
+  pub places : PlacesAre (channels_of list) (reverse (units_of list)) p
   pub at : k + trailer_octets ≡ length s
   pub short : k ≤ most_before
 
-module _ {s : List ℕ} {k : ℕ} {u : Used} {n : ℕ} {t : Tally} (w : Whole s k u n t) where
+module _ {s : List ℕ} {k : ℕ} {n : ℕ} {p : Places} (w : Whole s k n p) where
   us : List Recorded
   us = units_of w.list
 
@@ -92,20 +91,19 @@ module _ {s : List ℕ} {k : ℕ} {u : Used} {n : ℕ} {t : Tally} (w : Whole s 
   unfolding us
   taken = sym (length-take-le k s (omega (arith, w.at))) ∙ ap length w.fits.octets ∙ laid-length w.list
 
-  pub whole-end : trailer_from u.channels t n k ≡ trailer_of (reverse (units_of w.list))
+  pub whole-end : trailer_from p n k ≡ trailer_of (reverse (units_of w.list))
   unfolding us
   whole-end =
-      ap₂ (trailer_from u.channels t) (w.count ∙ sym (length-reverse us)) (taken ∙ sym (total-turned us))
-      ∙ trailer-from (reverse us) u t w.fits.few w.used_is w.tally
+      ap₂ (trailer_from p) (w.count ∙ sym (length-reverse us)) (taken ∙ sym (total-turned us)) ∙ trailer-from (reverse us) w.places
 
-  pub whole_record : drop k s ≡ trailer_from u.channels t n k → IsRecord (units_of w.list) s
+  pub whole_record : drop k s ≡ trailer_from p n k → IsRecord (units_of w.list) s
   unfolding us
   whole_record e = record {
     taken = record { ranges = units_ranges w.list w.fits.ranges; channels = w.fits.few; before = omega (arith, taken, w.short) };
     octets = sym (take-append-drop k s) ∙ ap₂ (λ (a b : List ℕ). a ++ b) (w.fits.octets ∙ ap laid w.right) (e ∙ whole-end);
   }
 
-  pub whole-none : (drop k s ≡ trailer_from u.channels t n k → ⊥) → (vs : List Recorded) → IsRecord vs s → ⊥
+  pub whole-none : (drop k s ≡ trailer_from p n k → ⊥) → (vs : List Recorded) → IsRecord vs s → ⊥
   unfolding us
   whole-none f vs r =
       f (record-end r k w.at ∙ ap (λ (l : List Recorded). trailer_of (reverse l)) (sym (backed-units [] vs) ∙ ap units_of (sym (record_list r k w.at w.list w.fits)))

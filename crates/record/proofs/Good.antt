@@ -2,29 +2,21 @@
 -- of them so, by taking each unit's octets off the front.
 --
 --   Good n left      the numbers n are of units in range that have `left` octets
---   four_next        four numbers of a list, and what is behind them
 --   none_left        a list of no octets
 --   good-listed      numbers that are good for the octets are of a list of units
 --   listed_good      .. and the other way
 --   good_iff         both
---   good_now         good numbers have a unit in range at their front, for which there are octets
---   good_next        .. and are good exactly where the others are, for the others' octets
---   good-end         no numbers are good exactly where nothing is left
 --   adds_good        good numbers in the ticket's words
 --   whole_exactly    .. so that the claim of specs/Form.antt holds
 --
 -- Assumes nothing.
 use mathlib.Core.Path.{◌≡◌, refl, sym, ap, ap₂, subst, ◌∙◌}
-use mathlib.Core.Bool.{true}
 use mathlib.Core.Logic.{◌↔◌}
 use mathlib.Core.List.{List, [], ◌∷◌, ◌++◌}
 use Prim.Native.Nat.{ℕ, suc, ◌+◌, ◌-◌, ◌≤◌, ◌<◌}
 use native.Mathlib.Omega.{arith}
-use native.Mathlib.Numerals.{add-one}
-use borrow.Author.Tests.{eqb-true, eq-eqb}
-use lib.Dec.{eqb}
-use lib.ListN.{length, get_or, take, drop, length-append, length-drop, take-append-drop, drop_of_length-le}
-use lib.Seq.{drop-cons, get_or-drop, length-take-le}
+use lib.ListN.{length, get_or, take, drop, length-append, length-drop, take-append-drop}
+use lib.Seq.{get_or-drop, length-take-le}
 use Rattle.record.specs.Recorded.{Recorded, Octets, Ranges, AllInRange, flat, numbers_of, octets_of}
 use Rattle.record.specs.Form.{AddsUp, WholeExactly}
 use Rattle.record.specs.Walk.{Listed}
@@ -37,19 +29,6 @@ Good (c ∷ []) left = ⊥
 Good (c ∷ b ∷ []) left = ⊥
 Good (c ∷ b ∷ k ∷ []) left = ⊥
 Good (c ∷ b ∷ k ∷ m ∷ n) left = Ranges b k m × (m ≤ left) × Good n (left - m)
-
-pub four_next : (n : List ℕ) (at : ℕ) → at + 4 ≤ length n
-    → drop at n ≡ get_or n at 0 ∷ get_or n (at + 1) 0 ∷ get_or n (at + 2) 0 ∷ get_or n (at + 3) 0 ∷ drop (at + 4) n
-four_next n at h =
-    one at (at + 1) refl (omega arith)
-    ∙ ap (λ (l : List ℕ). get_or n at 0 ∷ l)
-    (one (at + 1) (at + 2) (omega arith) (omega arith)
-    ∙ ap (λ (l : List ℕ). get_or n (at + 1) 0 ∷ l)
-    (one (at + 2) (at + 3) (omega arith) (omega arith)
-    ∙ ap (λ (l : List ℕ). get_or n (at + 2) 0 ∷ l) (one (at + 3) (at + 4) (omega arith) (omega arith))))
-  where
-    one : (i j : ℕ) → i + 1 ≡ j → i < length n → drop i n ≡ get_or n i 0 ∷ drop j n
-    one i j e l = drop-cons n i 0 l ∙ ap (λ (k : ℕ). get_or n i 0 ∷ drop k n) (sym (add-one i) ∙ e)
 
 none_left : (o : List ℕ) → length o ≡ 0 → o ≡ []
 none_left [] e = refl
@@ -84,22 +63,6 @@ listed_good (u ∷ us) r =
 
 pub good_iff : (n o : List ℕ) → ((i : ℕ) → get_or n i 0 < 65536) → Octets o → Listed n o ↔ Good n (length o)
 good_iff n o f h = (λ l. rw (l.lent.numbers, l.lent.octets) (listed_good l.list l.ranges), good-listed n o f h)
-
-module _ {A : Type 0} (n : List ℕ) (at left : ℕ) (iff : A ↔ Good (drop at n) left) where
-  module _ (there : at + 4 ≤ length n) where
-    pub good_now : A → Ranges (get_or n (at + 1) 0) (get_or n (at + 2) 0) (get_or n (at + 3) 0) × (get_or n (at + 3) 0 ≤ left)
-        × Good (drop (at + 4) n) (left - get_or n (at + 3) 0)
-    good_now a = rw (four_next n at there) at (iff.0 a)
-
-    pub good_next : Ranges (get_or n (at + 1) 0) (get_or n (at + 2) 0) (get_or n (at + 3) 0) → get_or n (at + 3) 0 ≤ left
-        → A ↔ Good (drop (at + 4) n) (left - get_or n (at + 3) 0)
-    good_next r l = (λ a. (good_now a).2, λ g. iff.1 (rw (four_next n at there) (r, l, g)))
-
-  pub good-end : length n ≤ at → eqb left 0 ≡ true ↔ A
-  good-end e = (
-    λ h. iff.1 (rw (drop_of_length-le n e) (eqb-true left 0 h)),
-    λ a. eq-eqb left 0 (rw (drop_of_length-le n e) at (iff.0 a)),
-  )
 
 -- ---- in the ticket's words
 

@@ -39,7 +39,7 @@ recording = record {
   read_answers = read_answers;
   writes_once = writes_once;
   reads_once = reads_once;
-  says_so = λ n k. (refl, refl, refl, refl);
+  says_so = λ n r. (refl, refl);
   example_taken = example_taken;
 }
 

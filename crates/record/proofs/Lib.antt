@@ -9,6 +9,7 @@ pub mod Backing
 pub mod Standing
 pub mod Ranking
 pub mod Surveying
+pub mod Placing
 pub mod Tallying
 pub mod Counting
 pub mod Delivering

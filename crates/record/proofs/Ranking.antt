@@ -21,23 +21,20 @@
 --   used_has            a unit's channel is one of the used ones
 --   rank_few            a rank is at most the length
 --   rank_found          a number that is there stands at its rank
---   padded-take         the front of padded numbers are the numbers
---   padded-length       padded numbers are 16
 --
 -- Assumes nothing.
-use mathlib.Core.Path.{◌≡◌, refl, sym, ap, ◌∙◌}
+use mathlib.Core.Path.{◌≡◌, refl, sym, ap}
 use mathlib.Core.Logic.{◌⊎◌, inl, inr}
 use mathlib.Core.Bool.{Bool, true, false, cond}
 use mathlib.Core.List.{List, [], ◌∷◌, ◌++◌, reverse_aux}
-use Prim.Native.Nat.{ℕ, suc, ◌-◌, ◌≤◌, ◌<◌}
+use Prim.Native.Nat.{ℕ, suc, ◌≤◌, ◌<◌}
 use native.Mathlib.Omega.{arith}
 use borrow.Author.Tests.{lt-ltb, le-ltb, ltb-true, ltb-false, eqb-true, eqb-false}
 use lib.Dec.{eqb, ltb}
-use lib.ListN.{length, get_or, take, drop, replicate, length-append, length-replicate}
-use lib.Seq.{take_at}
+use lib.ListN.{length, get_or, take, drop}
 use Rattle.record.specs.Recorded.{Recorded}
-use Rattle.record.specs.Trailer.{insert, used, most_channels}
-use Rattle.record.specs.Walk.{rank, padded}
+use Rattle.record.specs.Trailer.{insert, used}
+use Rattle.record.specs.Walk.{rank}
 
 abbrev pub Above : ℕ → List ℕ → Type 0
 Above x [] = Unit {0}
@@ -216,13 +213,3 @@ insert_new c (x ∷ cs) f = by (insert c (x ∷ cs)) (inserting c x cs) (insert_
         rw (lt-ltb x c g) (ap (λ (l : List ℕ). x ∷ l) (ih (λ h e. on (omega arith) e)))
     by _ (there g) ih f = absurd (rw (le-ltb x c (omega arith)) at f (omega arith) g)
     by _ (before g) ih f = rw (le-ltb x c (omega arith))
-
--- ---- padding
-
-pub padded-take : (z : ℕ) (cs : List ℕ) → take (length cs) (padded z cs) ≡ cs
-padded-take z cs = take_at cs (replicate (most_channels - length cs) z) (length cs) refl
-
-pub padded-length : (z : ℕ) (cs : List ℕ) → length cs ≤ most_channels → length (padded z cs) ≡ most_channels
-padded-length z cs h =
-    length-append cs (replicate (most_channels - length cs) z)
-    ∙ rw (length-replicate) (omega arith)

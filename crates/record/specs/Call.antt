@@ -13,17 +13,14 @@
 --   read_tests w lent       the reader's refusals in their order
 --   reading w lent         how reading ends, and what it leaves
 --   Reads s lent d         it ends as d
---   read_says r             what a value of `Reading` says
 --
 -- Assumes nothing.
 use Rattle.std.specs.Prelude.{◌≡◌, Bool, true, false, ◌||◌, List, [], ◌∷◌, reverse, ℕ, ◌+◌, ◌*◌, ◌≤◌, ltb, length}
 use Rattle.octets.specs.Written.{written}
-use Rattle.calls.specs.Refusal.{Told, told, refused, Ended, leaving, refusing, Test, ◌when◌, checked}
+use Rattle.calls.specs.Refusal.{Ended, leaving, refusing, Test, ◌when◌, checked}
 use Rattle.record.specs.Recorded.{Recorded, AllInRange, numbers_of, octets_of, Lent}
 use Rattle.record.specs.Layout.{total}
 use Rattle.record.specs.Trailer.{used, most_channels, trailer_octets, most_before, record_of}
-use Rattle.record.specs.declared.Reading.{Reading}
-use Rattle.record.specs.declared.Reading.TheVariants.{Units, Refused}
 
 pub record Taken (us : List Recorded) : Type 0 where
   pub ranges : AllInRange us
@@ -98,7 +95,3 @@ module _ {s : List ℕ} where
 pub record Reads (s : List ℕ) (lent : ReadLent) (d : Ended ℕ ReadLent) : Type 0 where
   pub what : Contents s
   pub ends : d ≡ reading what lent
-
-abbrev pub read_says : Reading → Told ℕ
-read_says (Units n) = told n
-read_says (Refused k) = refused k

@@ -12,19 +12,18 @@
 --   WriteAnswered, WriteAnswers   what an answer of the writer is, and what it leaves
 --   ReadAnswered, ReadAnswers     .. and one of the reader
 --   WritesOnce, ReadsOnce   any two answers are equal, and so is what they leave
---   SaysSo          what the reader's answer says, and the writer's: the number of units or of octets, or the refusal's number
+--   SaysSo          what the reader's result says, and the writer's: the number of units or of octets, or the refusal's number
 --   ExampleTaken    the ticket's example is written
 --   Recording       all of it, and the form; `recording` in proofs/Laws.antt has the proof of each claim
 --
 -- Assumes nothing.
-use Rattle.std.specs.Prelude.{◌≡◌, ◌↔◌, ◌⊎◌, List, [], ◌∷◌, ℕ, ◌+◌, ◌-◌, ◌*◌, ◌≤◌, ◌<◌, length, get_or, take, drop}
+use Rattle.std.specs.Prelude.{◌≡◌, ◌↔◌, ◌⊎◌, List, [], ◌∷◌, ℕ, ◌+◌, ◌-◌, ◌*◌, ◌≤◌, ◌<◌, length, get_or, take, drop, Ok, Err}
 use Rattle.octets.specs.Written.{written}
-use Rattle.calls.specs.Refusal.{refused, told, Ended, leaving, length_says}
-use Rattle.calls.specs.declared.Length.TheVariants as answered
+use Rattle.calls.specs.declared.Refusal.{Refusal}
+use Rattle.calls.specs.Refusal.{refused, told, Ended, leaving, number, says}
 use Rattle.record.specs.Recorded.{Recorded, AllInRange, Octets, numbers_of, octets_of, Lent}
 use Rattle.record.specs.Trailer.{record_of}
-use Rattle.record.specs.Call.{Taken, Writes, ReadLent, Reads, read_says}
-use Rattle.record.specs.declared.Reading.TheVariants.{Units, Refused}
+use Rattle.record.specs.Call.{Taken, Writes, ReadLent, Reads}
 use Rattle.record.specs.Form.{offset, Channels, Formed}
 
 abbrev pub Numbers : List ℕ → Type 0
@@ -124,10 +123,7 @@ abbrev pub ReadsOnce : Type 0
 ReadsOnce = (s : List ℕ) (lent : ReadLent) (d e : Ended ℕ ReadLent) → Reads s lent d → Reads s lent e → d ≡ e
 
 abbrev pub SaysSo : Type 0
-SaysSo =
-    (n k : ℕ)
-    → (read_says (Units n) ≡ told n) × (read_says (Refused k) ≡ refused k) × (length_says (answered.Octets n) ≡ told n)
-    × (length_says (answered.Refused k) ≡ refused k)
+SaysSo = (n : ℕ) (r : Refusal) → (says (Ok n) ≡ told n) × (says {A = ℕ} (Err r) ≡ refused (number r))
 
 -- the ticket's unit, 10 80 on channel 5, is taken
 abbrev pub ExampleTaken : Type 0

@@ -1,69 +1,51 @@
 // The nightly call record (document 02, ticket 1): units in order, then a trailer.
 #![tactic(auto)]
 
-mod places; // places.rt: the channels of a list, ascending
+mod place; // place.rt: what is known of a channel, at its place in the trailer
+mod places; // places.rt: the places of a list's channels, and the trailer made of them
 mod reader; // reader.rt: the walks over a record
-mod trailer; // trailer.rt: what is known of each channel, and the trailer made of it
-mod unit; // unit.rt: a unit's ranges and its header
-mod writer; // writer.rt: the walks over a list of units
+mod unit; // unit.rt: a unit's numbers, their ranges, and its header
+mod writer; // writer.rt: a list of units as it is lent, and the walks over it
 
-ghost use Rattle.calls.specs.Refusal.{ended, length_says};
-ghost use Rattle.record.specs.Call.{Writes, Reads, read_says};
+ghost use Rattle.calls.specs.Refusal.{ended, says};
+ghost use Rattle.record.specs.Call.{Writes, Reads};
 
-use crate::reader::Found;
-use calls::Length;
-
-// How many units were read, or the refusal's number.
-#[derive(Clone, Copy)]
-pub enum Reading {
-    Units(usize),
-    Refused(u8),
-}
+use crate::places::TRAILER_OCTETS;
+use crate::unit::{HEADER_OCTETS, NUMBERS};
+use crate::writer::Lent;
+use calls::Refusal;
 
 // The octets of the longest record: those before the trailer, and the trailer.
-pub const LONGEST_RECORD: usize = trailer::MOST_BEFORE + trailer::TRAILER_OCTETS;
+pub const LONGEST_RECORD: usize = writer::MOST_BEFORE + TRAILER_OCTETS;
 
 // Writes the record of the units to the front of `output`, and answers how many octets it has: refusals 15, 12, 2, 3. A unit is four
 // of the numbers (channel, badge, changed count, length); the units' octets stand one behind another in `content`.
-pub fn write(numbers: &[u16], content: &[u8], output: &mut [u8]) -> Length
-    ensures { Writes numbers.now content.now output.old (ended (length_says result) output.new) }
+pub fn write(numbers: &[u16], content: &[u8], output: &mut [u8]) -> Result<usize, Refusal>
+    ensures { Writes numbers.now content.now output.old (ended (says result) output.new) }
 {
-    if !writer::is_list(numbers, content) {
-        return Length::Refused(15);
+    let lent = Lent::of(numbers, content).ok_or(Refusal::BadForm)?;
+    let mut places = lent.places()?;
+    let before = lent.octets()?;
+    if output.len() < before + TRAILER_OCTETS {
+        return Err(Refusal::NoRoom);
     }
-    let used = writer::used_of(numbers);
-    if places::MOST_CHANNELS < used.count {
-        return Length::Refused(12);
-    }
-    if writer::is_long(numbers, content) {
-        return Length::Refused(2);
-    }
-    let before = unit::HEADER_OCTETS * (numbers.len() / 4) + content.len();
-    if output.len() < before + trailer::TRAILER_OCTETS {
-        return Length::Refused(3);
-    }
-    let tally = writer::write_units(numbers, content, used, output);
-    let end = trailer::made(used, tally, (numbers.len() / 4) as u32, before as u32);
-    octets::write(output, before, &end);
-    Length::Octets(before + trailer::TRAILER_OCTETS)
+    lent.write(&mut places, output);
+    let trailer = places.trailer(lent.units() as u32, before as u32);
+    octets::write(output, before, &trailer);
+    Ok(before + TRAILER_OCTETS)
 }
 
 // Reads a record: its units' numbers to the front of `numbers`, their octets to the front of `content`; answers how many units there
 // are. Refusals 15, 3.
-pub fn read(input: &[u8], numbers: &mut [u16], content: &mut [u8]) -> Reading
+pub fn read(input: &[u8], numbers: &mut [u16], content: &mut [u8]) -> Result<usize, Refusal>
     ensures { Reads input.now (record { numbers = numbers.old; octets = content.old })
-        (ended (read_says result) (record { numbers = numbers.new; octets = content.new })) }
+        (ended (says result) (record { numbers = numbers.new; octets = content.new })) }
 {
-    let Found::Units(count) = reader::find(input) else {
-        return Reading::Refused(15);
-    };
-    let before = input.len() - trailer::TRAILER_OCTETS;
-    if numbers.len() / 4 < count {
-        return Reading::Refused(3);
+    let count = reader::find(input).ok_or(Refusal::BadForm)?;
+    let before = input.len() - TRAILER_OCTETS;
+    if numbers.len() / NUMBERS < count || content.len() < before - HEADER_OCTETS * count {
+        return Err(Refusal::NoRoom);
     }
-    if content.len() < before - unit::HEADER_OCTETS * count {
-        return Reading::Refused(3);
-    }
-    reader::deliver(&input[..before], numbers, content);
-    Reading::Units(count)
+    reader::deliver(&input[..before], count, numbers, content);
+    Ok(count)
 }

@@ -1,93 +1,95 @@
-// The walks over a list of units: whether it is one, which channels it has, and its octets.
-ghost use Rattle.std.specs.Prelude.{◌≡◌, true, ◌↔◌, ◌%◌, ltb, length};
-ghost use Rattle.record.specs.Trailer.{most_before};
-ghost use Rattle.record.specs.Walk.{UsedBy, Listed, before_of, Ready, Wrote};
+// A list of units as it is lent: whether it is one, which channels it has, how many octets it takes, and its units as they are written.
+ghost use Rattle.std.specs.Prelude.{◌≡◌, ◌/◌, ◌%◌, length};
 
-use crate::places::Used;
-use crate::trailer::Tally;
-use crate::{places, trailer, unit};
+use crate::places::Places;
+use crate::unit::{HEADER_OCTETS, Header, NUMBERS, Numbers};
+use calls::Refusal;
 
-// Whether the numbers and the octets are those of units in range.
-pub fn is_list(numbers: &[u16], content: &[u8]) -> bool
-    ensures { result ≡ true ↔ Listed numbers.now content.now }
-{
-    if numbers.len() % 4 != 0 {
-        return false;
-    }
-    let mut left = content.len();
-    let mut at = 0;
-    while at < numbers.len() {
-        let n = numbers[at + 3];
-        if !unit::is_unit(numbers[at + 1], numbers[at + 2], n) {
-            return false;
+pub const MOST_BEFORE: usize = 1048576;
+
+// Numbers and octets that are those of units in range: four numbers to a unit, and the units' octets, one unit behind another.
+#[derive(Clone, Copy)]
+pub struct Lent<'a> {
+    numbers: &'a [u16],
+    content: &'a [u8],
+    ghost whole: { length numbers.now % 4 ≡ 0 },
+}
+
+impl<'a> Lent<'a> {
+    ghost use Rattle.record.specs.Walk.{LentIs, PlacesBy, Before, Ready, Wrote};
+
+    // The list, if it is one.
+    pub fn of(numbers: &'a [u16], content: &'a [u8]) -> Option<Lent<'a>>
+        ensures { LentIs numbers.now content.now result }
+    {
+        if numbers.len() % NUMBERS != 0 {
+            return None;
         }
-        if left < n as usize {
-            return false;
+        let mut left = content.len();
+        for four in numbers.chunks_exact(NUMBERS) {
+            let unit = Numbers::of(four);
+            let length = unit.length as usize;
+            if !unit.are_in_range() || left < length {
+                return None;
+            }
+            left -= length;
         }
-        left -= n as usize;
-        at += 4;
+        if left != 0 {
+            return None;
+        }
+        Some(Lent { numbers, content })
     }
-    left == 0
-}
 
-// The channels of the units.
-pub fn used_of(numbers: &[u16]) -> Used
-    requires { length numbers.now % 4 ≡ 0 }
-    ensures { UsedBy numbers.now result }
-{
-    let mut all = places::none();
-    let mut at = 0;
-    while at < numbers.len() {
-        all = places::with_channel(all, numbers[at]);
-        at += 4;
+    // How many units there are.
+    pub fn units(&self) -> usize
+        ensures { result ≡ length self.now.numbers.now / 4 }
+    {
+        self.numbers.len() / NUMBERS
     }
-    all
-}
 
-// Whether the units take more octets than may stand before a trailer.
-pub fn is_long(numbers: &[u16], content: &[u8]) -> bool
-    ensures { result ≡ ltb most_before (before_of numbers.now content.now) }
-{
-    let units = numbers.len() / 4;
-    if trailer::MOST_BEFORE < units {
-        return true;
+    // The channels of the units, each with a place, or that they are more than there are places.
+    pub fn places(&self) -> Result<Places, Refusal>
+        ensures { PlacesBy self.now.numbers.now result }
+    {
+        let mut places = Places::none();
+        for four in self.numbers.chunks_exact(NUMBERS) {
+            places.insert(four[0])?;
+        }
+        Ok(places)
     }
-    if trailer::MOST_BEFORE < content.len() {
-        return true;
-    }
-    trailer::MOST_BEFORE < unit::HEADER_OCTETS * units + content.len()
-}
 
-// Writes the units, each behind the one before it, from the front of `output`, and tells what the trailer has to say.
-pub fn write_units(numbers: &[u16], content: &[u8], used: Used, output: &mut [u8]) -> Tally
-    requires { Ready numbers.now content.now used (length output.old) }
-    ensures { Wrote numbers.now content.now output.old output.new result }
-{
-    let channels = used.channels;
-    let count = used.count;
-    let mut tally = trailer::none();
-    let mut at = 0;
-    let mut from = 0;
-    let mut to = 0;
-    while at < numbers.len() {
-        let u = unit::numbers_at(numbers, at);
-        let i = places::place_of(&channels, count, u.channel);
-        let n = u.length as usize;
-        let end = from + n;
-        let back = tally.lasts[i];
-        unit::put(
-            output,
-            to,
-            u.channel,
-            u.badge,
-            u.changed,
-            back,
-            &content[from..end],
-        );
-        tally = trailer::noted(tally, i, to as u32, u.badge);
-        to += unit::HEADER_OCTETS + n;
-        from = end;
-        at += 4;
+    // The octets that the units take, or that they are more than may stand before a trailer.
+    pub fn octets(&self) -> Result<usize, Refusal>
+        ensures { Before self.now.numbers.now self.now.content.now result }
+    {
+        let before = self
+            .units()
+            .saturating_mul(HEADER_OCTETS)
+            .saturating_add(self.content.len());
+        if MOST_BEFORE < before {
+            return Err(Refusal::BadLength);
+        }
+        Ok(before)
     }
-    tally
+
+    // Writes the units, each behind the one before it, from the front of `output`, and notes each at its channel's place.
+    pub fn write(&self, places: &mut Places, output: &mut [u8])
+        requires { Ready self.now.numbers.now self.now.content.now places.old (length output.old) }
+        ensures { Wrote self.now.numbers.now self.now.content.now output.old output.new places.new }
+    {
+        let mut left = self.content;
+        let mut to = 0;
+        for four in self.numbers.chunks_exact(NUMBERS) {
+            let unit = Numbers::of(four);
+            let (own, behind) = left.split_at(unit.length as usize);
+            let back = places.note(unit.channel, to as u32, unit.badge);
+            let header = Header {
+                numbers: unit,
+                back,
+            };
+            header.put(output, to, own);
+            to += HEADER_OCTETS + own.len();
+            left = behind;
+        }
+    }
 }

@@ -2,140 +2,115 @@
 // record can, so a list with a unit that does not fit is past the limit, and is refused: 15 and 12 come before 2, and are asked of what is
 // known of every unit.
 use crate::line::Unit;
-use calls::Length;
+use calls::Refusal;
 
 // The channels that are kept of a list: one more than a record may have.
-pub const CHANNELS: usize = 17;
+const CHANNELS: usize = 17;
 
-// How many units and octets are in the buffers, and how many channels all units have; whether one of them is out of range; and whether
-// one did not fit.
-#[derive(Clone, Copy)]
-pub struct List {
-    pub units: usize,
-    pub octets: usize,
-    pub channels: usize,
-    pub out_of_range: bool,
-    pub past: bool,
-}
-
-// No units.
-pub fn none() -> List {
-    List {
-        units: 0,
-        octets: 0,
-        channels: 0,
-        out_of_range: false,
-        past: false,
-    }
+// The buffers, as the library takes them, and how many units and octets stand in them; the channels that all units have; whether a unit
+// is out of range; and whether one did not fit. (No heap; and `record::write` takes the units' numbers and their octets so.)
+#[derive(Drop)]
+pub struct List<'a> {
+    numbers: &'a mut [u16],
+    content: &'a mut [u8],
+    units: usize,
+    octets: usize,
+    channels: [u16; CHANNELS],
+    seen: usize,
+    out_of_range: bool,
+    past: bool,
 }
 
 // The numbers of the first n units, or all where there are fewer.
 pub fn first(numbers: &[u16], n: usize) -> &[u16] {
-    if numbers.len() / 4 < n {
-        return numbers;
-    }
-    &numbers[..4 * n]
+    &numbers[..numbers.len().min(n.saturating_mul(4))]
 }
 
 // What the library refuses where there is no room: 3 where there is nothing else to refuse.
-fn refusal(numbers: &[u16], content: &[u8]) -> u8 {
-    let mut room = [0u8; 1];
-    match record::write(numbers, content, &mut room) {
-        Length::Octets(_) => 3,
-        Length::Refused(k) => k,
+fn refusal(numbers: &[u16], content: &[u8]) -> Refusal {
+    match record::write(numbers, content, &mut [0; 1]) {
+        Ok(_) => Refusal::NoRoom,
+        Err(refusal) => refusal,
     }
 }
 
-// Whether a channel is among those of a list.
-fn is_seen(list: &[u16], channel: u16) -> bool {
-    for j in 0..list.len() / 4 {
-        if list[4 * j] == channel {
-            return true;
+impl<'a> List<'a> {
+    // No units.
+    pub fn new(numbers: &'a mut [u16], content: &'a mut [u8]) -> List<'a> {
+        List {
+            numbers,
+            content,
+            units: 0,
+            octets: 0,
+            channels: [0; CHANNELS],
+            seen: 0,
+            out_of_range: false,
+            past: false,
         }
     }
-    false
-}
 
-// Puts a clean unit of one octet behind the first `count`, if it is the channel's first and there is room; how many there are then.
-fn see(seen: &mut [u16], count: usize, channel: u16) -> usize {
-    if seen.len() / 4 <= count {
-        return count;
+    // How many units stand in the buffers.
+    pub fn units(&self) -> usize {
+        self.units
     }
-    if is_seen(first(seen, count), channel) {
-        return count;
-    }
-    octets::write_numbers(seen, 4 * count, &[channel, 0, 0, 1]);
-    count + 1
-}
 
-// Puts a unit behind those that are in the buffers.
-fn keep(list: List, four: &[u16], own: &[u8], numbers: &mut [u16], content: &mut [u8]) -> List {
-    let mut next = list;
-    let n = list.units;
-    let at = list.octets;
-    next.past = true;
-    if numbers.len() / 4 <= n {
-        return next;
+    // Keeps a channel, if it is new and there is room.
+    fn see(&mut self, channel: u16) {
+        if self.seen < CHANNELS && !self.channels[..self.seen].contains(&channel) {
+            self.channels[self.seen] = channel;
+            self.seen += 1;
+        }
     }
-    if numbers.len() - 4 * n < four.len() {
-        return next;
-    }
-    if content.len() < at {
-        return next;
-    }
-    if content.len() - at < own.len() {
-        return next;
-    }
-    octets::write_numbers(numbers, 4 * n, four);
-    octets::write(content, at, own);
-    next.past = list.past;
-    next.units = n + 1;
-    next.octets = at + own.len();
-    next
-}
 
-// The list with one unit more.
-pub fn add(
-    list: List,
-    unit: Unit,
-    own: &[u8],
-    numbers: &mut [u16],
-    content: &mut [u8],
-    seen: &mut [u16],
-) -> List {
-    let four = [unit.channel, unit.badge, unit.changed, unit.length];
-    let mut next = list;
-    if refusal(&four, own) == 15 {
-        next.out_of_range = true;
-        return next;
+    // Puts a unit behind those that are in the buffers, if there is room.
+    fn keep(&mut self, four: &[u16; 4], octets: &[u8]) -> Option<()> {
+        let numbers = self.numbers.get_mut(self.units.checked_mul(4)?..)?;
+        numbers.get_mut(..4)?.copy_from_slice(four);
+        let content = self.content.get_mut(self.octets..)?;
+        content.get_mut(..octets.len())?.copy_from_slice(octets);
+        self.units += 1;
+        self.octets += octets.len();
+        Some(())
     }
-    next.channels = see(seen, list.channels, unit.channel);
-    keep(next, &four, own, numbers, content)
-}
 
-// What a list past the limit is refused with: the units of its channels are refused 12 if there are too many.
-fn past(channels: usize, seen: &[u16]) -> u8 {
-    let clean = [0u8; CHANNELS];
-    if refusal(first(seen, channels), octets::front(&clean, channels)) == 12 {
-        return 12;
+    // Takes one unit more.
+    pub fn add(&mut self, unit: Unit<'_>) {
+        let length = u16::try_from(unit.octets.len()).unwrap_or(u16::MAX);
+        let four = [unit.channel, unit.badge, unit.changed, length];
+        if refusal(&four, unit.octets) == Refusal::BadForm {
+            self.out_of_range = true;
+            return;
+        }
+        self.see(unit.channel);
+        if self.keep(&four, unit.octets).is_none() {
+            self.past = true;
+        }
     }
-    2
-}
 
-// Writes the record of the whole list to the front of `output`.
-pub fn write(
-    list: List,
-    numbers: &[u16],
-    content: &[u8],
-    seen: &[u16],
-    output: &mut [u8],
-) -> Length {
-    if list.out_of_range {
-        return Length::Refused(15);
+    // What a list past the limit is refused with: clean units of one octet, one for each channel, are refused 12 if there are too many.
+    fn past(&self) -> Refusal {
+        let clean = [0u8; CHANNELS];
+        let mut numbers = [0u16; 4 * CHANNELS];
+        for (j, channel) in self.channels.iter().enumerate() {
+            numbers[4 * j] = *channel;
+            numbers[4 * j + 3] = 1;
+        }
+        let units = first(&numbers, self.seen);
+        if refusal(units, octets::front(&clean, self.seen)) == Refusal::NoPlace {
+            return Refusal::NoPlace;
+        }
+        Refusal::BadLength
     }
-    if list.past {
-        return Length::Refused(past(list.channels, seen));
+
+    // Writes the record of the whole list to the front of `output`, and tells how many octets it has.
+    pub fn write(&self, output: &mut [u8]) -> Result<usize, Refusal> {
+        if self.out_of_range {
+            return Err(Refusal::BadForm);
+        }
+        if self.past {
+            return Err(self.past());
+        }
+        let numbers = first(self.numbers, self.units);
+        record::write(numbers, octets::front(self.content, self.octets), output)
     }
-    let kept = first(numbers, list.units);
-    record::write(kept, octets::front(content, list.octets), output)
 }

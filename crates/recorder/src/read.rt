@@ -1,41 +1,25 @@
 // `recorder read RECORD`.
-use crate::files::Filled;
-use crate::write::Stream;
-use crate::{files, list, room, table, write};
+use crate::room::{NUMBERS, OCTETS};
+use crate::write::{NoRecord, Stream};
+use crate::{files, list, room, table};
 use print::Output;
-use record::Reading;
+use print::values::Hex;
+use std::fmt::Write;
 use std::io::Input;
 use std::rt::Files;
 
-// Puts a number and a space.
-fn word<R: Print + Eprint>(out: &mut Output<'_, R>, number: u16) {
-    out.number(number as u64, 0);
-    out.put(b" ");
-}
-
-// Puts the line of a unit, of which the numbers are the first three of four.
-fn unit<R: Print + Eprint>(out: &mut Output<'_, R>, four: &[u16], own: &[u8]) {
-    if four.len() < 3 {
-        return;
-    }
-    word(out, four[0]);
-    word(out, four[1]);
-    word(out, four[2]);
-    out.hex(own);
-    out.put(b"\n");
-}
-
-// Puts the units' lines.
+// Puts the units' lines: of a unit the first three of its four numbers, and its octets, of which the fourth says how many there are.
 fn units<R: Print + Eprint>(out: &mut Output<'_, R>, numbers: &[u16], content: &[u8]) {
-    let mut at = 0;
-    for j in 0..numbers.len() / 4 {
-        let four = &numbers[4 * j..4 * j + 4];
-        let length = four[3] as usize;
-        if content.len() - at < length {
+    let mut ahead = content;
+    for four in numbers.chunks_exact(4) {
+        let [channel, badge, changed, length] = four else {
             return;
-        }
-        unit(out, four, &content[at..at + length]);
-        at += length;
+        };
+        let Some((own, behind)) = ahead.split_at_checked(usize::from(*length)) else {
+            return;
+        };
+        let _ = writeln!(out, "{channel} {badge} {changed} {}", Hex(own));
+        ahead = behind;
     }
 }
 
@@ -49,22 +33,23 @@ fn show(rt: &(impl Print + Eprint), record: &[u8], numbers: &[u16], content: &[u
 
 // Reads a record, and answers.
 fn record(rt: &(impl Print + Eprint), record: &[u8]) {
-    let mut numbers = room::numbers();
-    let mut content = room::octets();
+    let mut numbers: [u16; NUMBERS] = room::buffer();
+    let mut content: [u8; OCTETS] = room::buffer();
     match record::read(record, &mut numbers, &mut content) {
-        Reading::Units(n) => show(rt, record, list::first(&numbers, n), &content),
-        Reading::Refused(k) => write::refused(rt, Stream::Output, "refused ", k as u64),
+        Ok(n) => show(rt, record, list::first(&numbers, n), &content),
+        Err(refusal) => Stream::Output.refuse(rt, &NoRecord::Refused(refusal)),
     }
 }
 
 // A file is read as far as one octet past the longest record, which is no record whatever follows.
 pub fn run(rt: &(impl Print + Eprint + Input + Files), from: &str) {
-    let Some(mut source) = files::open(rt, from) else {
-        return;
+    let mut input: [u8; OCTETS] = room::buffer();
+    let read = match files::open(rt, from) {
+        Ok(mut source) => files::fill(&mut source, &mut input),
+        Err(error) => Err(error),
     };
-    let mut input = room::octets();
-    match files::fill(rt, &mut source, from, &mut input) {
-        Filled::Octets(n) => record(rt, octets::front(&input, n)),
-        Filled::Failed => (),
+    match read {
+        Ok(n) => record(rt, octets::front(&input, n)),
+        Err(error) => print::fail(rt, from, &error),
     }
 }

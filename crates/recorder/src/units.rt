@@ -1,177 +1,65 @@
 // The lines of a file of any length, a chunk at a time, and the list of their units.
-use crate::files::Filled;
-use crate::line::{Found, Line};
+use crate::line::{Line, Malformed};
 use crate::list::List;
-use crate::{files, line, list};
+use crate::write::NoRecord;
 use std::io::Read;
 
 // How many octets are read at once.
 const CHUNK: usize = 65536;
 
-// The line that is being read and its number, from 1; the number of the first that has not the form, or 0; the units of those before;
-// whether there is nothing more to read, and whether that is so since the file cannot be read.
-#[derive(Clone, Copy)]
-struct Session {
+// The line that is being read and its number, from 1; the number of the first that has not the form; and the units of those before.
+#[derive(Drop)]
+struct Session<'a> {
     line: Line,
     number: u64,
-    malformed: u64,
-    list: List,
-    ended: bool,
-    failed: bool,
+    malformed: Option<u64>,
+    list: List<'a>,
 }
 
-// The list of a whole file; or the number of its first line that has not the form; or a file that cannot be read.
-#[derive(Clone, Copy)]
-pub enum Taken {
-    List(List),
-    Malformed(u64),
-    Failed,
+impl<'a> Session<'a> {
+    // Takes what the line says, and begins the next. Numbers of lines go as far as numbers go.
+    fn finish(&mut self) {
+        if self.malformed.is_none() {
+            match self.line.end() {
+                Ok(None) => (),
+                Ok(Some(unit)) => self.list.add(unit),
+                Err(Malformed) => self.malformed = Some(self.number),
+            }
+        }
+        self.line = Line::new();
+        self.number = self.number.saturating_add(1);
+    }
+
+    // Takes octets, one by one.
+    fn take(&mut self, octets: &[u8]) {
+        for octet in octets {
+            match *octet {
+                b'\n' => self.finish(),
+                other => self.line.take(other),
+            }
+        }
+    }
 }
 
-// Nothing is read yet.
-fn open() -> Session {
-    Session {
-        line: line::begin(),
+// Takes the units of a file to its end into a list without any; the last line may lack its newline. A proved loop has to end, and nothing
+// says that a file does: so the loop counts its turns, to a number that no run uses up.
+pub fn take<'a>(from: &mut impl Read, list: List<'a>) -> Result<List<'a>, NoRecord> {
+    let mut session = Session {
+        line: Line::new(),
         number: 1,
-        malformed: 0,
-        list: list::none(),
-        ended: false,
-        failed: false,
-    }
-}
-
-// The number of the next line, as far as numbers go.
-fn following(number: u64) -> u64 {
-    if number == u64::MAX {
-        return number;
-    }
-    number + 1
-}
-
-// The session with the next line begun.
-fn next_line(session: Session) -> Session {
-    let mut next = session;
-    next.line = line::begin();
-    next.number = following(session.number);
-    next
-}
-
-// Takes what the line says, and begins the next.
-fn finish(
-    session: Session,
-    unit: &[u8; line::MOST],
-    numbers: &mut [u16],
-    content: &mut [u8],
-    seen: &mut [u16],
-) -> Session {
-    let mut next = next_line(session);
-    if 0 < session.malformed {
-        return next;
-    }
-    let line = session.line;
-    let before = session.list;
-    match line::end(line) {
-        Found::Nothing => next,
-        Found::Malformed => {
-            next.malformed = session.number;
-            next
-        }
-        Found::Unit(u) => {
-            let own = octets::front(unit, u.length as usize);
-            next.list = list::add(before, u, own, numbers, content, seen);
-            next
-        }
-    }
-}
-
-// Takes one octet.
-fn step(
-    session: Session,
-    octet: u8,
-    unit: &mut [u8; line::MOST],
-    numbers: &mut [u16],
-    content: &mut [u8],
-    seen: &mut [u16],
-) -> Session {
-    if octet == b'\n' {
-        return finish(session, unit, numbers, content, seen);
-    }
-    let line = session.line;
-    let mut next = session;
-    next.line = line::take(line, unit, octet);
-    next
-}
-
-// Takes octets, one by one.
-fn feed(
-    session: Session,
-    read: &[u8],
-    unit: &mut [u8; line::MOST],
-    numbers: &mut [u16],
-    content: &mut [u8],
-    seen: &mut [u16],
-) -> Session {
-    let mut next = session;
-    for octet in read {
-        next = step(next, *octet, unit, numbers, content, seen);
-    }
-    next
-}
-
-// What came of a whole file.
-fn outcome(session: Session) -> Taken {
-    if session.failed {
-        return Taken::Failed;
-    }
-    if 0 < session.malformed {
-        return Taken::Malformed(session.malformed);
-    }
-    let list = session.list;
-    Taken::List(list)
-}
-
-// Reads once, and takes what was read.
-fn take_chunk(
-    rt: &impl Eprint,
-    session: Session,
-    from: &mut impl Read,
-    path: &str,
-    unit: &mut [u8; line::MOST],
-    numbers: &mut [u16],
-    content: &mut [u8],
-    seen: &mut [u16],
-) -> Session {
-    let mut chunk = [0u8; CHUNK];
-    let mut next = session;
-    next.ended = true;
-    let Filled::Octets(n) = files::read_some(rt, from, path, &mut chunk) else {
-        next.failed = true;
-        return next;
+        malformed: None,
+        list,
     };
-    if n == 0 {
-        return next;
-    }
-    let read = octets::front(&chunk, n);
-    feed(session, read, unit, numbers, content, seen)
-}
-
-// Takes the units of a file to its end; the last line may lack its newline. A proved loop has to end, and nothing says that a file does: so
-// the loop counts its turns, to a number that no run uses up.
-pub fn take(
-    rt: &impl Eprint,
-    from: &mut impl Read,
-    path: &str,
-    numbers: &mut [u16],
-    content: &mut [u8],
-    seen: &mut [u16],
-) -> Taken {
-    let mut unit = [0u8; line::MOST];
-    let mut session = open();
+    let mut chunk = [0u8; CHUNK];
     for _ in 0..u64::MAX {
-        session = take_chunk(rt, session, from, path, &mut unit, numbers, content, seen);
-        if session.ended {
-            break;
+        match from.read(&mut chunk)? {
+            0 => break,
+            n => session.take(&chunk[..n]),
         }
     }
-    outcome(finish(session, &unit, numbers, content, seen))
+    session.finish();
+    match session.malformed {
+        Some(n) => Err(NoRecord::Malformed(n)),
+        None => Ok(session.list),
+    }
 }

@@ -1,102 +1,103 @@
 // `recorder write UNITS RECORD`. Nothing is opened for writing before the answer is known.
 use crate::list::List;
-use crate::units::Taken;
-use crate::{files, list, room, units};
-use calls::Length;
+use crate::room::{NUMBERS, OCTETS};
+use crate::{files, room, units};
+use calls::Refusal;
+use std::fmt::Display;
 use std::io::Input;
 use std::rt::Files;
+use std::{fmt, io};
+
+// Why there is no record: the number of the list's first line that has not the form; what the library refuses; or a file that cannot be
+// read.
+#[derive(Drop)]
+pub enum NoRecord {
+    Malformed(u64),
+    Refused(Refusal),
+    Unread(io::Error),
+}
+
+impl Display for NoRecord {
+    fn fmt<W: fmt::Write>(&self, f: &mut fmt::Formatter<W>) -> fmt::Result {
+        match self {
+            NoRecord::Malformed(line) => write!(f, "malformed {line}"),
+            NoRecord::Refused(refusal) => write!(f, "refused {refusal}"),
+            NoRecord::Unread(error) => write!(f, "{error}"),
+        }
+    }
+}
+
+impl From<Refusal> for NoRecord {
+    fn from(refusal: Refusal) -> NoRecord {
+        NoRecord::Refused(refusal)
+    }
+}
+
+impl From<io::Error> for NoRecord {
+    fn from(error: io::Error) -> NoRecord {
+        NoRecord::Unread(error)
+    }
+}
 
 // Where an answer goes: standard output, or standard error.
-#[derive(Clone, Copy)]
+#[derive(Clone, Copy, Debug, PartialEq, Eq)]
 pub enum Stream {
     Output,
     Errors,
 }
 
-// Says a word and a number; that they cannot be written shows at the end of the answer.
-pub fn say(rt: &(impl Print + Eprint), to: Stream, word: &str, n: u64) {
-    let _ = match to {
-        Stream::Output => print!(rt; "{word}{n}"),
-        Stream::Errors => eprint!(rt; "{word}{n}"),
-    };
-}
-
-// Writes the record to its file, and says how much it is.
-fn written(
-    rt: &(impl Print + Eprint + Files),
-    answers: Stream,
-    to: &str,
-    units: usize,
-    record: &[u8],
-) {
-    if !files::write(rt, to, record) {
-        return;
-    }
-    say(rt, answers, "units ", units as u64);
-    say(rt, answers, " octets ", record.len() as u64);
-    end(rt, answers);
-}
-
-// Ends an answer; says so where it cannot be written.
-fn end(rt: &(impl Print + Eprint), to: Stream) {
-    let ended = match to {
-        Stream::Output => rt.print("\n"),
-        Stream::Errors => rt.eprint("\n"),
-    };
-    if let Err(error) = ended {
-        print::fail(rt, "the answer", &error);
-    }
-}
-
-// Says why there is no record, on standard error too: `./kyte` tells by that what the program answered.
-pub fn refused(rt: &(impl Print + Eprint), answers: Stream, word: &str, n: u64) {
-    say(rt, answers, word, n);
-    end(rt, answers);
-    match answers {
-        Stream::Output => {
-            say(rt, Stream::Errors, word, n);
-            end(rt, Stream::Errors);
+impl Stream {
+    // Where the answer goes: beside the record, if that is written to standard output.
+    fn beside(to: &str) -> Stream {
+        if to == "-" {
+            Stream::Errors
+        } else {
+            Stream::Output
         }
-        Stream::Errors => (),
+    }
+
+    // Says an answer; says so where it cannot be written.
+    fn say(self, rt: &(impl Print + Eprint), answer: &impl Display) {
+        let said = match self {
+            Stream::Output => println!(rt; "{answer}"),
+            Stream::Errors => eprintln!(rt; "{answer}"),
+        };
+        if let Err(error) = said {
+            print::fail(rt, "the answer", &error);
+        }
+    }
+
+    // Says why there is no record, on standard error too: `./kyte` tells by that what the program answered.
+    pub fn refuse(self, rt: &(impl Print + Eprint), why: &NoRecord) {
+        self.say(rt, why);
+        if self == Stream::Output {
+            Stream::Errors.say(rt, why);
+        }
     }
 }
 
-// Makes the record of a list, and answers.
+// Makes the record of a list, and tells how many units it has, and octets.
 fn record(
-    rt: &(impl Print + Eprint + Files),
-    answers: Stream,
-    to: &str,
-    list: List,
-    numbers: &[u16],
-    content: &[u8],
-    seen: &[u16],
-) {
-    let mut output = room::octets();
-    match list::write(list, numbers, content, seen, &mut output) {
-        Length::Octets(n) => written(rt, answers, to, list.units, octets::front(&output, n)),
-        Length::Refused(k) => refused(rt, answers, "refused ", k as u64),
-    }
-}
-
-// Where the answer goes: beside the record, if that is written to standard output.
-fn answers(to: &str) -> Stream {
-    if to == "-" {
-        return Stream::Errors;
-    }
-    Stream::Output
+    rt: &(impl Input + Files),
+    from: &str,
+    output: &mut [u8],
+) -> Result<(usize, usize), NoRecord> {
+    let mut source = files::open(rt, from)?;
+    let mut numbers: [u16; NUMBERS] = room::buffer();
+    let mut content: [u8; OCTETS] = room::buffer();
+    let list = units::take(&mut source, List::new(&mut numbers, &mut content))?;
+    Ok((list.units(), list.write(output)?))
 }
 
 pub fn run(rt: &(impl Print + Eprint + Input + Files), from: &str, to: &str) {
-    let Some(mut source) = files::open(rt, from) else {
-        return;
-    };
-    let mut numbers = room::numbers();
-    let mut content = room::octets();
-    let mut seen = [0u16; 4 * list::CHANNELS];
-    let taken = units::take(rt, &mut source, from, &mut numbers, &mut content, &mut seen);
-    match taken {
-        Taken::List(list) => record(rt, answers(to), to, list, &numbers, &content, &seen),
-        Taken::Malformed(n) => refused(rt, answers(to), "malformed ", n),
-        Taken::Failed => (),
+    let answers = Stream::beside(to);
+    let mut output: [u8; OCTETS] = room::buffer();
+    match record(rt, from, &mut output) {
+        Ok((units, octets)) => match files::write(rt, to, octets::front(&output, octets)) {
+            Ok(()) => answers.say(rt, &format_args!("units {units} octets {octets}")),
+            Err(error) => print::fail(rt, files::name(to), &error),
+        },
+        Err(NoRecord::Unread(error)) => print::fail(rt, from, &error),
+        Err(why) => answers.refuse(rt, &why),
     }
 }

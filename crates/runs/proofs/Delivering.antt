@@ -25,7 +25,8 @@ use Rattle.table.specs.Table.{entry_of}
 use Rattle.channels.specs.declared.Channels.{Channels}
 use Rattle.multiplex.specs.Pieces.{total}
 use Rattle.multiplex.specs.Demultiplexer.{DemuxLent, delivery, too_small, writes, demultiplexed}
-use Rattle.multiplex.specs.Multiplexer.{MuxLent, Payload, Walk, walked, gathered, multiplex_tests, multiplexed}
+use Rattle.multiplex.specs.declared.multiplexer.Payload.{Payload}
+use Rattle.multiplex.specs.Multiplexer.{MuxLent, Walk, walked, gathered, multiplex_tests, multiplexed}
 use Rattle.multiplex.specs.Units.{UnitOn, units_on}
 use Rattle.multiplex.specs.Calls.{made, finished, telling, ours, called_by}
 use Rattle.multiplex.proofs.Laws.{unit_octets}

@@ -23,7 +23,8 @@ use Rattle.table.specs.Table.{entry_of, is_defined}
 use Rattle.channels.specs.Search.{first}
 use Rattle.channels.specs.Channels.{start, place_of, posted, all_octets}
 use Rattle.multiplex.specs.Pieces.{total}
-use Rattle.multiplex.specs.Multiplexer.{Payload, walked, multiplexed}
+use Rattle.multiplex.specs.declared.multiplexer.Payload.{Payload}
+use Rattle.multiplex.specs.Multiplexer.{walked, multiplexed}
 use Rattle.multiplex.specs.Units.{units_on, units_in, enough_output, enough_units}
 use Rattle.multiplex.specs.Calls as call
 use Rattle.multiplex.specs.Calls.{Answer, ours, called_by}

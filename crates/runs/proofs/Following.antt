@@ -22,7 +22,7 @@ use Rattle.checks.specs.Check.{agrees, eight}
 use Rattle.adaptation.specs.AL2.{risen, whole, is_sendable, is_whole, unit_of, Receipt, settled, due_by, receipt_of, received}
 use Rattle.adaptation.specs.declared.al2.Due.{Due}
 use Rattle.adaptation.specs.declared.al2.Numbers.{Numbers}
-use Rattle.adaptation.specs.declared.al2.Number.TheVariants.{Numbered, Plain}
+use Rattle.std.specs.Prelude.{Some, None}
 use Rattle.channels.specs.declared.Channel.{Channel}
 use Rattle.channels.specs.declared.Channels.{Channels}
 use Rattle.channels.specs.Channels.{place_of, is_in, put, numbering, place_count}
@@ -45,7 +45,7 @@ due_of c = c.numbers.due
 -- the codings l of one call on channel n, where the number i is sent, and the number that is sent next
 pub data SentOne (i : ℕ) : List Coding → ℕ → Type 0 where
   sent-none : SentOne i [] i
-  sent_one : (u w : List ℕ) → is_sendable (Numbered i) u ≡ true → w ≡ whole (Numbered i) u → SentOne i (record { unit = u; octets = w } ∷ []) ((i + 1) % 256)
+  sent_one : (u w : List ℕ) → is_sendable (Some i) u ≡ true → w ≡ whole (Some i) u → SentOne i (record { unit = u; octets = w } ∷ []) ((i + 1) % 256)
 
 -- the channel once a unit was sent with a number
 abbrev rising : Channel → Channel
@@ -63,8 +63,8 @@ module _ (s : Channels) (full : length s.at ≡ place_count) (m : ℕ) (u out : 
       ∙ subst (λ (j : ℕ). (channel_of (put s (place_of s m) (rising (channel_of s m))) j).numbers.sent ≡ ((channel_of s j).numbers.sent + 1) % 256) e
       (ap (λ (y : Channel). y.numbers.sent) (channel-put s m (rising (channel_of s m)) full a.inside refl)) in
       rw (eq-eqb m n e, next)
-      (sent_one u (take k after) (subst (λ (j : ℕ). is_sendable (Numbered (channel_of s j).numbers.sent) u ≡ true) e a.may)
-      (a.octets ∙ ap (λ (j : ℕ). whole (Numbered (channel_of s j).numbers.sent) u) e))
+      (sent_one u (take k after) (subst (λ (j : ℕ). is_sendable (Some (channel_of s j).numbers.sent) u ≡ true) e a.may)
+      (a.octets ∙ ap (λ (j : ℕ). whole (Some (channel_of s j).numbers.sent) u) e))
   sent-by true t after k a (no f) =
       let next : (channel_of t n).numbers.sent ≡ from =
       ap (λ (y : Channels). (channel_of y n).numbers.sent) a.channels
@@ -109,7 +109,7 @@ pub data TakenOne (e : Due) : List Reception → Due → Type 0 where
 plain-stays : (w : List ℕ) (e : Due) → due_by (receipt_of false w e) ≡ e
 plain-stays w e = by (agrees eight w)
   where
-    by : (b : Bool) → due_by (settled Plain b (unit_of false w) e) ≡ e
+    by : (b : Bool) → due_by (settled None b (unit_of false w) e) ≡ e
     by true = refl
     by false = refl
 

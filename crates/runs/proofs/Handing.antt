@@ -22,7 +22,7 @@ use Rattle.calls.specs.Refusal.{Told, refused, told}
 use Rattle.adaptation.specs.AL2.{whole, is_sendable, Receipt, handed_up}
 use Rattle.adaptation.specs.AL2Claims.{as_sent, wholes_from, receipts, in_order}
 use Rattle.adaptation.specs.declared.al2.Due.{Due}
-use Rattle.adaptation.specs.declared.al2.Number.TheVariants.{Numbered}
+use Rattle.std.specs.Prelude.{Some}
 use Rattle.adaptation.proofs.Laws.{next_in_order}
 use Rattle.channels.specs.declared.Channel.{Channel}
 use Rattle.channels.specs.Channels.{start, vacant, fresh, place_of}
@@ -95,7 +95,7 @@ takes n = record {
 
 abbrev pub MayFrom : ℕ → List (List ℕ) → Type 0
 MayFrom i [] = Unit {0}
-MayFrom i (u ∷ l) = (is_sendable (Numbered i) u ≡ true) × MayFrom ((i + 1) % 256) l
+MayFrom i (u ∷ l) = (is_sendable (Some i) u ≡ true) × MayFrom ((i + 1) % 256) l
 
 pub record Coded (i : ℕ) (l : List Coding) : Type 0 where
   pub wholes : map (λ (c : Coding). c.octets) l ≡ wholes_from i (map (λ (c : Coding). c.unit) l)
@@ -152,7 +152,7 @@ pub wholes_without : (i : ℕ) (us : List (List ℕ)) → without_last (wholes_f
 unfolding without_last
 wholes_without i [] = refl
 wholes_without i (u ∷ []) = refl
-wholes_without i (u ∷ v ∷ us) = ap (λ (l : List (List ℕ)). whole (Numbered i) u ∷ l) (wholes_without ((i + 1) % 256) (v ∷ us))
+wholes_without i (u ∷ v ∷ us) = ap (λ (l : List (List ℕ)). whole (Some i) u ∷ l) (wholes_without ((i + 1) % 256) (v ∷ us))
 
 pub may_without : (i : ℕ) (us : List (List ℕ)) → MayFrom i us → MayFrom i (without_last us)
 unfolding without_last

@@ -20,7 +20,7 @@ use Rattle.adaptation.specs.Handed.{longest_unit, is_unit}
 use Rattle.adaptation.specs.AL2.{whole, is_sendable, is_whole, unit_of}
 use Rattle.adaptation.specs.AL2Claims.{as_sent, as_failed, wholes_from, receipts}
 use Rattle.adaptation.specs.AL2Missing.{Passage, intact, damaged, arriving, Shown, shown_of, showing, Passable}
-use Rattle.adaptation.specs.declared.al2.Number.TheVariants.{Numbered}
+use Rattle.std.specs.Prelude.{Some}
 use Rattle.adaptation.proofs.Laws.{whole_length, sizes, missing_is_lost}
 use Rattle.runs.specs.Runs.{other, end_at}
 use Rattle.runs.specs.Demand.{without_last, is_waiting, wholly_sent}
@@ -51,13 +51,13 @@ record Fated (i g : ℕ) (us ws : List (List ℕ)) : Type 0 where
   may : Passable g (passages us ws)
   shows : showing 0 (passages us ws) ≡ shown_in_noise us ws
 
-fated-more : (u w : List ℕ) (us ws : List (List ℕ)) (i g : ℕ) → is_sendable (Numbered i) u ≡ true → length (whole (Numbered i) u) ≡ length w
-    → Noticed (whole (Numbered i) u) w → (b : Bool) → agrees eight w ≡ b → cond b (leb g 127 && has_short_gaps 0 ws) (has_short_gaps (g + 1) ws) ≡ true
+fated-more : (u w : List ℕ) (us ws : List (List ℕ)) (i g : ℕ) → is_sendable (Some i) u ≡ true → length (whole (Some i) u) ≡ length w
+    → Noticed (whole (Some i) u) w → (b : Bool) → agrees eight w ≡ b → cond b (leb g 127 && has_short_gaps 0 ws) (has_short_gaps (g + 1) ws) ≡ true
     → ((h : ℕ) → has_short_gaps h ws ≡ true → Fated ((i + 1) % 256) h us ws) → Fated i g (u ∷ us) (w ∷ ws)
 fated-more u w us ws i g su long noticed true q near f =
     let n = both_true (leb g 127) (has_short_gaps 0 ws) near in
-    let s = sizes (Numbered i) u su in
-    let l = whole_length (Numbered i) u 1 refl in
+    let s = sizes (Some i) u su in
+    let l = whole_length (Some i) u 1 refl in
     let fits : is_unit (longest_unit - 2) u ≡ true = rw (le-leb 1 (length u) s.0, le-leb (length u) (longest_unit - 2) (omega (arith, l, s))) in
     let r = f 0 n.1 in
     record {
@@ -66,8 +66,8 @@ fated-more u w us ws i g su long noticed true q near f =
       shows = rw q (ap (λ (m : List Shown). record { handed = as_sent u; missing = 0 } ∷ m) r.shows);
     }
 fated-more u w us ws i g su long noticed false q near f =
-    let s = sizes (Numbered i) u su in
-    let l = whole_length (Numbered i) u 1 refl in
+    let s = sizes (Some i) u su in
+    let l = whole_length (Some i) u 1 refl in
     let taken : is_whole true w ≡ true = rw (le-leb 3 (length w) (omega (arith, l, s, long)), le-leb (length w) longest_unit (omega (arith, s, long))) in
     let r = f (g + 1) near in
     record {

@@ -22,7 +22,8 @@ use Rattle.table.specs.Table.{entry_of, is_defined}
 use Rattle.table.proofs.Laws.{defined_most, payload_slots_filled, payload_slots_most}
 use Rattle.packets.specs.Packet.{longest, Heading}
 use Rattle.multiplex.specs.Pieces.{total}
-use Rattle.multiplex.specs.Multiplexer.{MuxLent, Payload, Walk, walked, multiplex_tests, multiplexed}
+use Rattle.multiplex.specs.declared.multiplexer.Payload.{Payload}
+use Rattle.multiplex.specs.Multiplexer.{MuxLent, Walk, walked, multiplex_tests, multiplexed}
 use Rattle.multiplex.specs.Calls as call
 use Rattle.multiplex.specs.Calls.{made, telling, ours, called_by, called}
 use Rattle.multiplex.proofs.Laws.{Agrees, walk-agrees}

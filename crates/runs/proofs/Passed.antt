@@ -19,7 +19,7 @@ use lib.Seq.{take-append_seam}
 use Rattle.octets.specs.Each.{each_at, each-length}
 use Rattle.calls.specs.Refusal.{Told, told, Ended, refusing}
 use Rattle.calls.proofs.Laws.{by_test, by_tests}
-use Rattle.calls.specs.declared.Length.TheVariants as sends
+use Rattle.std.specs.Prelude.{Ok}
 use Rattle.adaptation.specs.Handed.{longest_unit, is_unit, Handed, handed}
 use Rattle.adaptation.specs.AL1.{passed}
 use Rattle.adaptation.specs.Sending.{Sends}
@@ -137,7 +137,7 @@ carried-by-plain-AL2 r i n j e q h u may c = rw (as-sent r i n q, c) (plain_rece
 
 -- ---- AL1M
 
-pub sent_front : (b e m : ℕ) (u room out : List ℕ) → Sends b e u room (sends.Octets m) out → length (take m out) ≡ m
+pub sent_front : (b e m : ℕ) (u room out : List ℕ) → Sends b e u room (Ok m) out → length (take m out) ≡ m
 sent_front b e m u room out s =
     let k = s.1 in
     let front : take m out ≡ k.sent = ap₂ take k.count k.written_is ∙ take-append_seam k.sent _ in

@@ -26,7 +26,8 @@ use Rattle.adaptation.specs.Handed.{is_unit}
 use Rattle.channels.specs.declared.Channels.{Channels}
 use Rattle.channels.specs.Channels.{place_of, channel_at, is_in, post_tests, posted, Post, place_count, place_octets}
 use Rattle.multiplex.specs.Pieces.{total}
-use Rattle.multiplex.specs.Multiplexer.{MuxLent, Payload, Walk, walked, gathered, multiplex_tests, multiplexed}
+use Rattle.multiplex.specs.declared.multiplexer.Payload.{Payload}
+use Rattle.multiplex.specs.Multiplexer.{MuxLent, Walk, walked, gathered, multiplex_tests, multiplexed}
 use Rattle.multiplex.specs.Units.{UnitOn}
 use Rattle.multiplex.specs.Calls as call
 use Rattle.multiplex.specs.Calls.{done, made, telling}

@@ -26,7 +26,7 @@
 --                      `LiesThere`)
 --
 -- Assumes nothing.
-use Rattle.std.specs.Prelude.{◌≡◌, Bool, true, false, cond, ◌&&◌, List, [], ◌∷◌, ◌++◌, map, ℕ, ◌≤◌, ◌<◌, eqb, length, get_or, take}
+use Rattle.std.specs.Prelude.{◌≡◌, Bool, true, false, cond, ◌&&◌, List, [], ◌∷◌, ◌++◌, map, ℕ, ◌≤◌, ◌<◌, eqb, length, get_or, take, None, Result, Ok}
 use Rattle.calls.specs.Refusal.{Told, told}
 use Rattle.codeword.specs.Changed.{changed_places}
 use Rattle.codeword.specs.CodeWord.{distance}
@@ -35,15 +35,13 @@ use Rattle.adaptation.specs.AL1.{passed}
 use Rattle.adaptation.specs.AL2.{whole, is_sendable, Receipt, handed_up, received}
 use Rattle.adaptation.specs.AL2Claims.{as_sent, wholes_from, receipts, in_order}
 use Rattle.adaptation.specs.declared.al2.Due.{Due}
-use Rattle.adaptation.specs.declared.al2.Number.TheVariants.{Plain}
 use Rattle.checks.specs.Width.{kind_at}
 use Rattle.adaptation.specs.Sending.{Sends}
 use Rattle.adaptation.specs.Receiving.{RepairLent, Receives, handed_unit}
 use Rattle.adaptation.specs.Claims.{badge_of_sent}
 use Rattle.adaptation.specs.declared.Badge.TheVariants.{Unchecked}
-use Rattle.adaptation.specs.declared.al1m.Received.{Received}
-use Rattle.adaptation.specs.declared.al1m.Received.TheVariants as al1m
-use Rattle.calls.specs.declared.Length.TheVariants as sends
+use Rattle.adaptation.specs.declared.al1m.Judgement.{Judgement}
+use Rattle.calls.specs.declared.Refusal.{Refusal}
 use Rattle.multiplex.specs.Units.{units_on}
 use Rattle.multiplex.specs.Claims.{LiesThere}
 use Rattle.multiplex.specs.Calls as call
@@ -180,8 +178,8 @@ CarriedByAL1 = (r : Run ◌≡◌) → ByAL1 (ending r)
 
 abbrev pub ByPlainAL2 : World → Type 0
 ByPlainAL2 x =
-    (i : Side) (n j : ℕ) (e : Due) → (end_at x (other i)).coming ≡ [] → j < length (wholly_sent (end_at x i) n) → (u : List ℕ) → is_sendable Plain u ≡ true
-    → get_or (wholly_sent (end_at x i) n) j [] ≡ whole Plain u
+    (i : Side) (n j : ℕ) (e : Due) → (end_at x (other i)).coming ≡ [] → j < length (wholly_sent (end_at x i) n) → (u : List ℕ) → is_sendable None u ≡ true
+    → get_or (wholly_sent (end_at x i) n) j [] ≡ whole None u
     → received false (get_or (units_on n (end_at x (other i)).delivered) j []) e ≡ told (handed_up (as_sent u) 0 e)
 
 abbrev pub CarriedByPlainAL2 : Type 0
@@ -190,11 +188,11 @@ CarriedByPlainAL2 = (r : Run ◌≡◌) → ByPlainAL2 (ending r)
 abbrev pub ByAL1M : World → Type 0
 ByAL1M x =
     (i : Side) (n j : ℕ) → (end_at x (other i)).coming ≡ [] → j < length (wholly_sent (end_at x i) n)
-    → (b e m : ℕ) (u room out w : List ℕ) (before after : RepairLent) (a : Received) → Sends b e u room (sends.Octets m) out
+    → (b e m : ℕ) (u room out w : List ℕ) (before after : RepairLent) (a : Result Judgement Refusal) → Sends b e u room (Ok m) out
     → get_or (wholly_sent (end_at x i) n) j [] ≡ take m out → get_or (units_on n (end_at x (other i)).delivered) j [] ≡ w
     → (length w ≡ m)
     × (distance w (take m out) ≤ e → m ≤ length before.repair → e ≤ length before.places → Receives b e w before a after
-    → (a ≡ al1m.Unit (record { badge = badge_of_sent (kind_at b) e (distance w (take m out)); changed = distance w (take m out); length = length u }))
+    → (a ≡ Ok (record { badge = badge_of_sent (kind_at b) e (distance w (take m out)); changed = distance w (take m out); length = length u }))
     × (handed_unit (badge_of_sent (kind_at b) e (distance w (take m out))) w after.repair (length u) ≡ u)
     × (take (distance w (take m out)) after.places ≡ changed_places w (take m out)))
 

@@ -25,7 +25,7 @@ use Rattle.octets.specs.Each.{Each}
 use Rattle.calls.specs.Refusal.{refused, told, refusal}
 use Rattle.channels.specs.declared.Channels.{Channels}
 use Rattle.channels.specs.Channels.{place_of, channel_at}
-use Rattle.multiplex.specs.Multiplexer.{Payload}
+use Rattle.multiplex.specs.declared.multiplexer.Payload.{Payload}
 use Rattle.multiplex.specs.Units.{units_on, enough_output, enough_units}
 use Rattle.multiplex.specs.Calls as call
 use Rattle.multiplex.specs.Calls.{Call, made, called_by, called, tests_of}

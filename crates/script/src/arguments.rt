@@ -1,182 +1,89 @@
 // What the words behind a call's name may say: a channel, one of two words, a mark, a payload with its code and mark, octets that end the line, and how much is lent.
-use text::hex::Octets;
-use text::numbers::Number;
-use text::{hex, numbers, words};
+use text::words::Words;
 
-// A channel's number and the place behind it, or none.
-#[derive(Clone, Copy)]
-pub enum Channel {
-    Number { channel: u16, at: usize },
-    Bad,
-}
-
-// Which of two words stood there, and the place behind it, or neither.
-#[derive(Clone, Copy)]
-pub enum Choice {
-    Chosen { first: bool, at: usize },
-    Bad,
-}
-
-// A closing mark and the place behind it, or none.
-#[derive(Clone, Copy)]
-pub enum Mark {
-    Given { mark: bool, at: usize },
-    Bad,
-}
-
-// A payload's code and mark, how many octets it has, and the place behind it, or none.
-#[derive(Clone, Copy)]
-pub enum Payload {
-    Given {
-        code: u32,
-        mark: bool,
-        octets: usize,
-        at: usize,
-    },
-    Bad,
-}
-
-// How many octets end the line, or none do.
-#[derive(Clone, Copy)]
-pub enum Last {
-    Count(usize),
-    Bad,
-}
-
-// How much is lent, where the line says so or says nothing.
-#[derive(Clone, Copy)]
-pub enum Room {
-    Lent(u32),
-    Bad,
+// A payload's code, mark and octets.
+#[derive(Clone, Copy, Debug, PartialEq, Eq)]
+pub struct Payload<'a> {
+    pub code: u32,
+    pub mark: bool,
+    pub octets: &'a [u8],
 }
 
 // How many octets are lent, and how many entries of a list beside them: a payload's units, or a repair's places.
-#[derive(Clone, Copy)]
-pub enum Rooms {
-    Lent { octets: u32, list: u32 },
-    Bad,
+#[derive(Clone, Copy, Debug, PartialEq, Eq)]
+pub struct Rooms {
+    pub octets: u32,
+    pub list: u32,
 }
 
 // The channel's number that the next word is, to 65,535.
-pub fn channel_at(line: &[u8], from: usize) -> Channel {
-    let Number::Value { value, at } = numbers::next(line, from) else {
-        return Channel::Bad;
-    };
-    if 65535 < value {
-        return Channel::Bad;
-    }
-    Channel::Number {
-        channel: value as u16,
-        at,
-    }
+pub fn next_channel(words: &mut Words<'_>) -> Option<u16> {
+    u16::try_from(words.number()?).ok()
 }
 
-// Whether the next word is the first of two or the second.
-pub fn choice_at(line: &[u8], from: usize, first: &[u8], second: &[u8]) -> Choice {
-    let w = words::next(line, from);
-    if words::is(line, w, first) {
-        return Choice::Chosen {
-            first: true,
-            at: w.to,
-        };
+// Whether the next word is the first of two; none where it is not the second either.
+pub fn next_choice(words: &mut Words<'_>, first: &[u8], second: &[u8]) -> Option<bool> {
+    let word = words.next();
+    if word == first {
+        return Some(true);
     }
-    if words::is(line, w, second) {
-        return Choice::Chosen {
-            first: false,
-            at: w.to,
-        };
-    }
-    Choice::Bad
+    (word == second).then_some(false)
 }
 
 // The closing mark that the next word is, 0 or 1.
-pub fn mark_at(line: &[u8], from: usize) -> Mark {
-    let Number::Value { value, at } = numbers::next(line, from) else {
-        return Mark::Bad;
-    };
-    if 1 < value {
-        return Mark::Bad;
-    }
-    Mark::Given {
-        mark: value == 1,
-        at,
+pub fn next_mark(words: &mut Words<'_>) -> Option<bool> {
+    match words.number()? {
+        0 => Some(false),
+        1 => Some(true),
+        _ => None,
     }
 }
 
 // CODE MARK OCTETS
-pub fn payload_at(line: &[u8], from: usize, octets: &mut [u8]) -> Payload {
-    let Number::Value { value: code, at } = numbers::next(line, from) else {
-        return Payload::Bad;
-    };
-    let Mark::Given { mark, at } = mark_at(line, at) else {
-        return Payload::Bad;
-    };
-    let Octets::Count { count, at } = hex::next(line, at, octets) else {
-        return Payload::Bad;
-    };
-    Payload::Given {
-        code,
-        mark,
-        octets: count,
-        at,
-    }
+pub fn next_payload<'a>(words: &mut Words<'_>, octets: &'a mut [u8]) -> Option<Payload<'a>> {
+    Some(Payload {
+        code: words.number()?,
+        mark: next_mark(words)?,
+        octets: next_octets(words, octets)?,
+    })
 }
 
-// The octets that the next word is, the line's last.
-pub fn last_at(line: &[u8], from: usize, octets: &mut [u8]) -> Last {
-    let Octets::Count { count, at } = hex::next(line, from, octets) else {
-        return Last::Bad;
-    };
-    if words::ended(line, at) {
-        return Last::Count(count);
-    }
-    Last::Bad
+// The octets that the next word stands for, at the front of what is lent.
+pub fn next_octets<'a>(words: &mut Words<'_>, octets: &'a mut [u8]) -> Option<&'a [u8]> {
+    let count = words.octets(octets)?;
+    Some(octets::front(octets, count))
+}
+
+// .. of the line's last word.
+pub fn last_octets<'a>(words: &mut Words<'_>, octets: &'a mut [u8]) -> Option<&'a [u8]> {
+    let octets = next_octets(words, octets)?;
+    words.ended().then_some(octets)
 }
 
 // What is lent, behind `name`, as the line's last two words; enough where the line has ended.
-pub fn room_at(line: &[u8], at: usize, name: &[u8]) -> Room {
-    if words::ended(line, at) {
-        return Room::Lent(u32::MAX);
+pub fn room(words: &mut Words<'_>, name: &[u8]) -> Option<u32> {
+    if words.ended() {
+        return Some(u32::MAX);
     }
-    let w = words::next(line, at);
-    if words::is(line, w, name) {
-        let Number::Value { value, at: end } = numbers::next(line, w.to) else {
-            return Room::Bad;
-        };
-        if words::ended(line, end) {
-            return Room::Lent(value);
-        }
+    if words.next() != name {
+        return None;
     }
-    Room::Bad
+    let lent = words.number()?;
+    words.ended().then_some(lent)
 }
 
 // What is lent of octets and of a list, behind `room`, as the line's last three words; enough where the line has ended.
-pub fn rooms_at(line: &[u8], at: usize) -> Rooms {
-    if words::ended(line, at) {
-        return Rooms::Lent {
+pub fn two_rooms(words: &mut Words<'_>) -> Option<Rooms> {
+    if words.ended() {
+        return Some(Rooms {
             octets: u32::MAX,
             list: u32::MAX,
-        };
+        });
     }
-    let w = words::next(line, at);
-    if words::is(line, w, b"room") {
-        let Number::Value {
-            value: octets,
-            at: next,
-        } = numbers::next(line, w.to)
-        else {
-            return Rooms::Bad;
-        };
-        let Number::Value {
-            value: list,
-            at: end,
-        } = numbers::next(line, next)
-        else {
-            return Rooms::Bad;
-        };
-        if words::ended(line, end) {
-            return Rooms::Lent { octets, list };
-        }
+    if words.next() != b"room".as_slice() {
+        return None;
     }
-    Rooms::Bad
+    let octets = words.number()?;
+    let list = words.number()?;
+    words.ended().then_some(Rooms { octets, list })
 }

@@ -1,16 +1,15 @@
-// A call, as a value: what a line asks for. Octets and the numbers of a table entry stand in what was lent to the reading of the line,
-// and the value says how many there are.
+// A call, as a value: what a line asks for. Its octets and the numbers of its table entry lie in what was lent to the reading of the line.
 
 // Settings of AL1M, and the octets that they are for.
-#[derive(Clone, Copy)]
-pub struct CodingCall {
+#[derive(Clone, Copy, Debug, PartialEq, Eq)]
+pub struct CodingCall<'a> {
     pub width: u32,
     pub e: u32,
-    pub octets: usize,
+    pub octets: &'a [u8],
 }
 
 // The room of a payload, and how many octets are lent for it.
-#[derive(Clone, Copy)]
+#[derive(Clone, Copy, Debug, PartialEq, Eq)]
 pub struct MuxCall {
     pub code: u32,
     pub room: u32,
@@ -18,77 +17,79 @@ pub struct MuxCall {
 }
 
 // A payload, and how many octets and units are lent for what it finishes.
-#[derive(Clone, Copy)]
-pub struct DemuxCall {
+#[derive(Clone, Copy, Debug, PartialEq, Eq)]
+pub struct DemuxCall<'a> {
     pub code: u32,
     pub mark: bool,
-    pub octets: usize,
+    pub octets: &'a [u8],
     pub room: u32,
     pub units: u32,
 }
 
 // A packet: the form of flag that opens it, its code, mark and payload, and how many octets are lent for it.
-#[derive(Clone, Copy)]
-pub struct PackCall {
+#[derive(Clone, Copy, Debug, PartialEq, Eq)]
+pub struct PackCall<'a> {
     pub opens: bool,
     pub code: u32,
     pub mark: bool,
-    pub octets: usize,
+    pub octets: &'a [u8],
     pub room: u32,
 }
 
 // A unit of AL2: its channel, whether it has a number, and its octets.
-#[derive(Clone, Copy)]
-pub struct UnitCall {
+#[derive(Clone, Copy, Debug, PartialEq, Eq)]
+pub struct UnitCall<'a> {
     pub channel: u16,
     pub numbered: bool,
-    pub octets: usize,
+    pub octets: &'a [u8],
 }
 
 // Calls that have no state; how many octets are lent for the answer, and how many places.
-#[derive(Clone, Copy)]
-pub enum Coding {
+#[derive(Clone, Copy, Debug, PartialEq, Eq)]
+pub enum Coding<'a> {
     Length {
         width: u32,
         e: u32,
         t: u32,
     },
     Encode {
-        coding: CodingCall,
+        coding: CodingCall<'a>,
         room: u32,
     },
     Receive {
-        coding: CodingCall,
+        coding: CodingCall<'a>,
         room: u32,
         places: u32,
     },
     Al1 {
-        octets: usize,
+        octets: &'a [u8],
     },
 }
 
 // Calls on packets of level 2: one to be written, one to be read, and the raw octets of any number.
-#[derive(Clone, Copy)]
-pub enum Packet {
-    Pack(PackCall),
-    Unpack { octets: usize },
-    Link { octets: usize },
+#[derive(Clone, Copy, Debug, PartialEq, Eq)]
+pub enum Packet<'a> {
+    Pack(PackCall<'a>),
+    Unpack { octets: &'a [u8] },
+    Link { octets: &'a [u8] },
 }
 
-// A line that asks for nothing, one that cannot be read, or a call.
-#[derive(Clone, Copy)]
-pub enum Call {
-    Nothing,
-    Malformed,
-    Coding(Coding),
+// A line that cannot be read.
+#[derive(Clone, Copy, Debug, PartialEq, Eq)]
+pub struct Malformed;
+
+// A call.
+#[derive(Clone, Copy, Debug, PartialEq, Eq)]
+pub enum Call<'a> {
+    Coding(Coding<'a>),
     Open { channel: u16, segmentable: bool },
     Close { channel: u16 },
     Reset { channel: u16 },
-    Entry { code: u32, numbers: usize },
-    Post { channel: u16, octets: usize },
+    Entry { code: u32, numbers: &'a [u16] },
+    Post { channel: u16, octets: &'a [u8] },
     Mux(MuxCall),
-    Demux(DemuxCall),
-    Packet(Packet),
-    Send { unit: UnitCall, room: u32 },
-    Take(UnitCall),
+    Demux(DemuxCall<'a>),
+    Packet(Packet<'a>),
+    Send { unit: UnitCall<'a>, room: u32 },
+    Take(UnitCall<'a>),
 }

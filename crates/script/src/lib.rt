@@ -6,5 +6,5 @@
 pub mod arguments; // arguments.rt: what the words behind a call's name may say
 pub mod call; // call.rt: a call, as a value
 pub mod descriptor; // descriptor.rt: a table entry in the Recommendation's notation
-mod packets; // packets.rt: the calls on packets of level 2: pack, unpack, link
+mod packets; // packets.rt: the call that writes a packet of level 2: pack
 pub mod read; // read.rt: a line, read into a call

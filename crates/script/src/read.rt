@@ -1,324 +1,158 @@
 // A line, read into a call: its octets are put at the front of `octets`, the numbers of its table entry at the front of `numbers`.
-use crate::arguments::{Channel, Choice, Last, Payload, Room, Rooms};
-use crate::call::{Call, Coding, CodingCall, DemuxCall, MuxCall, UnitCall};
-use crate::descriptor::Entry;
+use crate::arguments::{Payload, Rooms, last_octets, next_octets};
+use crate::call::{Call, Coding, CodingCall, DemuxCall, Malformed, MuxCall, Packet, UnitCall};
 use crate::{arguments, descriptor, packets};
-use text::hex::Octets;
-use text::numbers::Number;
-use text::words::Word;
-use text::{hex, numbers, words};
-
-// What AL1M's calls say and the place behind it, or a line that cannot be read.
-#[derive(Clone, Copy)]
-enum Settings {
-    Given { coding: CodingCall, at: usize },
-    Bad,
-}
+use text::words::Words;
 
 // WIDTH E OCTETS
-fn settings_at(line: &[u8], from: usize, octets: &mut [u8]) -> Settings {
-    let Number::Value { value: width, at } = numbers::next(line, from) else {
-        return Settings::Bad;
-    };
-    let Number::Value { value: e, at } = numbers::next(line, at) else {
-        return Settings::Bad;
-    };
-    let Octets::Count { count, at } = hex::next(line, at, octets) else {
-        return Settings::Bad;
-    };
-    let coding = CodingCall {
-        width,
-        e,
-        octets: count,
-    };
-    Settings::Given { coding, at }
+fn settings<'a>(words: &mut Words<'_>, octets: &'a mut [u8]) -> Option<CodingCall<'a>> {
+    Some(CodingCall {
+        width: words.number()?,
+        e: words.number()?,
+        octets: next_octets(words, octets)?,
+    })
 }
 
 // encode WIDTH E OCTETS [room N]
-fn encode(line: &[u8], from: usize, octets: &mut [u8]) -> Call {
-    let Settings::Given { coding, at } = settings_at(line, from, octets) else {
-        return Call::Malformed;
-    };
-    let Room::Lent(room) = arguments::room_at(line, at, b"room") else {
-        return Call::Malformed;
-    };
-    Call::Coding(Coding::Encode { coding, room })
+fn encode<'a>(words: &mut Words<'_>, octets: &'a mut [u8]) -> Option<Coding<'a>> {
+    let coding = settings(words, octets)?;
+    let room = arguments::room(words, b"room")?;
+    Some(Coding::Encode { coding, room })
 }
 
 // receive WIDTH E OCTETS [room REPAIR PLACES]
-fn receive(line: &[u8], from: usize, octets: &mut [u8]) -> Call {
-    let Settings::Given { coding, at } = settings_at(line, from, octets) else {
-        return Call::Malformed;
-    };
-    let Rooms::Lent {
-        octets: room,
-        list: places,
-    } = arguments::rooms_at(line, at)
-    else {
-        return Call::Malformed;
-    };
-    Call::Coding(Coding::Receive {
+fn receive<'a>(words: &mut Words<'_>, octets: &'a mut [u8]) -> Option<Coding<'a>> {
+    let coding = settings(words, octets)?;
+    let Rooms { octets, list } = arguments::two_rooms(words)?;
+    Some(Coding::Receive {
         coding,
-        room,
-        places,
+        room: octets,
+        places: list,
     })
 }
 
 // length WIDTH E T
-fn length(line: &[u8], from: usize) -> Call {
-    let Number::Value { value: width, at } = numbers::next(line, from) else {
-        return Call::Malformed;
-    };
-    let Number::Value { value: e, at } = numbers::next(line, at) else {
-        return Call::Malformed;
-    };
-    let Number::Value { value: t, at } = numbers::next(line, at) else {
-        return Call::Malformed;
-    };
-    if words::ended(line, at) {
-        return Call::Coding(Coding::Length { width, e, t });
-    }
-    Call::Malformed
-}
-
-// al1 OCTETS
-fn al1(line: &[u8], from: usize, octets: &mut [u8]) -> Call {
-    let Last::Count(n) = arguments::last_at(line, from, octets) else {
-        return Call::Malformed;
-    };
-    Call::Coding(Coding::Al1 { octets: n })
+fn length<'a>(words: &mut Words<'_>) -> Option<Coding<'a>> {
+    let width = words.number()?;
+    let e = words.number()?;
+    let t = words.number()?;
+    words.ended().then_some(Coding::Length { width, e, t })
 }
 
 // open CHANNEL segmentable, open CHANNEL whole
-fn open(line: &[u8], from: usize) -> Call {
-    let Channel::Number { channel, at } = arguments::channel_at(line, from) else {
-        return Call::Malformed;
-    };
-    let Choice::Chosen { first, at } = arguments::choice_at(line, at, b"segmentable", b"whole")
-    else {
-        return Call::Malformed;
-    };
-    if words::ended(line, at) {
-        return Call::Open {
-            channel,
-            segmentable: first,
-        };
-    }
-    Call::Malformed
+fn open<'a>(words: &mut Words<'_>) -> Option<Call<'a>> {
+    let channel = arguments::next_channel(words)?;
+    let segmentable = arguments::next_choice(words, b"segmentable", b"whole")?;
+    words.ended().then_some(Call::Open {
+        channel,
+        segmentable,
+    })
 }
 
-// close CHANNEL
-fn close(line: &[u8], from: usize) -> Call {
-    let Channel::Number { channel, at } = arguments::channel_at(line, from) else {
-        return Call::Malformed;
-    };
-    if words::ended(line, at) {
-        return Call::Close { channel };
-    }
-    Call::Malformed
-}
-
-// reset CHANNEL
-fn reset(line: &[u8], from: usize) -> Call {
-    let Channel::Number { channel, at } = arguments::channel_at(line, from) else {
-        return Call::Malformed;
-    };
-    if words::ended(line, at) {
-        return Call::Reset { channel };
-    }
-    Call::Malformed
+// CHANNEL, the line's last word
+fn last_channel(words: &mut Words<'_>) -> Option<u16> {
+    let channel = arguments::next_channel(words)?;
+    words.ended().then_some(channel)
 }
 
 // entry CODE DESCRIPTOR
-fn entry(line: &[u8], from: usize, numbers: &mut [u16]) -> Call {
-    let Number::Value { value: code, at } = numbers::next(line, from) else {
-        return Call::Malformed;
-    };
-    let Entry::Numbers(n) = descriptor::read(words::rest(line, at), numbers) else {
-        return Call::Malformed;
-    };
-    Call::Entry { code, numbers: n }
+fn entry<'a>(words: &mut Words<'_>, numbers: &'a mut [u16]) -> Option<Call<'a>> {
+    let code = words.number()?;
+    let count = descriptor::read(words.rest(), numbers)?;
+    let numbers = &numbers[..count.min(numbers.len())];
+    Some(Call::Entry { code, numbers })
 }
 
 // post CHANNEL OCTETS
-fn post(line: &[u8], from: usize, octets: &mut [u8]) -> Call {
-    let Channel::Number { channel, at } = arguments::channel_at(line, from) else {
-        return Call::Malformed;
-    };
-    let Last::Count(n) = arguments::last_at(line, at, octets) else {
-        return Call::Malformed;
-    };
-    Call::Post { channel, octets: n }
+fn post<'a>(words: &mut Words<'_>, octets: &'a mut [u8]) -> Option<Call<'a>> {
+    let channel = arguments::next_channel(words)?;
+    let octets = last_octets(words, octets)?;
+    Some(Call::Post { channel, octets })
 }
 
 // mux CODE ROOM [lent N]
-fn mux(line: &[u8], from: usize) -> Call {
-    let Number::Value { value: code, at } = numbers::next(line, from) else {
-        return Call::Malformed;
-    };
-    let Number::Value { value: most, at } = numbers::next(line, at) else {
-        return Call::Malformed;
-    };
-    let Room::Lent(lent) = arguments::room_at(line, at, b"lent") else {
-        return Call::Malformed;
-    };
-    Call::Mux(MuxCall {
-        code,
-        room: most,
-        lent,
-    })
+fn mux<'a>(words: &mut Words<'_>) -> Option<Call<'a>> {
+    let code = words.number()?;
+    let room = words.number()?;
+    let lent = arguments::room(words, b"lent")?;
+    Some(Call::Mux(MuxCall { code, room, lent }))
 }
 
 // demux CODE MARK OCTETS [room OCTETS UNITS]
-fn demux(line: &[u8], from: usize, octets: &mut [u8]) -> Call {
-    let Payload::Given {
+fn demux<'a>(words: &mut Words<'_>, octets: &'a mut [u8]) -> Option<Call<'a>> {
+    let Payload { code, mark, octets } = arguments::next_payload(words, octets)?;
+    let rooms = arguments::two_rooms(words)?;
+    Some(Call::Demux(DemuxCall {
         code,
         mark,
-        octets: count,
-        at,
-    } = arguments::payload_at(line, from, octets)
-    else {
-        return Call::Malformed;
-    };
-    let Rooms::Lent {
-        octets: room,
-        list: units,
-    } = arguments::rooms_at(line, at)
-    else {
-        return Call::Malformed;
-    };
-    Call::Demux(DemuxCall {
-        code,
-        mark,
-        octets: count,
-        room,
-        units,
-    })
-}
-
-// A unit of AL2 and the place behind it, or none.
-#[derive(Clone, Copy)]
-enum Units {
-    Given { unit: UnitCall, at: usize },
-    Bad,
+        octets,
+        room: rooms.octets,
+        units: rooms.list,
+    }))
 }
 
 // CHANNEL numbered OCTETS, CHANNEL plain OCTETS
-fn unit_at(line: &[u8], from: usize, octets: &mut [u8]) -> Units {
-    let Channel::Number { channel, at } = arguments::channel_at(line, from) else {
-        return Units::Bad;
-    };
-    let Choice::Chosen { first, at } = arguments::choice_at(line, at, b"numbered", b"plain") else {
-        return Units::Bad;
-    };
-    let Octets::Count { count, at } = hex::next(line, at, octets) else {
-        return Units::Bad;
-    };
-    let unit = UnitCall {
-        channel,
-        numbered: first,
-        octets: count,
-    };
-    Units::Given { unit, at }
+fn unit<'a>(words: &mut Words<'_>, octets: &'a mut [u8]) -> Option<UnitCall<'a>> {
+    Some(UnitCall {
+        channel: arguments::next_channel(words)?,
+        numbered: arguments::next_choice(words, b"numbered", b"plain")?,
+        octets: next_octets(words, octets)?,
+    })
 }
 
 // send CHANNEL numbered OCTETS [room N], send CHANNEL plain OCTETS [room N]
-fn send(line: &[u8], from: usize, octets: &mut [u8]) -> Call {
-    let Units::Given { unit, at } = unit_at(line, from, octets) else {
-        return Call::Malformed;
-    };
-    let Room::Lent(room) = arguments::room_at(line, at, b"room") else {
-        return Call::Malformed;
-    };
-    Call::Send { unit, room }
+fn send<'a>(words: &mut Words<'_>, octets: &'a mut [u8]) -> Option<Call<'a>> {
+    let unit = unit(words, octets)?;
+    let room = arguments::room(words, b"room")?;
+    Some(Call::Send { unit, room })
 }
 
 // take CHANNEL numbered OCTETS, take CHANNEL plain OCTETS
-fn take(line: &[u8], from: usize, octets: &mut [u8]) -> Call {
-    let Units::Given { unit, at } = unit_at(line, from, octets) else {
-        return Call::Malformed;
-    };
-    if words::ended(line, at) {
-        return Call::Take(unit);
-    }
-    Call::Malformed
+fn take<'a>(words: &mut Words<'_>, octets: &'a mut [u8]) -> Option<Call<'a>> {
+    let unit = unit(words, octets)?;
+    words.ended().then_some(Call::Take(unit))
 }
 
-// A call that has no state, by its name.
-fn coding(line: &[u8], name: Word, octets: &mut [u8]) -> Call {
-    let at = name.to;
-    if words::is(line, name, b"length") {
-        return length(line, at);
+// The call of a line's words, of which the first is its name; none where it cannot be read. Beside those above: close CHANNEL,
+// reset CHANNEL, unpack OCTETS, link OCTETS, al1 OCTETS.
+fn named<'a>(
+    words: &mut Words<'_>,
+    octets: &'a mut [u8],
+    numbers: &'a mut [u16],
+) -> Option<Call<'a>> {
+    match words.next() {
+        b"open" => open(words),
+        b"close" => last_channel(words).map(|channel| Call::Close { channel }),
+        b"reset" => last_channel(words).map(|channel| Call::Reset { channel }),
+        b"entry" => entry(words, numbers),
+        b"post" => post(words, octets),
+        b"mux" => mux(words),
+        b"demux" => demux(words, octets),
+        b"send" => send(words, octets),
+        b"take" => take(words, octets),
+        b"pack" => packets::pack(words, octets).map(Call::Packet),
+        b"unpack" => last_octets(words, octets).map(|octets| Call::Packet(Packet::Unpack {
+            octets,
+        })),
+        b"link" => last_octets(words, octets).map(|octets| Call::Packet(Packet::Link { octets })),
+        b"length" => length(words).map(Call::Coding),
+        b"encode" => encode(words, octets).map(Call::Coding),
+        b"receive" => receive(words, octets).map(Call::Coding),
+        b"al1" => last_octets(words, octets).map(|octets| Call::Coding(Coding::Al1 { octets })),
+        _ => None,
     }
-    if words::is(line, name, b"encode") {
-        return encode(line, at, octets);
-    }
-    if words::is(line, name, b"receive") {
-        return receive(line, at, octets);
-    }
-    if words::is(line, name, b"al1") {
-        return al1(line, at, octets);
-    }
-    Call::Malformed
 }
 
-// A call on packets, by its name, or one that has no state.
-fn framing(line: &[u8], name: Word, octets: &mut [u8]) -> Call {
-    let at = name.to;
-    if words::is(line, name, b"pack") {
-        return packets::pack(line, at, octets);
+// What a line asks for: nothing, where it is empty or begins with #.
+pub fn call<'a>(
+    line: &[u8],
+    octets: &'a mut [u8],
+    numbers: &'a mut [u16],
+) -> Result<Option<Call<'a>>, Malformed> {
+    match line {
+        [] | [b'#', ..] => Ok(None),
+        _ => named(&mut Words::of(line), octets, numbers)
+            .map(Some)
+            .ok_or(Malformed),
     }
-    if words::is(line, name, b"unpack") {
-        return packets::unpack(line, at, octets);
-    }
-    if words::is(line, name, b"link") {
-        return packets::link(line, at, octets);
-    }
-    coding(line, name, octets)
-}
-
-// A call on a channel's unit or on a payload, by its name, or one on packets, or one that has no state.
-fn carrying(line: &[u8], name: Word, octets: &mut [u8]) -> Call {
-    let at = name.to;
-    if words::is(line, name, b"post") {
-        return post(line, at, octets);
-    }
-    if words::is(line, name, b"mux") {
-        return mux(line, at);
-    }
-    if words::is(line, name, b"demux") {
-        return demux(line, at, octets);
-    }
-    if words::is(line, name, b"send") {
-        return send(line, at, octets);
-    }
-    if words::is(line, name, b"take") {
-        return take(line, at, octets);
-    }
-    framing(line, name, octets)
-}
-
-// What a line asks for. An empty line and one that begins with # ask for nothing.
-pub fn call(line: &[u8], octets: &mut [u8], numbers: &mut [u16]) -> Call {
-    if line.len() == 0 {
-        return Call::Nothing;
-    }
-    if line[0] == b'#' {
-        return Call::Nothing;
-    }
-    let name = words::next(line, 0);
-    let at = name.to;
-    if words::is(line, name, b"open") {
-        return open(line, at);
-    }
-    if words::is(line, name, b"close") {
-        return close(line, at);
-    }
-    if words::is(line, name, b"reset") {
-        return reset(line, at);
-    }
-    if words::is(line, name, b"entry") {
-        return entry(line, at, numbers);
-    }
-    carrying(line, name, octets)
 }

@@ -2,7 +2,8 @@
 --
 --   entry_fixed, entry_put          entry 0, and another
 --   defined-not, defined_fixed, defined_put   whether there is one: not over 15, always at 0, else by its first number
---   replaced-none, replaced_fixed, replaced_malformed, replaced_done   how replacing one ends
+--   defined          .. all three
+--   replaced-none, replaced_done   replacing one that there is not, and one that is
 --   entry-fits, entry_short         an entry has at most the numbers for which there is room in the table
 --
 -- Assumes nothing.
@@ -42,18 +43,9 @@ module _ (t : List ℕ) (c : ℕ) where
     unfolding replaced
     replaced-none h = rw (lt-ltb _ _ h)
 
-    pub replaced_fixed : c ≡ 0 → replaced t c s ≡ refusing t 14
+    pub replaced_done : c ≤ highest_code → (c ≡ 0 → ⊥) → is_entry s ≡ true → replaced t c s ≡ leaving tt (with_entry t c s)
     unfolding replaced
-    replaced_fixed e = rw e
-
-    module _ (low : c ≤ highest_code) (put : c ≡ 0 → ⊥) where
-      pub replaced_malformed : is_entry s ≡ false → replaced t c s ≡ refusing t 10
-      unfolding replaced
-      replaced_malformed e = rw (le-ltb _ _ low, ne_eqb _ _ put, e)
-
-      pub replaced_done : is_entry s ≡ true → replaced t c s ≡ leaving tt (with_entry t c s)
-      unfolding replaced
-      replaced_done e = rw (le-ltb _ _ low, ne_eqb _ _ put, e)
+    replaced_done low put e = rw (le-ltb _ _ low, ne_eqb _ _ put, e)
 
 pub entry_put : (t : List ℕ) (c : ℕ) → (c ≡ 0 → ⊥) → entry_of t c ≡ take longest_entry (drop (longest_entry * (c - 1)) t)
 unfolding entry_of
@@ -67,6 +59,8 @@ defined_put t c h z =
     let e : get_or (take longest_entry (drop k t)) 0 0 ≡ get_or t k 0 =
     get_or-take longest_entry (drop k t) 0 0 (omega arith) ∙ get_or-drop k t 0 0 ∙ ap (λ (n : ℕ). get_or t n 0) (add-zero k) in
     rw (le-leb _ _ h, entry_put t c z, e)
+
+pub ruleset defined = (defined-not, defined_fixed, defined_put)
 
 pub entry-fits : (l : Elements) → is_entry_tree l ≡ true → length (numbers l) ≤ longest_entry
 entry-fits l e = omega (arith, (entry_is l e).few, numbers_most l)

@@ -15,11 +15,11 @@ use lib.ListN.{length, get_or, drop}
 use lib.Seq.{drop-cons}
 use Rattle.octets.specs.Tests.{never}
 use Rattle.table.specs.declared.form.Head.{Head}
-use Rattle.table.specs.declared.form.Head.TheVariants.{Channel, Inner, Malformed}
-use Rattle.table.specs.declared.form.Read.{Read}
-use Rattle.table.specs.declared.form.Read.TheVariants.{Next, Bad}
+use Rattle.table.specs.declared.form.Head.TheVariants.{Channel, Inner}
+use Rattle.table.specs.declared.form.Cursor.{Cursor}
+use Rattle.std.specs.Prelude.{Option, Some, None}
 use Rattle.table.specs.Entry.{Elements, none, channel, list, size, all_elements, depth, is_none, highest, is_count, is_list, count_number, element_numbers}
-use Rattle.table.specs.Cursor.{and_then, many, head_at, on_head, element_at}
+use Rattle.table.specs.Cursor.{cursor, next, and_then, many, head_at, on_head, element_at}
 use Rattle.table.specs.Form.{count_as}
 use Rattle.table.proofs.Heads.{GoodNumbers, HeadIs, is_malformed, is-channel, is_inner, head_is}
 
@@ -36,6 +36,9 @@ data OneFound (s : List ℕ) (d at left least a b : ℕ) : Type 0 where
   a-channel : GoodNumbers s at left least → get_or s (at + 1) 0 ≡ 0 → a ≡ at + 3 → b ≡ left - 1 → OneFound s d at left least a b
   a-list : (e : ℕ) → d ≡ suc e → GoodNumbers s at left least → 2 ≤ get_or s (at + 1) 0
       → Found s false e (get_or s (at + 1) 0) (at + 2) (left - 1) a b → OneFound s d at left least a b
+
+same_cursor : {x y a b : ℕ} → next x y ≡ next a b → (x ≡ a) × (y ≡ b)
+same_cursor {x} {y} {a} {b} e = let c : cursor x y ≡ cursor a b = cc in (ap (λ (r : Cursor). r.at) c, ap (λ (r : Cursor). r.left) c)
 
 -- ---- repeat counts
 
@@ -104,45 +107,42 @@ module _ (s : List ℕ) (known : (i : ℕ) → get_or s i 0 ≤ highest) where
       least_of (a-channel p z e f) = p.often
       least_of (a-list e f p w i) = p.often
 
-  module _ (d : ℕ) (each : (at left a b : ℕ) → element_at s d at left 1 ≡ Next a b → OneFound s d at left 1 a b) where
-    many_found : (n at left a b : ℕ) → many (λ p q. element_at s d p q 1) n at left ≡ Next a b → Found s false d n at left a b
+  module _ (d : ℕ) (each : (at left a b : ℕ) → element_at s d at left 1 ≡ next a b → OneFound s d at left 1 a b) where
+    many_found : (n at left a b : ℕ) → many (λ p q. element_at s d p q 1) n at left ≡ next a b → Found s false d n at left a b
     unfolding many
-    many_found zero at left a b e =
-        let p : at ≡ a = cc in
-        let q : left ≡ b = cc in
-        rw (← p, ← q) (none_found s false d at left)
+    many_found zero at left a b e = let p = same_cursor e in rw (← p.0, ← p.1) (none_found s false d at left)
     many_found (suc n) at left a b e = go (many_found n) (element_at s d at left 1) refl e
       where
-        go : ((x y u v : ℕ) → many (λ p q. element_at s d p q 1) n x y ≡ Next u v → Found s false d n x y u v)
-            → (r : Read) → element_at s d at left 1 ≡ r → and_then r (many (λ p q. element_at s d p q 1) n) ≡ Next a b → Found s false d (suc n) at left a b
-        go rest Bad p q = never (cc)
-        go rest (Next x y) p q = often_found false d n at left x y a b (each at left x y p) (rest x y a b q)
+        go : ((x y u v : ℕ) → many (λ p q. element_at s d p q 1) n x y ≡ next u v → Found s false d n x y u v)
+            → (r : Option Cursor) → element_at s d at left 1 ≡ r → and_then r (many (λ p q. element_at s d p q 1) n) ≡ next a b → Found s false d (suc n) at left a b
+        go rest None p q = never (cc)
+        go rest (Some r) p q = often_found false d n at left r.at r.left a b (each at left r.at r.left p) (rest r.at r.left a b q)
 
-  one_found : (d at left least a b : ℕ) → element_at s d at left least ≡ Next a b → OneFound s d at left least a b
+  one_found : (d at left least a b : ℕ) → element_at s d at left least ≡ next a b → OneFound s d at left least a b
   unfolding element_at
   one_found zero at left least a b e = go (head_at s at left least) (head_is s at left least) e
     where
-      go : (h : Head) → HeadIs s at left least h → on_head (λ n a l. Bad) h ≡ Next a b → OneFound s zero at left least a b
-      go Malformed is_malformed q = never (cc)
-      go (Channel x y) (is-channel p z) q = a-channel p z (cc) (cc)
-      go (Inner n x y) (is_inner p w) q = never (cc)
+      go : (h : Option Head) → HeadIs s at left least h → on_head (λ n a l. None) h ≡ next a b → OneFound s zero at left least a b
+      go None is_malformed q = never (cc)
+      go (Some (Channel r)) (is-channel p z) q = let e = same_cursor q in a-channel p z (sym e.0) (sym e.1)
+      go (Some (Inner n r)) (is_inner p w) q = never (cc)
   one_found (suc d) at left least a b e = go (many_found d (λ x y. one_found d x y 1)) (head_at s at left least) (head_is s at left least) e
     where
-      go : ((n x y u v : ℕ) → many (λ p q. element_at s d p q 1) n x y ≡ Next u v → Found s false d n x y u v)
-          → (h : Head) → HeadIs s at left least h → on_head (many (λ p q. element_at s d p q 1)) h ≡ Next a b → OneFound s (suc d) at left least a b
-      go inner Malformed is_malformed q = never (cc)
-      go inner (Channel x y) (is-channel p z) q = a-channel p z (cc) (cc)
-      go inner (Inner n x y) (is_inner p w) q = a-list d refl p w (inner (get_or s (at + 1) 0) (at + 2) (left - 1) a b q)
+      go : ((n x y u v : ℕ) → many (λ p q. element_at s d p q 1) n x y ≡ next u v → Found s false d n x y u v)
+          → (h : Option Head) → HeadIs s at left least h → on_head (many (λ p q. element_at s d p q 1)) h ≡ next a b → OneFound s (suc d) at left least a b
+      go inner None is_malformed q = never (cc)
+      go inner (Some (Channel r)) (is-channel p z) q = let e = same_cursor q in a-channel p z (sym e.0) (sym e.1)
+      go inner (Some (Inner n r)) (is_inner p w) q = a-list d refl p w (inner (get_or s (at + 1) 0) (at + 2) (left - 1) a b q)
 
-  pub top_found : (d n at left a b : ℕ) → and_then (many (λ p q. element_at s d p q 1) n at left) (λ p q. element_at s d p q 0) ≡ Next a b
+  pub top_found : (d n at left a b : ℕ) → and_then (many (λ p q. element_at s d p q 1) n at left) (λ p q. element_at s d p q 0) ≡ next a b
       → Found s true d (suc n) at left a b
   unfolding many none_found
   top_found d zero at left a b e =
       before_found true d 0 at left 0 a b a b (one_found d at left 0 a b e) (none_found s true d a b) (count_closing (get_or s at 0) (known at))
   top_found d (suc n) at left a b e = go (top_found d n) (element_at s d at left 1) refl e
     where
-      go : ((x y u v : ℕ) → and_then (many (λ p q. element_at s d p q 1) n x y) (λ p q. element_at s d p q 0) ≡ Next u v → Found s true d (suc n) x y u v)
-          → (r : Read) → element_at s d at left 1 ≡ r
-          → and_then (and_then r (many (λ p q. element_at s d p q 1) n)) (λ p q. element_at s d p q 0) ≡ Next a b → Found s true d (suc (suc n)) at left a b
-      go rest Bad p q = never (cc)
-      go rest (Next x y) p q = often_found true d (suc n) at left x y a b (one_found d at left 1 x y p) (rest x y a b q)
+      go : ((x y u v : ℕ) → and_then (many (λ p q. element_at s d p q 1) n x y) (λ p q. element_at s d p q 0) ≡ next u v → Found s true d (suc n) x y u v)
+          → (r : Option Cursor) → element_at s d at left 1 ≡ r
+          → and_then (and_then r (many (λ p q. element_at s d p q 1) n)) (λ p q. element_at s d p q 0) ≡ next a b → Found s true d (suc (suc n)) at left a b
+      go rest None p q = never (cc)
+      go rest (Some r) p q = often_found true d (suc n) at left r.at r.left a b (one_found d at left 1 r.at r.left p) (rest r.at r.left a b q)

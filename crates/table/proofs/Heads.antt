@@ -4,29 +4,33 @@
 --   HeadIs             what they say: nothing good, a channel, or the start of an inner list of at least two
 --   head_is            .. which is what the code reads
 --   head-channel, head_inner   where they are good, by their second number
+--   repeat_at, count_at   the first two, in what is left of the numbers from there on
 --
 -- Assumes nothing.
-use mathlib.Core.Path.{◌≡◌, refl}
+use mathlib.Core.Path.{◌≡◌, refl, ap, ◌∙◌}
 use mathlib.Core.Bool.{Bool, true, false, cond}
 use mathlib.Core.List.{List}
-use Prim.Native.Nat.{ℕ, ◌+◌, ◌-◌, ◌≤◌}
+use Prim.Native.Nat.{ℕ, ◌+◌, ◌-◌, ◌≤◌, ◌<◌}
+use native.Mathlib.Nat.{add-zero}
 use native.Mathlib.Omega.{arith}
 use borrow.Author.Tests.{le-ltb, eq-eqb, ne_eqb, ltb-false, eqb-true, eqb-false}
 use lib.Dec.{eqb, ltb}
-use lib.ListN.{length, get_or}
+use lib.ListN.{length, get_or, drop, length-take}
+use lib.Seq.{get_or-drop, get_or-take}
 use Rattle.table.specs.declared.form.Head.{Head}
-use Rattle.table.specs.declared.form.Head.TheVariants.{Channel, Inner, Malformed}
-use Rattle.table.specs.Cursor.{head_at}
+use Rattle.table.specs.declared.form.Head.TheVariants.{Channel, Inner}
+use Rattle.std.specs.Prelude.{Option, Some, None, slice_range}
+use Rattle.table.specs.Cursor.{cursor, head_at}
 
 pub record GoodNumbers (s : List ℕ) (at left least : ℕ) : Type 0 where
   pub inside : at + 3 ≤ length s
   pub budget : 1 ≤ left
   pub often : least ≤ get_or s at 0
 
-pub data HeadIs (s : List ℕ) (at left least : ℕ) : Head → Type 0 where
-  is_malformed : HeadIs s at left least Malformed
-  is-channel : GoodNumbers s at left least → get_or s (at + 1) 0 ≡ 0 → HeadIs s at left least (Channel (at + 3) (left - 1))
-  is_inner : GoodNumbers s at left least → 2 ≤ get_or s (at + 1) 0 → HeadIs s at left least (Inner (get_or s (at + 1) 0) (at + 2) (left - 1))
+pub data HeadIs (s : List ℕ) (at left least : ℕ) : Option Head → Type 0 where
+  is_malformed : HeadIs s at left least None
+  is-channel : GoodNumbers s at left least → get_or s (at + 1) 0 ≡ 0 → HeadIs s at left least (Some (Channel (cursor (at + 3) (left - 1))))
+  is_inner : GoodNumbers s at left least → 2 ≤ get_or s (at + 1) 0 → HeadIs s at left least (Some (Inner (get_or s (at + 1) 0) (cursor (at + 2) (left - 1))))
 
 by_test : {A : Type 0} (P : A → Type 0) (b : Bool) (x y : A) → (b ≡ true → P x) → (b ≡ false → P y) → P (cond b x y)
 by_test P true x y p q = p refl
@@ -52,7 +56,8 @@ head_is s at left least =
     by_test P (eqb k 1) _ _ (λ e. is_malformed) (λ f.
     is_inner sound (omega (arith, eqb-false k 0 e, eqb-false k 1 f))))))))
 
-pub head-channel : (s : List ℕ) (at left least : ℕ) → GoodNumbers s at left least → get_or s (at + 1) 0 ≡ 0 → head_at s at left least ≡ Channel (at + 3) (left - 1)
+pub head-channel : (s : List ℕ) (at left least : ℕ) → GoodNumbers s at left least → get_or s (at + 1) 0 ≡ 0 → head_at s at left least
+    ≡ Some (Channel (cursor (at + 3) (left - 1)))
 unfolding head_at
 head-channel s at left least p e =
     let short : 3 ≤ length s = omega (arith, p.inside) in
@@ -61,7 +66,7 @@ head-channel s at left least p e =
     rw (le-ltb _ _ short, le-ltb _ _ in₀, ne_eqb _ _ some, le-ltb _ _ p.often, eq-eqb _ _ e)
 
 pub head_inner : (s : List ℕ) (at left least : ℕ) → GoodNumbers s at left least → 2 ≤ get_or s (at + 1) 0 → head_at s at left least
-    ≡ Inner (get_or s (at + 1) 0) (at + 2) (left - 1)
+    ≡ Some (Inner (get_or s (at + 1) 0) (cursor (at + 2) (left - 1)))
 unfolding head_at
 head_inner s at left least p h =
     let short : 3 ≤ length s = omega (arith, p.inside) in
@@ -70,3 +75,15 @@ head_inner s at left least p h =
     let more : get_or s (at + 1) 0 ≡ 0 → ⊥ = λ z. omega arith in
     let two : get_or s (at + 1) 0 ≡ 1 → ⊥ = λ z. omega arith in
     rw (le-ltb _ _ short, le-ltb _ _ in₀, ne_eqb _ _ some, le-ltb _ _ p.often, ne_eqb _ _ more, ne_eqb _ _ two)
+
+-- ---- where they stand
+
+module _ (s t : List ℕ) (at : ℕ) (e : t ≡ slice_range s at (length s)) (l : 3 ≤ length t) where
+  number_at : (i : ℕ) → i < 3 → get_or t i 0 ≡ get_or s (at + i) 0
+  number_at i h = ap (λ (u : List ℕ). get_or u i 0) e ∙ get_or-take (length s - at) (drop at s) i 0 (omega (arith, length-take (length s - at) (drop at s), ap length e)) ∙ get_or-drop at s i 0
+
+  pub repeat_at : get_or t 0 0 ≡ get_or s at 0
+  repeat_at = number_at 0 (omega arith) ∙ ap (λ (n : ℕ). get_or s n 0) (add-zero at)
+
+  pub count_at : get_or t 1 0 ≡ get_or s (at + 1) 0
+  count_at = number_at 1 (omega arith)

@@ -15,13 +15,13 @@ use lib.ListN.{length, get_or, drop}
 use lib.Seq.{drop-length, drop-cons}
 use Rattle.octets.specs.Tests.{both_true, never}
 use Rattle.octets.specs.Same.{same, same_self, same-equal}
-use Rattle.table.specs.declared.form.Read.{Read}
-use Rattle.table.specs.declared.form.Read.TheVariants.{Next, Bad}
+use Rattle.table.specs.declared.form.Cursor.{Cursor}
+use Rattle.std.specs.Prelude.{Option, Some, None}
 use Rattle.table.specs.Entry.{Elements, size, highest, most_elements, is_entry_tree, element_numbers, numbers}
-use Rattle.table.specs.Cursor.{and_then, many, element_at, list_at, ends_at, reads}
+use Rattle.table.specs.Cursor.{list_at, ends_at, entry_read, reads}
 use Rattle.table.specs.Form.{tree_of, is_entry}
 use Rattle.table.proofs.Parts.{entry_is, is_tree, some-none, some_size, size_elements}
-use Rattle.table.proofs.Reading.{number_inside, reads_empty, reads_some}
+use Rattle.table.proofs.Reading.{number_inside, entry_some, read_some}
 use Rattle.table.proofs.Standing.{tree-reads, top-reads}
 use Rattle.table.proofs.Found.{top_found}
 
@@ -49,30 +49,30 @@ entry_tree s e =
 -- ---- the code's reading
 
 entry-reads : (l : Elements) → is_entry_tree l ≡ true → reads (numbers l) ≡ true
-unfolding list_at
+unfolding reads list_at
 entry-reads l e =
     let p = entry_is l e in
     let n = some-none l p.some in
     let s = some_size l n in
     rw (
-      reads_some (numbers l) (λ z. omega arith),
+      entry_some (numbers l) s,
       top-reads (numbers l) l 2 1 most_elements [] n p.sound p.shallow p.few (sym (append-nil (element_numbers l))),
     ) (eq-eqb (1 + length (element_numbers l)) (suc (length (element_numbers l))) (omega arith))
 
 module _ (s : List ℕ) (known : (i : ℕ) → get_or s i 0 ≤ highest) where
-  reads_tree : (get_or s 0 0 ≡ 0 → ⊥) → reads s ≡ true → is_entry s ≡ true
-  unfolding list_at
-  reads_tree z e = go (and_then (many (λ p q. element_at s 2 p q 1) (get_or s 0 0 - 1) 1 most_elements) (λ p q. element_at s 2 p q 0)) refl (sym (reads_some s z) ∙ e)
+  reads_tree : reads s ≡ true → is_entry s ≡ true
+  unfolding reads list_at
+  reads_tree e = go (entry_read s) refl e
     where
-      go : (r : Read) → and_then (many (λ p q. element_at s 2 p q 1) (get_or s 0 0 - 1) 1 most_elements) (λ p q. element_at s 2 p q 0) ≡ r → ends_at (length s) r ≡ true
-          → is_entry s ≡ true
-      go Bad p q = never (cc)
-      go (Next a b) p q =
-          let f = top_found s known 2 (get_or s 0 0 - 1) 1 most_elements a b p in
+      go : (r : Option Cursor) → entry_read s ≡ r → ends_at (length s) r ≡ true → is_entry s ≡ true
+      go None p q = never (cc)
+      go (Some r) p q =
+          let z = read_some s p in
+          let f = top_found s known 2 (get_or s 0 0 - 1) 1 most_elements r.at r.left (sym (entry_some s z) ∙ p) in
           let l = f.tree in
           let n : size l ≡ get_or s 0 0 = omega (arith, f.sized) in
-          let whole : s ≡ numbers l = drop-cons s 0 0 (number_inside s 0 z) ∙ ap₂ (λ (k : ℕ) (u : List ℕ). k ∷ u) (sym n) (f.stands
-          ∙ ap (λ (k : ℕ). element_numbers l ++ drop k s) (eqb-true a (length s) q) ∙ ap (λ (u : List ℕ). element_numbers l ++ u) (drop-length s)
+          let whole : s ≡ numbers l = drop-cons s 0 0 (number_inside s 0 (λ k. omega arith)) ∙ ap₂ (λ (k : ℕ) (u : List ℕ). k ∷ u) (sym n) (f.stands
+          ∙ ap (λ (k : ℕ). element_numbers l ++ drop k s) (eqb-true r.at (length s) q) ∙ ap (λ (u : List ℕ). element_numbers l ++ u) (drop-length s)
           ∙ append-nil (element_numbers l)) in
           ap is_entry whole ∙ is-entry l (is_tree l (record {
             some = omega (arith, size_elements l);
@@ -87,7 +87,7 @@ module _ (s : List ℕ) (known : (i : ℕ) → get_or s i 0 ≤ highest) where
       go : (a : Bool) → reads s ≡ a → (b : Bool) → is_entry s ≡ b → a ≡ b
       go true p true q = refl
       go false p false q = refl
-      go true p false q = let t = reads_tree (λ z. let u = reads_empty s z in never (cc)) p in never (cc)
+      go true p false q = let t = reads_tree p in never (cc)
       go false p true q =
           let t = entry_tree s q in
           let u = ap reads (sym t.1) ∙ entry-reads (tree_of s) t.0 in

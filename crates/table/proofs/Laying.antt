@@ -6,8 +6,9 @@
 --   lays-both                 two lists of slots laid one behind the other are both laid
 --   lays_first                .. and so they are where the first laid nothing and has no slot only if the second has none
 --   Under                     what a loop keeps: when the rest has been laid, all has
---   under_way, under_turn     at its start, and after a turn
+--   under_turn                after a turn
 --   under_done, under_idle    all is laid when nothing is left to lay; and when a turn laid nothing
+--   Onward, onward_turn, onward_done, onward_idle   .. and the lists are the same two throughout
 --
 -- Assumes nothing.
 use mathlib.Core.Path.{◌≡◌, refl, sym, ap, ap₂, ◌∙◌}
@@ -20,10 +21,11 @@ use lib.ListN.{length, set, take, drop, length-append, length-map}
 use lib.Seq.{set_split}
 use Rattle.octets.specs.Written.{written, written_nothing, written-length, written-append}
 use Rattle.table.specs.declared.walk.Laid.{Laid}
+use Rattle.table.specs.declared.walk.Laying.{Laying}
 use Rattle.table.specs.Slots.{Slot, cut, octets_of}
 use Rattle.table.proofs.Apart.{cut-none}
 use Rattle.table.proofs.Cutting.{Filled, filled-length, cut-append, cut_octets, cut_most, cut_filled, cut_fits, octets-append}
-use Rattle.table.specs.Lays.{Room, Lays}
+use Rattle.table.specs.Lays.{Room, Lays, LaysOn}
 
 lays_nothing : (from : Laid) (c l : List ℕ) → Lays from [] from c l c l
 unfolding octets_of
@@ -127,10 +129,6 @@ pub record Under (from : Laid) (all : List Slot) (c₀ l₀ : List ℕ) (laid : 
   pub for_lengths : length l ≡ length l₀
   pub remains : (to : Laid) (c₂ l₂ : List ℕ) → Lays laid (cut laid.left rest) to c l c₂ l₂ → Lays from (cut from.left all) to c₀ l₀ c₂ l₂
 
-pub under_way : (from : Laid) (all rest : List Slot) (c l : List ℕ) → Room from c l → rest ≡ all → Under from all c l from rest c l
-under_way from all rest c l room e =
-    rw e (record { room = room; for_channels = refl; for_lengths = refl; remains = λ to c₂ l₂ h. h })
-
 module _ {from : Laid} {all : List Slot} {c₀ l₀ : List ℕ} {laid : Laid} {rest : List Slot} {c l : List ℕ} (u : Under from all c₀ l₀ laid rest c l) where
   pub under_done : rest ≡ [] → Lays from (cut from.left all) laid c₀ l₀ c l
   under_done e = u.remains laid c l (lays_empty laid rest c l e)
@@ -146,3 +144,29 @@ module _ {from : Laid} {all : List Slot} {c₀ l₀ : List ℕ} {laid : Laid} {r
 
     pub under_idle : (x ≡ [] → y ≡ []) → next.left ≡ laid.left → Lays from (cut from.left all) next c₀ l₀ c₁ l₁
     under_idle h d = u.remains next c₁ l₁ (rw e (lays_first laid next x c l c₁ l₁ full u.room turn y h d))
+
+-- ---- .. into what is laid down so far
+
+pub record Onward (from : Laying) (all : List Slot) (laid : Laying) (rest : List Slot) : Type 0 where
+  pub under : Under from.laid all from.channels.now from.lengths.now laid.laid rest laid.channels.now laid.lengths.now
+  pub same_channels : laid.channels.ghost_name ≡ from.channels.ghost_name
+  pub same_lengths : laid.lengths.ghost_name ≡ from.lengths.ghost_name
+
+module _ {from : Laying} {all : List Slot} {laid : Laying} {rest : List Slot} (u : Onward from all laid rest) where
+  pub onward_done : rest ≡ [] → LaysOn from (cut from.laid.left all) laid
+  onward_done e = record { lays = under_done u.under e; same_channels = u.same_channels; same_lengths = u.same_lengths }
+
+  module _ (x y : List Slot) (full : Filled x) {next : Laying} (turn : LaysOn laid (cut laid.laid.left x) next) (e : rest ≡ x ++ y) where
+    pub onward_turn : Onward from all next y
+    onward_turn = record {
+      under = under_turn u.under x y full turn.lays e;
+      same_channels = turn.same_channels ∙ u.same_channels;
+      same_lengths = turn.same_lengths ∙ u.same_lengths;
+    }
+
+    pub onward_idle : (x ≡ [] → y ≡ []) → next.laid.left ≡ laid.laid.left → LaysOn from (cut from.laid.left all) next
+    onward_idle h d = record {
+      lays = under_idle u.under x y full turn.lays e h d;
+      same_channels = turn.same_channels ∙ u.same_channels;
+      same_lengths = turn.same_lengths ∙ u.same_lengths;
+    }

@@ -1,7 +1,6 @@
 -- The slots of an element and of a list in each case that the code tells apart.
 --
 --   as-channel, as_flat, as_inner   an element by its numbers: a channel, a list that is too deep, a list
---   inner_inside               an inner list starts inside the entry
 --   list_rest, list_done       the elements that a loop has still to pass: one and those behind it, or none
 --   copies_rest, copies_done   .. and so the passes
 --   copies_idle                passes of no slots have none
@@ -14,14 +13,14 @@ use Prim.Native.Nat.{ℕ, zero, suc, ◌+◌, ◌-◌, ◌≤◌, ◌<◌}
 use native.Mathlib.Nat.{add-zero}
 use native.Mathlib.Numerals.{sub-one}
 use native.Mathlib.Omega.{arith}
-use lib.ListN.{length, get_or}
+use lib.ListN.{get_or}
 use Rattle.octets.specs.Tests.{never}
 use Rattle.table.specs.declared.form.Head.{Head}
-use Rattle.table.specs.declared.form.Head.TheVariants.{Channel, Inner, Malformed}
-use Rattle.table.specs.declared.form.Read.{Read}
-use Rattle.table.specs.declared.form.Read.TheVariants.{Bad}
+use Rattle.table.specs.declared.form.Head.TheVariants.{Channel, Inner}
+use Rattle.table.specs.declared.form.Cursor.{Cursor}
+use Rattle.std.specs.Prelude.{Option, Some, None}
 use Rattle.table.specs.Entry.{none, most_elements}
-use Rattle.table.specs.Cursor.{many, head_at, on_head, element_at, skip}
+use Rattle.table.specs.Cursor.{cursor, many, head_at, on_head, element_at, skip}
 use Rattle.table.specs.Form.{count_as, list_as}
 use Rattle.table.specs.Slots.{Slot, passes, copies, slots}
 use Rattle.table.specs.Table.{longest_payload}
@@ -29,7 +28,7 @@ use Rattle.table.specs.Lays.{element_slots, list_slots}
 use Rattle.table.proofs.Cutting.{copies_nothing}
 use Rattle.table.proofs.Expanding.{passes_most, element-before}
 use Rattle.table.proofs.Heads.{HeadIs, is_malformed, is-channel, is_inner, head_is}
-use Rattle.table.proofs.Reading.{number_inside, tree-none, tree_first, tree-channel, tree_inner, tree_flat}
+use Rattle.table.proofs.Reading.{tree-none, tree_first, tree-channel, tree_inner, tree_flat}
 
 module _ (s : List ℕ) (at : ℕ) where
   element-channel : (d : ℕ) → get_or s (at + 1) 0 ≡ 0
@@ -63,9 +62,6 @@ module _ (s : List ℕ) (at : ℕ) where
     pub as_inner : (k ≡ 0 → ⊥) → (d ≡ 0 → ⊥) → element_slots s d at ≡ copies n (list_slots s (d - 1) k (at + 2))
     as_inner z e =
         element_inner d (λ h. z (ke ∙ h)) e ∙ ap₂ (λ (u v : ℕ). copies u (list_slots s (d - 1) v (at + 2))) times_at (sym ke)
-
-    pub inner_inside : (k ≡ 0 → ⊥) → at + 1 < length s
-    inner_inside z = number_inside s (at + 1) (λ h. z (ke ∙ h))
 
 -- ---- what a loop has still to pass
 
@@ -106,21 +102,21 @@ copies_idle n l e = rw e (copies_nothing n)
 
 -- ---- an element without a slot
 
-many_bad : (one : ℕ → ℕ → Read) (n at left : ℕ) → (n ≡ 0 → ⊥) → one at left ≡ Bad → many one n at left ≡ Bad
+many_bad : (one : ℕ → ℕ → Option Cursor) (n at left : ℕ) → (n ≡ 0 → ⊥) → one at left ≡ None → many one n at left ≡ None
 unfolding many
 many_bad one zero at left z e = absurd (z refl)
 many_bad one (suc n) at left z e = rw e
 
 module _ (s : List ℕ) where
   -- the numbers of an element that is no channel
-  by_head : (at left least : ℕ) → (get_or s (at + 1) 0 ≡ 0 → ⊥) → (P : Head → Type 0) → P Malformed → P (Inner (get_or s (at + 1) 0) (at + 2) (left - 1))
+  by_head : (at left least : ℕ) → (get_or s (at + 1) 0 ≡ 0 → ⊥) → (P : Option Head → Type 0) → P None → P (Some (Inner (get_or s (at + 1) 0) (cursor (at + 2) (left - 1))))
       → P (head_at s at left least)
   by_head at left least e P p q = go (head_at s at left least) (head_is s at left least)
     where
-      go : (h : Head) → HeadIs s at left least h → P h
-      go Malformed is_malformed = p
-      go (Channel a l) (is-channel g z) = absurd (e z)
-      go (Inner n a l) (is_inner g w) = q
+      go : (h : Option Head) → HeadIs s at left least h → P h
+      go None is_malformed = p
+      go (Some (Channel r)) (is-channel g z) = absurd (e z)
+      go (Some (Inner n r)) (is_inner g w) = q
 
   no-channel : (d at : ℕ) → element_slots s d at ≡ [] → get_or s (at + 1) 0 ≡ 0 → ⊥
   no-channel d at e z =
@@ -136,11 +132,11 @@ module _ (s : List ℕ) where
       (append-eq-nil_iff.0 (sym (copies_more (passes longest_payload (count_as (get_or s at 0))) (list_slots s d n (at + 2)) (λ k. omega (arith, passes_most (get_or s at 0)))) ∙ u)).0 in
       (append-eq-nil_iff.0 (sym (list_more s d n (at + 2) z) ∙ v)).0
 
-  empty_bad : (d at left least : ℕ) → element_slots s d at ≡ [] → element_at s d at left least ≡ Bad
+  empty_bad : (d at left least : ℕ) → element_slots s d at ≡ [] → element_at s d at left least ≡ None
   unfolding element_at
-  empty_bad zero at left least e = by_head at left least (no-channel zero at e) (λ (h : Head). on_head (λ n a l. Bad) h ≡ Bad) refl refl
+  empty_bad zero at left least e = by_head at left least (no-channel zero at e) (λ (h : Option Head). on_head (λ n a l. None) h ≡ None) refl refl
   empty_bad (suc d) at left least e =
-      by_head at left least (no-channel (suc d) at e) (λ (h : Head). on_head (many (λ a l. element_at s d a l 1)) h ≡ Bad) refl
+      by_head at left least (no-channel (suc d) at e) (λ (h : Option Head). on_head (many (λ a l. element_at s d a l 1)) h ≡ None) refl
       (many_bad (λ a l. element_at s d a l 1) (get_or s (at + 1) 0) (at + 2) (left - 1) (no-channel (suc d) at e)
       (empty_bad d (at + 2) (left - 1) 1 (first_empty d at e)))
 

@@ -14,10 +14,10 @@ use native.Mathlib.Omega.{arith}
 use lib.ListN.{length, get_or, drop, length-append, length-drop}
 use lib.Seq.{get_or-drop, drop-drop, drop_at}
 use Rattle.octets.specs.Tests.{never}
-use Rattle.table.specs.declared.form.Read.{Read}
-use Rattle.table.specs.declared.form.Read.TheVariants.{Next}
+use Rattle.std.specs.Prelude.{Option}
+use Rattle.table.specs.declared.form.Cursor.{Cursor}
 use Rattle.table.specs.Entry.{Count, Elements, none, channel, list, size, all_elements, depth, is_none, is_list, most_elements, count_number, element_numbers}
-use Rattle.table.specs.Cursor.{and_then, many, element_at, skip}
+use Rattle.table.specs.Cursor.{cursor, next, and_then, many, element_at, skip}
 use Rattle.table.specs.Form.{count_as, in_turn, list_as}
 use Rattle.table.proofs.Parts.{count_least, count-number, ListIs, channel_is, list_is, depth_least, numbers_least}
 use Rattle.table.proofs.Reading.{is-channel, tree-channel, tree_inner}
@@ -47,9 +47,9 @@ module _ (s : List ℕ) where
   third_at at r k c z e = sym (get_or-drop at s 2 0) ∙ ap (λ (l : List ℕ). get_or l 2 0) e
 
   channel-reads : (d at left least r c : ℕ) (z : List ℕ) → drop at s ≡ r ∷ 0 ∷ c ∷ z → 1 ≤ left → least ≤ r
-      → element_at s d at left least ≡ Next (at + 3) (left - 1)
+      → element_at s d at left least ≡ next (at + 3) (left - 1)
   channel-reads d at left least r c z e b o =
-      is-channel s at left least d (at + 3) (left - 1)
+      is-channel s at left least d (cursor (at + 3) (left - 1))
       (head-channel s at left least (good_at at r 0 (c ∷ z) e left least (omega arith) b o) (second_at at r 0 (c ∷ z) e))
 
   -- an inner list and what stands behind it
@@ -65,7 +65,7 @@ module _ (s : List ℕ) where
     rest_at = behind (at + 2) (length (element_numbers i)) (element_numbers i) (element_numbers l ++ z) inner_at refl
 
     -- it is read as its elements are
-    inner-reads : (d left least : ℕ) (q : Read) → 2 ≤ size i → 1 ≤ left → least ≤ count_number r
+    inner-reads : (d left least : ℕ) (q : Option Cursor) → 2 ≤ size i → 1 ≤ left → least ≤ count_number r
         → many (λ a b. element_at s d a b 1) (size i) (at + 2) (left - 1) ≡ q → element_at s (suc d) at left least ≡ q
     unfolding element_at
     inner-reads d left least q pair some o h =
@@ -77,14 +77,14 @@ module _ (s : List ℕ) where
   -- ---- elements
 
   pub list-reads : (l : Elements) (d at left : ℕ) (z : List ℕ) → is_list false l ≡ true → depth l ≤ suc d → all_elements l ≤ left → drop at s ≡ element_numbers l ++ z
-      → many (λ a b. element_at s d a b 1) (size l) at left ≡ Next (at + length (element_numbers l)) (left - all_elements l)
+      → many (λ a b. element_at s d a b 1) (size l) at left ≡ next (at + length (element_numbers l)) (left - all_elements l)
   unfolding many size all_elements element_numbers depth
-  list-reads none d at left z sound low few e = ap₂ Next (omega arith) (omega arith)
+  list-reads none d at left z sound low few e = ap₂ next (omega arith) (omega arith)
   list-reads (channel r c l) d at left z sound low few e =
       let p = channel_is false r c l sound in
       rw (channel-reads d at left 1 (count_number r) c (element_numbers l ++ z) e (omega arith) (count_least false r p.count refl))
       (list-reads l d (at + 3) (left - 1) z p.behind low (omega arith) (behind at 3 (count_number r ∷ 0 ∷ c ∷ []) (element_numbers l ++ z) e refl)
-      ∙ ap₂ Next (omega arith) (omega arith))
+      ∙ ap₂ next (omega arith) (omega arith))
   list-reads (list r i l) zero at left z sound low few e = absurd (omega (arith, depth_least i))
   list-reads (list r i l) (suc d) at left z sound low few e =
       let p = list_is false r i l sound in
@@ -92,12 +92,12 @@ module _ (s : List ℕ) where
       rw (inner-reads r i l at z e d left 1 _ p.pair (omega arith) (count_least false r p.count refl)
       (list-reads i d (at + 2) (left - 1) (element_numbers l ++ z) p.inner (omega arith) (omega arith) (inner_at r i l at z e)))
       (list-reads l (suc d) (at + 2 + length x) (left - 1 - all_elements i) z p.behind (omega arith) (omega arith) (rest_at r i l at z e)
-      ∙ ap₂ Next (omega (arith, length-append x (element_numbers l))) (omega arith))
+      ∙ ap₂ next (omega (arith, length-append x (element_numbers l))) (omega arith))
 
   -- an inner list as the paper has it
   inner_whole : (r : Count) (i l : Elements) (top : Bool) → ListIs top r i l → (d at : ℕ) (z : List ℕ) → depth i ≤ suc d
       → drop at s ≡ element_numbers (list r i l) ++ z → (left least : ℕ) → 1 + all_elements i ≤ left → least ≤ count_number r
-      → element_at s (suc d) at left least ≡ Next (at + 2 + length (element_numbers i)) (left - 1 - all_elements i)
+      → element_at s (suc d) at left least ≡ next (at + 2 + length (element_numbers i)) (left - 1 - all_elements i)
   inner_whole r i l top p d at z low e left least few o =
       inner-reads r i l at z e d left least _ p.pair (omega arith) o
       (list-reads i d (at + 2) (left - 1) (element_numbers l ++ z) p.inner low (omega arith) (inner_at r i l at z e))
@@ -133,10 +133,10 @@ module _ (s : List ℕ) where
   -- ---- the top
 
   -- the last element is read apart: it may repeat until closing
-  top_step : (d : ℕ) (l : Elements) (at left a b x y : ℕ) → element_at s d at left 0 ≡ Next a b → (is_none l ≡ false → element_at s d at left 1 ≡ Next a b)
-      → (is_none l ≡ true → Next a b ≡ Next x y)
-      → (is_none l ≡ false → and_then (many (λ p q. element_at s d p q 1) (size l - 1) a b) (λ p q. element_at s d p q 0) ≡ Next x y)
-      → and_then (many (λ p q. element_at s d p q 1) (size l) at left) (λ p q. element_at s d p q 0) ≡ Next x y
+  top_step : (d : ℕ) (l : Elements) (at left a b x y : ℕ) → element_at s d at left 0 ≡ next a b → (is_none l ≡ false → element_at s d at left 1 ≡ next a b)
+      → (is_none l ≡ true → next a b ≡ next x y)
+      → (is_none l ≡ false → and_then (many (λ p q. element_at s d p q 1) (size l - 1) a b) (λ p q. element_at s d p q 0) ≡ next x y)
+      → and_then (many (λ p q. element_at s d p q 1) (size l) at left) (λ p q. element_at s d p q 0) ≡ next x y
   unfolding many size
   top_step d none at left a b x y p q o h = p ∙ o refl
   top_step d (channel r c l) at left a b x y p q o h = let z : suc (size l) - 1 ≡ size l = omega arith in rw (q refl) (rw z at (h refl))
@@ -150,7 +150,7 @@ module _ (s : List ℕ) where
 
   pub top-reads : (l : Elements) (d at left : ℕ) (z : List ℕ) → is_none l ≡ false → is_list true l ≡ true → depth l ≤ suc d → all_elements l ≤ left
       → drop at s ≡ element_numbers l ++ z
-      → and_then (many (λ p q. element_at s d p q 1) (size l - 1) at left) (λ p q. element_at s d p q 0) ≡ Next (at + length (element_numbers l)) (left - all_elements l)
+      → and_then (many (λ p q. element_at s d p q 1) (size l - 1) at left) (λ p q. element_at s d p q 0) ≡ next (at + length (element_numbers l)) (left - all_elements l)
   unfolding size all_elements element_numbers depth
   top-reads none d at left z some sound low few e = never (cc)
   top-reads (channel r c l) d at left z some sound low few e =
@@ -159,9 +159,9 @@ module _ (s : List ℕ) where
       let n : suc (size l) - 1 ≡ size l = omega arith in
       rw n (top_step d l at left (at + 3) (left - 1) _ _ (channel-reads d at left 0 (count_number r) c y e (omega arith) (omega arith))
       (λ m. channel-reads d at left 1 (count_number r) c y e (omega arith) (count_least (is_none l) r p.count m))
-      (λ m. let q = none_elements l m in ap₂ Next (omega (arith, q.0)) (omega (arith, q.1)))
+      (λ m. let q = none_elements l m in ap₂ next (omega (arith, q.0)) (omega (arith, q.1)))
       (λ m. top-reads l d (at + 3) (left - 1) z m p.behind low (omega arith) (behind at 3 (count_number r ∷ 0 ∷ c ∷ []) y e refl)
-      ∙ ap₂ Next (omega arith) (omega arith)))
+      ∙ ap₂ next (omega arith) (omega arith)))
   top-reads (list r i l) zero at left z some sound low few e = absurd (omega (arith, depth_least i))
   top-reads (list r i l) (suc d) at left z some sound low few e =
       let p = list_is true r i l sound in
@@ -170,6 +170,6 @@ module _ (s : List ℕ) where
       let n : suc (size l) - 1 ≡ size l = omega arith in
       rw n (top_step (suc d) l at left (at + 2 + length x) (left - 1 - all_elements i) _ _ (whole 0 (omega arith) (omega arith))
       (λ m. whole 1 (omega arith) (count_least (is_none l) r p.count m))
-      (λ m. let q = none_elements l m in ap₂ Next (omega (arith, q.0, length-append x (element_numbers l))) (omega (arith, q.1)))
+      (λ m. let q = none_elements l m in ap₂ next (omega (arith, q.0, length-append x (element_numbers l))) (omega (arith, q.1)))
       (λ m. top-reads l (suc d) (at + 2 + length x) (left - 1 - all_elements i) z m p.behind (omega arith) (omega arith) (rest_at r i l at z e)
-      ∙ ap₂ Next (omega (arith, length-append x (element_numbers l))) (omega arith)))
+      ∙ ap₂ next (omega (arith, length-append x (element_numbers l))) (omega arith)))

@@ -18,7 +18,7 @@ use lib.ListN.{length, get_or, drop, replicate, length-replicate}
 use Rattle.octets.specs.Tests.{both_true}
 use Rattle.octets.specs.Written.{written-length}
 use Rattle.calls.specs.Refusal.{Ended, leaving, refusing}
-use Rattle.calls.proofs.Laws.{told-refused, leaving-same, by_tests, checked_leaves, checked_keeps, outcome-once}
+use Rattle.calls.proofs.Laws.{told-refused, leaving-same, by_tests, checked_leaves, checked_keeps, both_say-once}
 use Rattle.table.specs.Entry.{Elements, size, all_elements, depth, is_list, is_entry_tree, element_numbers, numbers, fixed_tree}
 use Rattle.table.specs.Form.{tree_of, is_entry}
 use Rattle.table.specs.Slots.{Slot, slots, entry_slots, payload_slots}
@@ -103,7 +103,7 @@ slots_are = slots-are
 -- ---- any two answers are equal
 
 pub replaced_unique : ReplacedUnique
-replaced_unique t s after left c r q p o = outcome-once r q after left (replaced t c s) p o
+replaced_unique t s after left c r q p o = both_say-once r q after left (replaced t c s) p o
 
 pub laid_unique : LaidUnique
 laid_unique from r q new c l c₁ l₁ c₂ l₂ p o = (

@@ -28,9 +28,9 @@
 --   OctetsInTurn       payload octet k is the k-th channel's of the entry's expansion
 --
 -- Assumes nothing.
-use Rattle.std.specs.Prelude.{◌≡◌, ◌↔◌, true, not, List, [], ◌∷◌, ◌++◌, ℕ, suc, ◌-◌, ◌≤◌, ◌<◌, eqb, length, replicate, take, get_or}
-use Rattle.calls.specs.declared.Outcome.{Outcome}
-use Rattle.calls.specs.Refusal.{refused, ended, leaving, outcome_says}
+use Rattle.std.specs.Prelude.{◌≡◌, ◌↔◌, true, not, List, [], ◌∷◌, ◌++◌, ℕ, suc, ◌-◌, ◌≤◌, ◌<◌, eqb, length, replicate, take, get_or, Result}
+use Rattle.calls.specs.declared.Refusal.{Refusal}
+use Rattle.calls.specs.Refusal.{refused, ended, leaving, says}
 use Rattle.table.specs.declared.walk.Laid.{Laid}
 use Rattle.table.specs.Entry.{Count, times, none, until_closing, Elements, channel, list, is_entry_tree, numbers, is_finite, is_closing, octets_in}
 use Rattle.table.specs.Form.{tree_of, is_entry}
@@ -97,7 +97,7 @@ ReplacedEntries = (t s : List ℕ) (c : ℕ) → Entries t → Entries (replaced
 
 abbrev pub ReplacedUnique : Type 0
 ReplacedUnique =
-    (t s after left : List ℕ) (c : ℕ) (r q : Outcome) → ended (outcome_says r) after ≡ replaced t c s → ended (outcome_says q) left ≡ replaced t c s
+    (t s after left : List ℕ) (c : ℕ) (r q : Result (Unit {0}) Refusal) → ended (says r) after ≡ replaced t c s → ended (says q) left ≡ replaced t c s
     → (r ≡ q) × (after ≡ left)
 
 abbrev pub LaidUnique : Type 0

@@ -1,7 +1,7 @@
 // The form of an entry (000, 6.4.1.1), coded flat in prefix order: the number of elements, then the elements.
 // An element is its repeat count (0: until closing), then 0 and a channel, or the number of inner elements and those.
 ghost use Rattle.std.specs.Prelude.{◌≡◌};
-ghost use Rattle.table.specs.Cursor.{head_at, element_at, list_at};
+ghost use Rattle.table.specs.Cursor.{head_at, element_at, list_at, entry_read};
 ghost use Rattle.table.specs.Form.{is_entry};
 
 // The numbers for which an entry has room in the table: no entry has more.
@@ -12,117 +12,90 @@ pub const MOST_ELEMENTS: usize = 32;
 
 pub const DEPTH: usize = 2;
 
-// What reading finds: the place after it and how many elements may still come, or a malformed entry.
-#[derive(Clone, Copy)]
-pub enum Read {
-    Next { at: usize, left: usize },
-    Bad,
+// Where reading goes on, and how many elements may still come.
+#[derive(Clone, Copy, Debug, PartialEq, Eq)]
+pub struct Cursor {
+    pub at: usize,
+    pub left: usize,
 }
 
-// What an element's own numbers say: a channel, with the place after it; the start of an inner list; or nothing good.
-#[derive(Clone, Copy)]
+// What an element's own numbers say: a channel, and what is read after it; or an inner list of so many elements, from where they begin.
+#[derive(Clone, Copy, Debug, PartialEq, Eq)]
 pub enum Head {
-    Channel { at: usize, left: usize },
-    Inner { count: u16, at: usize, left: usize },
-    Malformed,
+    Channel(Cursor),
+    Inner(u16, Cursor),
 }
 
-// The numbers of an element, with `left` elements still allowed; `least` is the least repeat count.
-fn numbers(s: &[u16], at: usize, left: usize, least: u16) -> Head
-    ensures { result ≡ head_at s.now at left least }
+// The numbers of an element, if they are good; `least` is the least repeat count.
+#[tactic(auto, using(crate::proofs::Heads::repeat_at, crate::proofs::Heads::count_at), unfolding(crate::specs::Cursor::head_at))]
+fn numbers(s: &[u16], from: Cursor, least: u16) -> Option<Head>
+    ensures { result ≡ head_at s.now from.at from.left least }
 {
-    if s.len() < 3 {
-        return Head::Malformed;
+    let [repeat, count, _, ..] = s.get(from.at..)? else {
+        return None;
+    };
+    let left = from.left.checked_sub(1)?;
+    if *repeat < least {
+        return None;
     }
-    if s.len() - 3 < at {
-        return Head::Malformed;
-    }
-    if left == 0 {
-        return Head::Malformed;
-    }
-    if s[at] < least {
-        return Head::Malformed;
-    }
-    let count = s[at + 1];
-    if count == 0 {
-        return Head::Channel {
-            at: at + 3,
-            left: left - 1,
-        };
-    }
-    if count == 1 {
-        return Head::Malformed;
-    }
-    Head::Inner {
-        count,
-        at: at + 2,
-        left: left - 1,
+    match *count {
+        0 => Some(Head::Channel(Cursor {
+            at: from.at + 3,
+            left,
+        })),
+        1 => None,
+        n => Some(Head::Inner(
+            n,
+            Cursor {
+                at: from.at + 2,
+                left,
+            },
+        )),
     }
 }
 
 // An element, in a list from which lists may go `depth` deeper.
 #[cycle(element_list)]
-pub fn element(s: &[u16], at: usize, depth: usize, left: usize, least: u16) -> Read
-    ensures { result ≡ element_at s.now depth at left least }
+#[tactic(auto, using(crate::proofs::Reading::readings))]
+pub fn element(s: &[u16], from: Cursor, depth: usize, least: u16) -> Option<Cursor>
+    ensures { result ≡ element_at s.now depth from.at from.left least }
 {
-    let h = numbers(s, at, left, least);
-    match h {
-        Head::Channel {
-            at: next,
-            left: rest,
-        } => Read::Next {
-            at: next,
-            left: rest,
-        },
-        Head::Inner {
-            count,
-            at: first,
-            left: rest,
-        } => {
-            if depth == 0 {
-                Read::Bad
-            } else {
-                list(s, first, depth - 1, rest, count)
-            }
-        }
-        Head::Malformed => Read::Bad,
+    match numbers(s, from, least)? {
+        Head::Channel(next) => Some(next),
+        Head::Inner(count, first) => list(s, first, depth.checked_sub(1)?, count),
     }
 }
 
 // `count` elements, each at least once.
 #[cycle(element_list)]
-fn list(s: &[u16], at: usize, depth: usize, left: usize, count: u16) -> Read
-    ensures { result ≡ list_at s.now depth count at left }
+#[tactic(auto, using(crate::proofs::Reading::list_turn, crate::proofs::Reading::none_left))]
+fn list(s: &[u16], from: Cursor, depth: usize, count: u16) -> Option<Cursor>
+    ensures { result ≡ list_at s.now depth count from.at from.left }
 {
-    if count == 0 {
-        return Read::Next { at, left };
+    let mut next = from;
+    for _ in 0..count {
+        next = element(s, next, depth, 1)?;
     }
-    let first = element(s, at, depth, left, 1);
-    match first {
-        Read::Next {
-            at: next,
-            left: rest,
-        } => list(s, next, depth, rest, count - 1),
-        Read::Bad => Read::Bad,
-    }
+    Some(next)
 }
 
-// Whether the numbers are those of an entry, and nothing stands behind them. Only its last element may repeat until closing.
+// The elements of an entry. Only the last may repeat until closing.
+#[tactic(auto, unfolding(crate::specs::Cursor::entry_read))]
+fn read(s: &[u16]) -> Option<Cursor>
+    ensures { result ≡ entry_read s.now }
+{
+    let before = s.first()?.checked_sub(1)?;
+    let first = Cursor {
+        at: 1,
+        left: MOST_ELEMENTS,
+    };
+    let last = list(s, first, DEPTH, before)?;
+    element(s, last, DEPTH, 0)
+}
+
+// Whether the numbers are those of an entry, and nothing stands behind them.
 pub fn is_entry(s: &[u16]) -> bool
     ensures { result ≡ is_entry s.now }
 {
-    if s.len() == 0 {
-        return false;
-    }
-    let count = s[0];
-    if count == 0 {
-        return false;
-    }
-    let Read::Next { at, left } = list(s, 1, DEPTH, MOST_ELEMENTS, count - 1) else {
-        return false;
-    };
-    let Read::Next { at: end, left: _ } = element(s, at, DEPTH, left, 0) else {
-        return false;
-    };
-    end == s.len()
+    read(s).is_some_and(|end| end.at == s.len())
 }

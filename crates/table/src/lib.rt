@@ -5,16 +5,16 @@ pub mod form; // form.rt: whether numbers are an entry
 pub mod walk; // walk.rt: the slots of an entry
 
 ghost use Rattle.std.specs.Prelude.{◌≡◌, ◌+◌, ◌*◌, ◌≤◌, length, take, drop};
-ghost use Rattle.calls.specs.Refusal.{ended, outcome_says};
+ghost use Rattle.calls.specs.Refusal.{ended, says};
 ghost use Rattle.table.specs.Table.{highest_code, longest_entry, longest_payload, entry_of, is_defined, replaced};
 ghost use Rattle.table.specs.Slots as slotted;
 ghost use Rattle.table.specs.Lays.{LaysInto};
 
 use crate::walk::Laid;
-use calls::Outcome;
+use calls::Refusal;
 
 // A multiplex code: which entry of the table a payload is laid out by. It is no channel number.
-#[derive(Clone, Copy)]
+#[derive(Clone, Copy, Debug, PartialEq, Eq)]
 pub struct Code(pub u32);
 
 pub const HIGHEST_CODE: u32 = 15;
@@ -26,6 +26,7 @@ pub const TABLE_NUMBERS: usize = HIGHEST_CODE as usize * form::LONGEST_ENTRY;
 pub const LONGEST_PAYLOAD: usize = 255;
 
 // Whether the table has an entry for the code.
+#[tactic(auto, using(crate::proofs::Entries::defined))]
 pub fn is_defined(table: &[u16; TABLE_NUMBERS], code: Code) -> bool
     ensures { result ≡ is_defined table.now code.0 }
 {
@@ -52,6 +53,7 @@ fn entry_at(table: &[u16], k: usize) -> &[u16]
 
 // The slots of a payload of n octets under the code's entry: their channels to the front of `channels`, how many octets each has to
 // the front of `lengths`. The multiplexer alone calls it, and has tested the code and the length.
+#[tactic(auto, unfolding(crate::specs::Table::entry_of))]
 pub fn payload_slots(
     table: &[u16; TABLE_NUMBERS],
     code: Code,
@@ -71,20 +73,20 @@ pub fn payload_slots(
 }
 
 // Replaces the code's entry: refusals 4 (there is no such code), 14, 10.
-pub fn replace(table: &mut [u16; TABLE_NUMBERS], code: Code, entry: &[u16]) -> Outcome
-    ensures { ended (outcome_says result) table.new ≡ replaced table.old code.0 entry.now }
+#[tactic(auto, using(crate::proofs::Entries::entry_short), unfolding(crate::specs::Table::replaced))]
+pub fn replace(table: &mut [u16; TABLE_NUMBERS], code: Code, entry: &[u16]) -> Result<(), Refusal>
+    ensures { ended (says result) table.new ≡ replaced table.old code.0 entry.now }
 {
     let c = code.0;
     if HIGHEST_CODE < c {
-        return Outcome::Refused(4);
+        return Err(Refusal::NoEntry);
     }
     if c == 0 {
-        return Outcome::Refused(14);
+        return Err(Refusal::Fixed);
     }
-    if form::is_entry(entry) {
-        let at = form::LONGEST_ENTRY * (c as usize - 1);
-        octets::write_numbers(table, at, entry);
-        return Outcome::Done;
+    if !form::is_entry(entry) {
+        return Err(Refusal::BadEntry);
     }
-    Outcome::Refused(10)
+    octets::write(table, form::LONGEST_ENTRY * (c as usize - 1), entry);
+    Ok(())
 }

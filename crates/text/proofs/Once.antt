@@ -11,4 +11,4 @@ pub decoded_once : DecodedUnique
 decoded_once s out after left r q d e = (d.answer ∙ sym e.answer, d.stands ∙ sym e.stands)
 
 pub given_once : GivenUnique
-given_once s to out after left r q d e = (d.answer ∙ sym e.answer, d.stands ∙ sym e.stands)
+given_once s to out after left r q at place d e = (d.answer ∙ sym e.answer, d.place ∙ sym e.place, d.stands ∙ sym e.stands)

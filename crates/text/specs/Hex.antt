@@ -6,18 +6,14 @@
 --   octets_of s                the octets of these pairs
 --   is_octets s room           s stands for octets, of which there are at most so many: it is one pair or more, or `-` for none
 --   decoded_into s out         out with these octets at its front, where s stands for octets and they fit, and as it was where not
---   IsDecoded s out r out'    r is how many octets s stands for, or that it stands for none that fit, and out' is what is left in out
---   IsGiven s to out r out'   the same of the word s, which ends at `to`
+--   IsDecoded s out r out'     r is how many octets s stands for, or none where it stands for none that fit, and out' is what is left in out
+--   IsGiven s to out r at out' the same of the word s, which ends at `to`; the next is then read from `at` on
 --
 -- Assumes nothing.
-use Rattle.std.specs.Prelude.{◌≡◌, Bool, true, false, cond, ◌&&◌, ◌||◌, List, [], ◌∷◌, ℕ, ◌+◌, ◌-◌, ◌*◌, leb, ltb, length}
+use Rattle.std.specs.Prelude.{◌≡◌, Bool, true, false, cond, ◌&&◌, ◌||◌, List, [], ◌∷◌, ℕ, ◌+◌, ◌-◌, ◌*◌, Option, Some, None, leb, ltb, length}
 use Rattle.octets.specs.Same.{same}
 use Rattle.text.specs.Numbers.{between}
 use Rattle.octets.specs.Written.{written}
-use Rattle.text.specs.declared.hex.Decoded.{Decoded}
-use Rattle.text.specs.declared.hex.Decoded.TheVariants.{Octets, Bad}
-use Rattle.text.specs.declared.hex.Octets as words
-use Rattle.text.specs.declared.hex.Octets.TheVariants as of_words
 
 unfoldable pub hex_digit : ℕ → ℕ
 hex_digit c = cond (between 48 57 c) (c - 48) (cond (between 65 70 c) (c - 55) (cond (between 97 102 c) (c - 87) 16))
@@ -41,10 +37,11 @@ is_octets s room = same s (45 ∷ []) || (ltb 0 (length s) && is_hex s && leb (l
 abbrev pub decoded_into : List ℕ → List ℕ → List ℕ
 decoded_into s out = cond (is_octets s (length out)) (written out 0 (octets_of s)) out
 
-pub record IsDecoded (s out : List ℕ) (r : Decoded) (out' : List ℕ) : Type 0 where
-  pub answer : r ≡ cond (is_octets s (length out)) (Octets (length (octets_of s))) Bad
+pub record IsDecoded (s out : List ℕ) (r : Option ℕ) (out' : List ℕ) : Type 0 where
+  pub answer : r ≡ cond (is_octets s (length out)) (Some (length (octets_of s))) None
   pub stands : out' ≡ decoded_into s out
 
-pub record IsGiven (s : List ℕ) (to : ℕ) (out : List ℕ) (r : words.Octets) (out' : List ℕ) : Type 0 where
-  pub answer : r ≡ cond (is_octets s (length out)) (of_words.Count (length (octets_of s)) to) of_words.Bad
+pub record IsGiven (s : List ℕ) (to : ℕ) (out : List ℕ) (r : Option ℕ) (at : ℕ) (out' : List ℕ) : Type 0 where
+  pub answer : r ≡ cond (is_octets s (length out)) (Some (length (octets_of s))) None
+  pub place : at ≡ to
   pub stands : out' ≡ decoded_into s out

@@ -1,4 +1,3 @@
-pub mod Leading
 pub mod Words
 pub mod Numbers
 pub mod Hex

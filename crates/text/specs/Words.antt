@@ -8,7 +8,7 @@
 --
 -- Assumes nothing.
 use Rattle.std.specs.Prelude.{Bool, not, List, ℕ, ◌+◌, eqb, length, drop}
-use Rattle.text.specs.Leading.{leading}
+use Rattle.std.specs.List.{prefix_len, take_while}
 
 abbrev pub is_space : ℕ → Bool
 is_space c = eqb c 32
@@ -17,10 +17,10 @@ abbrev pub is_letter : ℕ → Bool
 is_letter c = not (is_space c)
 
 abbrev pub word_start : List ℕ → ℕ → ℕ
-word_start line at = at + length (leading is_space (drop at line))
+word_start line at = at + prefix_len is_space (drop at line)
 
 abbrev pub word_at : List ℕ → ℕ → List ℕ
-word_at line at = leading is_letter (drop (word_start line at) line)
+word_at line at = take_while is_letter (drop (word_start line at) line)
 
 abbrev pub word_end : List ℕ → ℕ → ℕ
 word_end line at = word_start line at + length (word_at line at)

@@ -3,8 +3,8 @@ ghost use Rattle.std.specs.Prelude.{◌≡◌, false, List, [], ℕ};
 ghost use Rattle.text.specs.Lines.{SoFar, Takes};
 
 // How much of a line is read: how many of its octets stand in the lent line, whether there are more than it holds, and whether the
-// line has come to its end.
-#[derive(Clone, Copy)]
+// line has come to its end. (No `Option` for the length: `SoFar` tells it of a line too that has more.)
+#[derive(Clone, Copy, Debug, PartialEq, Eq)]
 pub struct Reading {
     pub length: usize,
     pub over: bool,
@@ -26,17 +26,15 @@ pub fn begin() -> Reading
 pub fn take(r: Reading, line: &mut [u8], octet: u8) -> Reading
     ensures { Takes r line.old octet result line.new }
 {
-    let mut next = r;
     if octet == b'\n' {
-        next.whole = true;
-        return next;
+        return Reading { whole: true, ..r };
     }
-    let n = r.length;
-    if line.len() <= n {
-        next.over = true;
-        return next;
+    if line.len() <= r.length {
+        return Reading { over: true, ..r };
     }
-    line[n] = octet;
-    next.length = n + 1;
-    next
+    line[r.length] = octet;
+    Reading {
+        length: r.length + 1,
+        ..r
+    }
 }

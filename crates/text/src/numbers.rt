@@ -1,32 +1,23 @@
 // Decimal numbers.
-ghost use Rattle.std.specs.Prelude.{◌≡◌, cond, ◌+◌, ◌-◌, ◌*◌};
+ghost use Rattle.std.specs.Prelude.{◌≡◌, cond, ◌+◌, ◌-◌, ◌*◌, Some, None};
+ghost use Rattle.std.specs.List.{prefix_len};
 ghost use Rattle.text.specs.Words.{word_at, word_end};
-ghost use Rattle.text.specs.Numbers.{is_digit, capped, decimal_at, number_of};
+ghost use Rattle.text.specs.Numbers.{is_digit, decimal, capped, decimal_at, number_of};
 
 use crate::words;
+use crate::words::Words;
 
-// A number and the place behind it, or no number.
-#[derive(Clone, Copy)]
-pub enum Decimal {
-    Digits { value: u64, at: usize },
-    Bad,
-}
+// What a number past 4,294,967,295 is given as. (No `Option`: `capped` in specs/Numbers.antt says so, and the digits behind it are read too.)
+const PAST: u64 = 4294967296;
 
-// A word's number and the place behind the word, or no number.
-#[derive(Clone, Copy)]
-pub enum Number {
-    Value { value: u32, at: usize },
-    Bad,
-}
-
-// The value of a digit, or 10.
-#[tactic(auto, using(crate::proofs::Ranges::ranges))]
-pub fn digit(c: u8) -> u8
-    ensures { result ≡ cond (is_digit c) (c - 48) 10 }
+// The value of a digit.
+#[tactic(auto, unfolding(crate::specs::Numbers::between))]
+pub fn digit(c: u8) -> Option<u8>
+    ensures { result ≡ cond (is_digit c) (Some (c - 48)) None }
 {
     match c {
-        b'0'..=b'9' => c - b'0',
-        _ => 10,
+        b'0'..=b'9' => Some(c - b'0'),
+        _ => None,
     }
 }
 
@@ -34,53 +25,57 @@ pub fn digit(c: u8) -> u8
 pub fn append(value: u64, last: u8) -> u64
     ensures { result ≡ capped (value * 10 + last) }
 {
-    if 429496729 < value {
-        return 4294967296;
-    }
-    let n = value * 10 + last as u64;
-    if 4294967295 < n {
-        return 4294967296;
-    }
-    n
+    (value.min(PAST) * 10 + u64::from(last)).min(PAST)
 }
 
-// The digits that stand from `at` on; a number past 4,294,967,295 is given as 4,294,967,296.
-pub fn digits(text: &[u8], at: usize) -> Decimal
+// How many digits a text begins with.
+#[tactic(auto, unfolding(crate::specs::Numbers::between))]
+fn count(text: &[u8]) -> usize
+    ensures { result ≡ prefix_len is_digit text.now }
+{
+    text.iter().take_while(|c| c.is_ascii_digit()).count()
+}
+
+// The number of these digits; one past 4,294,967,295 is given as 4,294,967,296.
+fn value(digits: &[u8]) -> u64
+    ensures { result ≡ capped (decimal digits.now) }
+{
+    digits
+        .iter()
+        .fold(0, |value, c| append(value, c.saturating_sub(b'0')))
+}
+
+// The number whose digits stand from `at` on, and the place behind them; one past 4,294,967,295 is given as 4,294,967,296.
+#[tactic(auto, using(crate::proofs::Leading::leading))]
+pub fn digits(text: &[u8], at: usize) -> Option<(u64, usize)>
     ensures { result ≡ decimal_at text.now at }
 {
-    let mut value: u64 = 0;
-    let mut i = at;
-    while i < text.len() {
-        let d = digit(text[i]);
-        if 9 < d {
-            break;
-        }
-        value = append(value, d);
-        i += 1;
+    let text = words::ahead(text, at);
+    let own = &text[..count(text)];
+    if own.is_empty() {
+        return None;
     }
-    if i == at {
-        return Decimal::Bad;
-    }
-    Decimal::Digits { value, at: i }
+    Some((value(own), at + own.len()))
 }
 
-// The number that the next word is, to 4,294,967,295.
-pub fn next(line: &[u8], at: usize) -> Number
-    ensures { result ≡ number_of (word_at line.now at) (word_end line.now at) }
+// The number that a word is, to 4,294,967,295.
+pub fn number(word: &[u8]) -> Option<u32>
+    ensures { result ≡ number_of word.now }
 {
-    let w = words::next(line, at);
-    let text = words::text(line, w);
-    let Decimal::Digits { value, at: end } = digits(text, 0) else {
-        return Number::Bad;
-    };
-    if end < text.len() {
-        return Number::Bad;
+    let (value, end) = digits(word, 0)?;
+    if end < word.len() {
+        return None;
     }
-    if 4294967295 < value {
-        return Number::Bad;
-    }
-    Number::Value {
-        value: value as u32,
-        at: w.to,
+    u32::try_from(value).ok()
+}
+
+impl<'a> Words<'a> {
+    // The number that the next word is, to 4,294,967,295.
+    pub fn number(&mut self) -> Option<u32>
+        ensures number { result ≡ number_of (word_at self.old.line.now self.old.at) }
+        ensures place { self.new.at ≡ word_end self.old.line.now self.old.at }
+        ensures line { self.new.line ≡ self.old.line }
+    {
+        number(self.next())
     }
 }

@@ -1,30 +1,30 @@
 -- Refused by the tests of the lengths; else number, unit and check are written one behind the other.
-use Rattle.std.proofs.Common.{rules, refl, sym, ◌≤◌, arith}
-use Rattle.adaptation.proofs.Wholes.{field_most, sent_empty, sent-long, sent-room, sent-parts}
-use Rattle.checks.specs.Check.{eight}
+use Rattle.std.proofs.Common.{◌≡◌, sym, ap, ◌∙◌, arith, length}
+use Rattle.adaptation.specs.AL2.{field}
+use Rattle.adaptation.proofs.Wholes.{field_is, sent_empty, sent-long, sent-room, sent-parts}
+use borrow.Author.Tests.{eqb-true, eqb-false}
 use Rattle.adaptation.proofs.al2.send.Goals as goal
-use Rattle.adaptation.proofs.al2.send.Goals.{After-number_octets-from}
+use Rattle.adaptation.proofs.al2.send.Goals.{After-as_slice-field, then-is_empty-via-then-is_empty, then-is_empty-via-else-is_empty+then-from-unit}
 
-few : (c : After-number_octets-from) → c.number_octets-from.result ≤ 1
-few c = rw c.number_octets-from.ensures (field_most c.args.number)
+written : (c : After-as_slice-field) → c.as_slice-field.result.now ≡ field c.args.number
+written c = field_is c.args.number c.as_slice-field.result.now c.as_slice-field.ensures
 
-pub returns-then-t-eq0 : goal.returns-then-t-eq0
-returns-then-t-eq0 c = sym (sent_empty _ _ _ refl _ c.if-t-eq0.true)
-
-pub overflow_sub-from : goal.overflow_sub-from
-overflow_sub-from c = omega (arith, few (goal.at.overflow_sub-from c).After-number_octets-from)
-
-pub returns-then-from-t : goal.returns-then-from-t
-returns-then-from-t c = sym (sent-long _ _ _ c.number_octets-from.ensures _ (omega (arith, few (goal.at.returns-then-from-t c).After-number_octets-from)))
+pub returns-then-is_empty : goal.returns-then-is_empty
+returns-then-is_empty c =
+    let f = ap length (written (goal.at.returns-then-is_empty c).After-as_slice-field) in
+    elim c.then-is_empty.branch [
+      | then-is_empty-via-then-is_empty w ↦ sym (sent_empty _ _ _ f _ (eqb-true _ _ (sym c.is_empty.ensures ∙ w.if-is_empty.true)))
+      | then-is_empty-via-else-is_empty+then-from-unit w ↦ sym (sent-long _ _ _ f _ (omega arith))
+    ]
 
 pub returns-then-out-n : goal.returns-then-out-n
-returns-then-out-n c = sym (sent-room _ _ _ c.number_octets-from.ensures _ (omega arith) (omega (arith, few (goal.at.returns-then-out-n c).After-number_octets-from)) (omega arith))
-
-pub seal-requires : goal.seal-requires
-unfolding eight
-seal-requires c = search rules
+returns-then-out-n c =
+    let f = ap length (written (goal.at.returns-then-out-n c).After-as_slice-field) in
+    let some = eqb-false _ _ (sym c.is_empty.ensures ∙ c.if-is_empty.false) in
+    sym (sent-room _ _ _ f _ (omega (arith, some)) (omega arith) (omega arith))
 
 pub returns : goal.returns
 returns c =
-    sym (sent-parts _ _ _ c.number_octets-from.ensures _ (omega (arith, c)) (omega (arith, few (goal.at.returns c).After-number_octets-from, c)) (omega (arith, c)) _ _ _ c.put_number.ensures
-    c.write.ensures c.seal.ensures)
+    let e = written (goal.at.returns c).After-as_slice-field in
+    let some = eqb-false _ _ (sym c.is_empty.ensures ∙ c.if-is_empty.false) in
+    sym (sent-parts _ _ _ (ap length e) _ (omega (arith, some)) (omega arith) (omega arith) _ _ _ (rw e at c.write.ensures) c.write-2.ensures c.seal.ensures)

@@ -7,7 +7,7 @@ use Rattle.field.specs.Octet as Octet
 use Rattle.codeword.proofs.generator.mirror.Given as goal
 
 abbrev pub invariant-loop-o : goal.invariant-loop-o
-invariant-loop-o l = (l.o ≤ l.e + 15) × Half (2 * l.e) (suc ones + l.e + l.o) l.p × Lanes (λ k. Octet.power (rise l.e) (suc (l.o + k))) l.c × Lanes (λ k. Octet.power (rise l.e) 16) l.far
+invariant-loop-o l = (l.o ≤ l.e) × Half (2 * l.e) (suc ones + l.e + l.o) l.p × Lanes (λ k. Octet.power (rise l.e) (suc (l.o + k))) l.c × Lanes (λ k. Octet.power (rise l.e) 16) l.far
 
 abbrev pub decreases-loop-o : goal.decreases-loop-o
-decreases-loop-o l = l.e + 15 - l.o
+decreases-loop-o l = l.e - l.o

@@ -1,12 +1,6 @@
-use Rattle.std.proofs.Common.{◌≡◌, refl, arith, rules}
-use Rattle.codeword.proofs.Laning.{filled_start, filled_next}
+use Rattle.std.proofs.Common.{rules}
+use Rattle.codeword.proofs.Laning.{filled_by}
 use Rattle.codeword.proofs.lanes.quotients.Goals as goal
 
 pub returns : goal.returns
-returns c = let e : c.loop-k.k ≡ 16 = omega arith in rw e at c.loop-k.invariant.1
-
-pub loop-k-init : goal.loop-k-init
-loop-k-init c = (search rules, filled_start refl)
-
-pub loop-k-preserved : goal.loop-k-preserved
-loop-k-preserved c = (search rules, filled_next c.loop-k.invariant.1 (search rules) (cc))
+returns c = filled_by _ _ _ 16 (λ k y q l h. search rules) c.from_fn.ensures.items

@@ -4,14 +4,14 @@ use Rattle.codeword.specs.Lanes.{lanes}
 use Rattle.codeword.proofs.rows.add.Goals as goal
 
 pub loop-i-init : goal.loop-i-init
-loop-i-init c = (search rules, added_start)
+loop-i-init c = added_start
 
 pub loop-i-preserved : goal.loop-i-preserved
 loop-i-preserved c =
     let l = c.loop-i in
-    (search rules, added_next l.invariant.1 (search rules) c.sum.ensures)
+    added_next l.invariant (search rules) c.sum.ensures
 
 pub returns : goal.returns
 returns c =
     let e : c.loop-i.i ≡ lanes = omega arith in
-    rw e at c.loop-i.invariant.1
+    rw e at c.loop-i.invariant

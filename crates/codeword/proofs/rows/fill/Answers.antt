@@ -4,7 +4,7 @@ use Rattle.codeword.proofs.Filling.{filling_spread, filling-past}
 use Rattle.codeword.proofs.rows.fill.Goals as goal
 
 pub returns-then-r-m : goal.returns-then-r-m
-returns-then-r-m c = filling_spread (search rules) (c.requires.0 _ (search rules)) c.columns_at.ensures c.spread.ensures
+returns-then-r-m c = filling_spread (search rules) c.at.ensures c.columns_at.ensures c.spread.ensures
 
 pub returns-else-r-m : goal.returns-else-r-m
 returns-else-r-m c = filling-past (search rules)

@@ -1,10 +1,7 @@
--- The roots below j are filled in.
-use Rattle.std.proofs.Common.{◌-◌, ◌≤◌, length, get_or}
+-- The roots so far are filled in.
+use Rattle.std.proofs.Common.{get_or}
 use Rattle.codeword.specs.Rows.{Filling}
 use Rattle.codeword.proofs.rows.fill_all.Given as goal
 
-abbrev pub invariant-loop-j : goal.invariant-loop-j
-invariant-loop-j l = (l.j ≤ length l.roots) × Filling l.n l.f l.j (λ i. get_or l.roots i 0) l.m l.initial.v l.v
-
-abbrev pub decreases-loop-j : goal.decreases-loop-j
-decreases-loop-j l = length l.roots - l.j
+abbrev pub invariant-loop-r : goal.invariant-loop-r
+invariant-loop-r l = Filling l.n l.f l.r-index (λ i. get_or l.roots i 0) l.m l.initial.v l.v

@@ -3,16 +3,14 @@ use Rattle.codeword.proofs.Columns.{rows_next}
 use Rattle.codeword.proofs.rows.lay.Goals as goal
 
 pub loop-d-init : goal.loop-d-init
-loop-d-init c = (search rules, refl, λ d i l. absurd (omega arith))
+loop-d-init c = (refl, λ d i l. absurd (omega arith))
 
 pub loop-d-preserved : goal.loop-d-preserved
 loop-d-preserved c =
     let l = c.loop-d in
-    let w = c.args.w.now in
-    let e = c.write.ensures in
-    (search rules, search rules, (rw e (rows_next l.d w l.f _ (omega (arith, l.invariant.1)) c.load-row.ensures l.invariant.2)))
+    (search rules, (rw c.write.ensures (rows_next l.d c.args.w.now l.f _ (omega (arith, l.invariant.0)) c.load-row.ensures l.invariant.1)))
 
 pub returns : goal.returns
 returns c =
     let e : c.loop-d.d ≡ 17 = omega arith in
-    rw e at c.loop-d.invariant.2
+    rw e at c.loop-d.invariant.1

@@ -3,14 +3,12 @@ use Rattle.codeword.proofs.Filling.{repeated_start, repeated-next}
 use Rattle.codeword.proofs.rows.repeat.Goals as goal
 
 pub loop-q-init : goal.loop-q-init
-loop-q-init c = (search rules, repeated_start)
+loop-q-init c = repeated_start
 
 pub loop-q-preserved : goal.loop-q-preserved
-loop-q-preserved c =
-    let l = c.loop-q in
-    (search rules, (rw c.write.ensures (repeated-next (search rules) (search rules) c.load-a.ensures l.invariant.1)))
+loop-q-preserved c = rw c.write.ensures (repeated-next (search rules) (search rules) c.load-a.ensures c.loop-q.invariant)
 
 pub returns : goal.returns
 returns c =
     let e : c.loop-q.q ≡ 15 = omega arith in
-    rw e at c.loop-q.invariant.1
+    rw e at c.loop-q.invariant

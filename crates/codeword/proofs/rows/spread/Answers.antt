@@ -3,14 +3,12 @@ use Rattle.codeword.proofs.Filling.{spread_start, spread-next}
 use Rattle.codeword.proofs.rows.spread.Goals as goal
 
 pub loop-i-init : goal.loop-i-init
-loop-i-init c = (search rules, spread_start)
+loop-i-init c = spread_start
 
 pub loop-i-preserved : goal.loop-i-preserved
-loop-i-preserved c =
-    let l = c.loop-i in
-    (search rules, spread-next l.invariant.1 (search rules) (search rules) (search rules) refl)
+loop-i-preserved c = spread-next c.loop-i.invariant (search rules) (search rules) (search rules) refl
 
 pub returns : goal.returns
 returns c =
     let e : c.loop-i.i ≡ 15 = omega arith in
-    rw e at c.loop-i.invariant.1
+    rw e at c.loop-i.invariant

@@ -6,25 +6,25 @@ use Rattle.codeword.proofs.rows.values.Goals.{then-m-gt2, else-m-gt2}
 
 pub fill_all-requires : goal.fill_all-requires
 unfolding is_small are_small
-fill_all-requires c = (search rules, search rules, search rules, roots_small residue-roots tt)
+fill_all-requires c = (search rules, search rules, roots_small residue-roots tt)
 
 pub fill_all-requires-then-m-gt2 : goal.fill_all-requires-then-m-gt2
 unfolding is_small are_small
-fill_all-requires-then-m-gt2 c = (search rules, search rules, search rules, roots_small other-roots tt)
+fill_all-requires-then-m-gt2 c = (search rules, search rules, roots_small other-roots tt)
 
 pub fill_all-requires-then-m-gt16 : goal.fill_all-requires-then-m-gt16
 unfolding is_small are_small
-fill_all-requires-then-m-gt16 c = (search rules, search rules, search rules, roots_small (17 ∷ []) tt)
+fill_all-requires-then-m-gt16 c = (search rules, search rules, roots_small (17 ∷ []) tt)
 
 pub returns-then-m-gt16 : goal.returns-then-m-gt16
 returns-then-m-gt16 c =
     let are = c.rows_of-rows.ensures in
-    values_are (residues_gained are c.fold_residues-f.ensures c.fill_all.ensures)
-    (elim c.if-m-gt2.branch [ then-m-gt2 w ↦ rw w.v-is (others_gained are w.fold_others-g.ensures w.fill_all-then-m-gt2.ensures) | else-m-gt2 w ↦ rw w.v-is (others-past w.if-m-gt2.false) ])
+    values_are (residues_gained are c.fold-f.ensures c.fill_all.ensures)
+    (elim c.if-m-gt2.branch [ then-m-gt2 w ↦ rw w.v-is (others_gained are w.fold-g.ensures w.fill_all-then-m-gt2.ensures) | else-m-gt2 w ↦ rw w.v-is (others-past w.if-m-gt2.false) ])
     (last_gained are c.fill_all-then-m-gt16.ensures) c.repeat.ensures
 
 pub returns-else-m-gt16 : goal.returns-else-m-gt16
 returns-else-m-gt16 c =
     let are = c.rows_of-rows.ensures in
-    few_values_are c.if-m-gt16.false (residues_gained are c.fold_residues-f.ensures c.fill_all.ensures)
-    (elim c.if-m-gt2.branch [ then-m-gt2 w ↦ rw w.v-is (others_gained are w.fold_others-g.ensures w.fill_all-then-m-gt2.ensures) | else-m-gt2 w ↦ rw w.v-is (others-past w.if-m-gt2.false) ])
+    few_values_are c.if-m-gt16.false (residues_gained are c.fold-f.ensures c.fill_all.ensures)
+    (elim c.if-m-gt2.branch [ then-m-gt2 w ↦ rw w.v-is (others_gained are w.fold-g.ensures w.fill_all-then-m-gt2.ensures) | else-m-gt2 w ↦ rw w.v-is (others-past w.if-m-gt2.false) ])

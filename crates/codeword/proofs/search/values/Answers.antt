@@ -6,21 +6,19 @@ use Rattle.codeword.proofs.search.values.Goals as goal
 pub loop-j-init : goal.loop-j-init
 loop-j-init c =
     let a = c.args in
-    let x = c.coefficient-a in
-    (search rules, horner-first refl refl (same-lanes a.c.now a.l x.ensures), same_octets x.type_inv)
+    (horner-first refl refl (same-lanes a.c.now a.l refl), same_octets (search rules))
 
 pub loop-j-preserved : goal.loop-j-preserved
 loop-j-preserved c =
     let l = c.loop-j in
-    let a = c.args in
-    let x = c.coefficient in
+    let f = c.args.c.now in
+    let x = get_or f (l.j - 1) 0 in
     let e : l.j ≡ l.j - 1 + 1 = omega arith in (
-      search rules,
-      horner_turn (λ i. get_or (replicate lanes x.result) i 0) (omega arith) (same-lanes a.c.now (l.j - 1) x.ensures) c.ahead-b.ensures (rw e at l.invariant.1),
-      turned_octets (along a.k) l.a (λ i. get_or (replicate lanes x.result) i 0) (same_octets x.type_inv) c.ahead-b.ensures,
+      horner_turn (λ i. get_or (replicate lanes x) i 0) (omega arith) (same-lanes f (l.j - 1) refl) c.ahead-next.ensures (rw e at l.invariant.0),
+      turned_octets (along c.args.k) l.a (λ i. get_or (replicate lanes x) i 0) (same_octets (search rules)) c.ahead-next.ensures,
     )
 
 pub returns : goal.returns
 returns c =
     let e : c.loop-j.j ≡ 0 = omega arith in
-    horner-lanes c.args.c.now c.loop-j.invariant.2 (rw e at c.loop-j.invariant.1)
+    horner-lanes c.args.c.now c.loop-j.invariant.1 (rw e at c.loop-j.invariant.0)

@@ -1,12 +1,9 @@
 -- What is there comes from the columns from q on.
-use Rattle.std.proofs.Common.{◌+◌, ◌<◌}
+use Rattle.std.proofs.Common.{◌+◌}
 use Rattle.codeword.proofs.Horner.{HornerLanes}
 use Rattle.codeword.specs.Lanes.{along}
 use Rattle.codeword.specs.Rows.{spaced}
 use Rattle.codeword.proofs.syndromes.join.Given as goal
 
 abbrev pub invariant-loop-q : goal.invariant-loop-q
-invariant-loop-q l = (l.q < 15) × HornerLanes 15 l.q (along l.k) (λ i. spaced l.v 48 (l.o + i)) l.a
-
-abbrev pub decreases-loop-q : goal.decreases-loop-q
-decreases-loop-q l = l.q
+invariant-loop-q l = HornerLanes 15 l.q (along l.k) (λ i. spaced l.v 48 (l.o + i)) l.a

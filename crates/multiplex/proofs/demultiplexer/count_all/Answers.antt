@@ -1,81 +1,48 @@
-use Rattle.std.proofs.Common.{rules, ◌≡◌, refl, sym, ◌∙◌, true≢false, List, ◌∷◌, ℕ, ◌+◌, ◌<◌, arith, drop, get_or}
+use Rattle.std.proofs.Common.{rules, ◌≡◌, refl, sym, ◌∙◌, ◌∷◌, ◌+◌, ◌<◌, arith, length, drop}
+use Rattle.std.proofs.lemmas.List.{length_push}
+use Rattle.std.proofs.lemmas.Slice.Zip.{zip_turn, zip_end}
 use Rattle.channels.specs.Channels.{channel_at, place_count}
 use Rattle.multiplex.proofs.Slotting.{paired-end}
 use Rattle.multiplex.proofs.Tallying.{at-once-most, piece-at, fits_met, fits_missed, fits-end, way-none, way_next, way-all}
-use Rattle.multiplex.specs.Pieces.{Piece, piece, laid}
+use Rattle.multiplex.specs.Pieces.{piece, laid}
 use Rattle.multiplex.proofs.demultiplexer.count_all.Goals as goal
-use Rattle.multiplex.proofs.demultiplexer.count_all.Goals.{In-loop-j}
+use Rattle.multiplex.proofs.demultiplexer.count_all.Goals.{After-from-p}
 
--- ---- one turn: the piece at place j
+-- this turn's piece
+turn : (c : After-from-p) → let j = length c.loop-place.yielded in let l = laid c.args.places.now c.args.lengths.now in
+    (c.from-p.result < place_count) × (drop j l ≡ piece c.from-p.result c.in-Some.n.now ∷ drop (j + 1) l)
+turn c =
+    let z = zip_turn c.args.places.now c.args.lengths.now _ c.into_iter-place-iterator.result _ c.next.new.self _ (cc) (cc) c.loop-place.yielded_by _ c.in-Some.is c.next.ensures.steps in
+    piece-at c.requires z.0 (c.from-p.ensures ∙ z.2 0) (z.3 0)
 
-module _ (c : In-loop-j) where
-  abbrev j : ℕ
-  j = c.loop-j.j
+pub loop-place-init : goal.loop-place-init
+loop-place-init c = rw c.new-tally.ensures (refl, (λ h xs k. (_, _, way-none _ h _ xs k)), search rules, search rules)
 
-  abbrev l : List Piece
-  l = laid c.args.places.now c.args.lengths.now
+pub returns-then-not-has_room : goal.returns-then-not-has_room
+returns-then-not-has_room c =
+    let w = turn (goal.at.returns-then-not-has_room c).After-from-p in
+    sym (c.loop-place.invariant.0 ∙ fits_missed _ _ _ w.1 (sym c.has_room.ensures ∙ c.if-not-has_room.true))
 
-  abbrev place : ℕ
-  place = get_or c.args.places.now j 0
-
-  abbrev more : ℕ
-  more = get_or c.args.lengths.now j 0
-
-  near : place < place_count
-  near = c.requires.within j c.loop-j-test.true
-
-  here : drop j l ≡ piece place more ∷ drop (j + 1) l
-  here = piece-at c.requires c.loop-j-test.true
-
-pub overflow_add-units : goal.overflow_add-units
-overflow_add-units c =
-    omega (arith, c.at_once-units.ensures, at-once-most (channel_at c.loop-j.cur (place (goal.at.overflow_add-units c).In-loop-j)) 1)
-
-pub loop-j-preserved : goal.loop-j-preserved
-loop-j-preserved c =
-    let l = (goal.at.loop-j-preserved c).In-loop-j in
-    let o = c.loop-j in
-    let on = channel_at o.cur (place l) in
-    let room = sym c.has_room.ensures ∙ c.if-has_room.true in
-    rw (c.join.ensures, c.at_once-octets.ensures, c.at_once-units.ensures) (
-      o.invariant.0 ∙ fits_met o.cur (place l) (more l) (here l) room,
-      (λ h xs k. let w = o.invariant.1 h xs k in (_, _, way_next w.2 (place l) (more l) (here l) _ _ refl refl)),
-      search rules,
-      omega (arith, at-once-most on (more l)),
+pub loop-place-preserved : goal.loop-place-preserved
+loop-place-preserved c =
+    let w = turn (goal.at.loop-place-preserved c).After-from-p in
+    let o = c.loop-place in
+    let p = c.from-p.result in
+    let n = c.in-Some.n.now in
+    let on = channel_at o.tally.channels p in
+    let room = sym c.has_room.ensures ∙ c.if-not-has_room.false in
+    rw (c.add.ensures, length_push) (
+      o.invariant.0 ∙ fits_met o.tally.channels p n w.1 room,
+      (λ h xs k. let v = o.invariant.1 h xs k in (_, _, way_next v.2 p n w.1 _ _ refl refl)),
+      omega (arith, at-once-most on n),
       omega (arith, at-once-most on 1),
     )
 
-pub returns-else-has_room : goal.returns-else-has_room
-returns-else-has_room c =
-    let k = (goal.at.returns-else-has_room c).In-loop-j in
-    let missed = fits_missed c.loop-j.cur (place k) (more k) (here k) in
-    let full = sym c.has_room.ensures ∙ c.if-has_room.false in
-    rw c.told.ensures (record { fit = sym (c.loop-j.invariant.0 ∙ missed full); tallies = λ e. absurd (true≢false (sym e)) })
-
 pub returns : goal.returns
 returns c =
-    let a = c.args in
-    let o = c.loop-j in
-    let end = paired-end piece a.places.now a.lengths.now o.j c.loop-j-test.false in
-    rw c.told-2.ensures (record {
-      fit = sym (o.invariant.0 ∙ fits-end o.cur end);
-      tallies = λ e h xs k. let w = o.invariant.1 h xs k in rw (way-all w.2 end) at w.2.tallies;
-    })
-
-pub loop-j-init : goal.loop-j-init
-loop-j-init c = (refl, (λ h xs k. (_, _, way-none _ h _ xs k)), search rules, search rules, search rules)
-
-pub offset_bounds-cur-p : goal.offset_bounds-cur-p
-offset_bounds-cur-p c = omega (arith, near (goal.at.offset_bounds-cur-p c).In-loop-j)
-
-pub bounds-cur-p : goal.bounds-cur-p
-bounds-cur-p c = near (goal.at.bounds-cur-p c).In-loop-j
-
-pub join-requires : goal.join-requires
-join-requires c = sym c.has_room.ensures ∙ c.if-has_room.true
-
-pub offset_bounds-cur-p-then-has_room : goal.offset_bounds-cur-p-then-has_room
-offset_bounds-cur-p-then-has_room c = omega (arith, near (goal.at.offset_bounds-cur-p-then-has_room c).In-loop-j)
-
-pub bounds-cur-p-then-has_room : goal.bounds-cur-p-then-has_room
-bounds-cur-p-then-has_room c = near (goal.at.bounds-cur-p-then-has_room c).In-loop-j
+    let o = c.loop-place in
+    let ps = c.args.places.now in
+    let ls = c.args.lengths.now in
+    let e = zip_end ps ls _ c.into_iter-place-iterator.result _ c.next.new.self _ (cc) (cc) o.yielded_by c.in-None.is c.next.ensures.steps in
+    let end = paired-end piece ps ls (length o.yielded) (omega (arith, e, c.requires.same)) in
+    (sym (o.invariant.0 ∙ fits-end o.tally.channels end), λ h xs k. let w = o.invariant.1 h xs k in rw (way-all w.2 end) at w.2.tallies)

@@ -1,29 +1,23 @@
 -- The checks come first, by value, so that a refusal finds everything as it came.
-use Rattle.std.proofs.Common.{◌≡◌, sym, ap, ◌∙◌, List, Bool, true, false, not, ◌&&◌, ℕ, ◌-◌, ◌*◌, ◌≤◌, ◌<◌, arith, length, get_or}
+use Rattle.std.proofs.Common.{◌≡◌, cond, sym, ap, ◌∙◌, List, Bool, true, false, not, ◌&&◌, ℕ, ◌*◌, ◌≤◌, arith, length}
+use Rattle.std.specs.Prelude.{Option, Some, None, Ok}
+use Rattle.std.proofs.lemmas.Result.{err_from_is_err_and}
 use Rattle.calls.specs.Refusal.{refusing}
+use Rattle.calls.specs.declared.Refusal.TheVariants.{HeldTooLong}
 use Rattle.channels.specs.Channels.{place_count, channel_at}
 use Rattle.channels.specs.declared.Channels.{Channels}
-use Rattle.multiplex.proofs.Closing.{within-laid, few-laid, last-laid, Accepted, mark_near, mark_exact, mark_closable}
-use Rattle.multiplex.proofs.Pouring.{closes-least, leaving-shown}
+use Rattle.multiplex.proofs.Closing.{within-laid, few-laid, Accepted, mark_near, mark_exact, mark_closable}
+use Rattle.multiplex.proofs.Marking.{some_marked, none_marked, marked_right, marked_wrong}
+use Rattle.multiplex.proofs.Pouring.{closed_tallies, closes-least, leaving-shown}
 use Rattle.multiplex.proofs.Refusing.{small_octets, small_units, small-not, delivered-mark, delivered-full, delivered-small, delivered-all}
 use Rattle.multiplex.proofs.Tallying.{took_all_grows}
 use Rattle.multiplex.specs.Demultiplexer.{Delivery, DemuxLent, fits, nothing, took_all, delivery, too_small, delivered}
 use Rattle.multiplex.specs.Pieces.{Piece, laid, last_place}
-use Rattle.multiplex.specs.Tally.{closes, Tallies, RoomFor, Exact, InRange, Deliverable}
+use Rattle.multiplex.specs.Tally.{marked, ends, closes, DryRun, Tallies, RoomFor, Exact, InRange, Poured, Deliverable}
 use Rattle.multiplex.specs.declared.demultiplexer.Tally.{Tally}
 use Rattle.table.specs.Table.{longest_payload}
 use Rattle.multiplex.proofs.demultiplexer.deliver.Goals as goal
-use Rattle.multiplex.proofs.demultiplexer.deliver.Goals.{After-close-end, Then-counted}
-
--- ---- the last place, and the mark
-
-module _ (ps ls : List ℕ) {last : ℕ} (same : length ps ≡ length ls) (e : last ≡ get_or ps (length ps - 1) place_count) where
-  last-is : last ≡ last_place (laid ps ls)
-  last-is = e ∙ sym (last-laid ps ls same)
-
-  wrong-is : (s : Channels) (mark : Bool) {r : Bool} → r ≡ (mark && not (channel_at s last).segmentable)
-      → r ≡ (mark && not (channel_at s (last_place (laid ps ls))).segmentable)
-  wrong-is s mark w = w ∙ ap (λ (p : ℕ). mark && not (channel_at s p).segmentable) last-is
+use Rattle.multiplex.proofs.demultiplexer.deliver.Goals.{In_ok-end, Joined-last, in-Some, in_default, in-Some-last, in_default-last, then-output-end-via-then-output-end, then-output-end-via-else-output-end+then-units-end}
 
 -- ---- nothing refuses the pieces
 
@@ -94,92 +88,141 @@ module _ {s : Channels} {h ps ls xs : List ℕ} {mark : Bool} (f : Fine s h ps l
           let m = closes-least all mark (last_place l) in
           record { output = omega (arith, m.0, room.output); units = omega (arith, m.1, room.units) }
 
-fine : (c : Then-counted) → let a = c.args in Fine a.s a.held.now a.places.now a.lengths.now a.payload.now a.mark
-fine c = record {
-  sixteen = c.well_formed.0.1.1.0.1.0.1;
+-- ---- what the checks have shown
+
+record Checked (s : Channels) (h ps ls xs : List ℕ) (mark : Bool) (last : Option ℕ) (end : Tally) : Type 0 where
+  full : length s.at ≡ place_count
+  given : Deliverable ps ls xs h
+  right : Ok last ≡ marked s mark ps
+  dry : DryRun s (laid ps ls) (Some end)
+
+module _ {s : Channels} {h ps ls xs : List ℕ} {mark : Bool} {last : Option ℕ} {end : Tally} (k : Checked s h ps ls xs mark last end) where
+  abbrev q : ℕ
+  q = last_place (laid ps ls)
+
+  -- the mark is right, and this is what it ends
+  ending : ((mark && not (channel_at s q).segmentable) ≡ false) × (last ≡ cond mark (Some q) None)
+  ending = marked_right s mark ps ls k.given.pieces.same k.full last (sym k.right)
+
+  fine : Fine s h ps ls xs mark
+  fine = record { sixteen = k.full; given = k.given; fit = sym k.dry.0; right = ending.0 }
+
+  tallied : Tallies (all fine) end
+  tallied = k.dry.1 h xs k.given.enough
+
+  -- the place that it ends is the last
+  some : (p : ℕ) → last ≡ Some p → (mark ≡ true) × (p ≡ q)
+  some p e = some_marked q p mark (sym ending.1 ∙ e)
+
+  none : last ≡ None → mark ≡ false
+  none e = none_marked q mark (sym ending.1 ∙ e)
+
+  closed-some : (p : ℕ) → last ≡ Some p → Tallies (whole fine) (ends end p)
+  closed-some p e = let m = some p e in rw (m.0, m.1) (closed_tallies (all fine) end q tallied (exact fine m.0))
+
+  closed-none : last ≡ None → Tallies (whole fine) end
+  closed-none e = rw (none e) tallied
+
+at_end : (c : In_ok-end) → let a = c.args in Checked a.s.now a.held.now a.places.now a.lengths.now a.payload.now a.mark c.in_ok-last.last c.in_ok-end.end
+at_end c = let e : c.count_all.result ≡ Some c.in_ok-end.end = grind arith in record {
+  full = c.marked_place.ensures.full;
   given = c.requires;
-  fit = sym c.count_all-counted.ensures.fit ∙ c.if-counted.true;
-  right = sym (wrong-is _ _ c.requires.pieces.same c.last_place-last.ensures c.args.s c.args.mark c.has_wrong_mark.ensures) ∙ c.if-has_wrong_mark.false;
+  right = sym c.in_ok-last.was ∙ c.marked_place.ensures.place;
+  dry = rw e at c.count_all.ensures;
 }
 
-closed : (c : After-close-end) → let a = c.args in
-    (f : Fine a.s a.held.now a.places.now a.lengths.now a.payload.now a.mark) → Tallies (whole f) c.close-end.result
-closed c f =
-    (rw (last-is _ _ c.requires.pieces.same c.last_place-last.ensures) at c.close-end.ensures) (all f)
-    (c.count_all-counted.ensures.tallies c.if-counted.true c.args.held.now c.args.payload.now c.requires.enough) (exact f)
+at_join : (c : Joined-last) → let a = c.args in Checked a.s.now a.held.now a.places.now a.lengths.now a.payload.now a.mark c.match-last.last c.in_ok-end.end
+at_join c =
+    let e : c.count_all.result ≡ Some c.in_ok-end.end = grind arith in
+    let same : c.match-last.last ≡ c.in_ok-last.last = elim c.match-last.branch [ in-Some w ↦ w.last-is ∙ sym w.in-Some.is | in_default w ↦ w.last-is ] in
+    record {
+      full = c.marked_place.ensures.full;
+      given = c.requires;
+      right = ap Ok same ∙ sym c.in_ok-last.was ∙ c.marked_place.ensures.place;
+      dry = rw e at c.count_all.ensures;
+    }
+
+-- .. and with the unit that the mark ends
+closed : (c : Joined-last) → Tallies (whole (fine (at_join c))) c.match-last.end
+closed c = elim c.match-last.branch [
+  | in-Some w ↦ rw (w.end-is, w.close.ensures) (closed-some (at_join c) w.in-Some.p w.last-is)
+  | in_default w ↦ rw w.end-is (closed-none (at_join c) (w.last-is ∙ w.in_default.is))
+]
 
 -- ---- the answers
 
-pub returns-then-has_wrong_mark : goal.returns-then-has_wrong_mark
-returns-then-has_wrong_mark c =
+pub returns-in_err-last : goal.returns-in_err-last
+returns-in_err-last c =
     let a = c.args in
-    rw c.refused.ensures
-    (sym (delivered-mark (record { channels = a.s; held = a.held.now; output = a.output.now; units = a.units.now }) a.mark
-    (laid a.places.now a.lengths.now) a.payload.now
-    (sym (wrong-is _ _ c.requires.pieces.same c.last_place-last.ensures a.s a.mark c.has_wrong_mark.ensures) ∙ c.if-has_wrong_mark.true)))
+    let p = err_from_is_err_and c.from_residual.result c.from_residual.ensures.1 in
+    let w = marked_wrong a.s.now a.mark a.places.now a.lengths.now c.requires.pieces.same c.marked_place.ensures.full c.in_err-last.field-0.0 (sym c.marked_place.ensures.place ∙ c.in_err-last.was) in
+    rw (p.1, p.2, w.1)
+    (sym (delivered-mark (record { channels = a.s.now; held = a.held.now; output = a.output.now; units = a.units.now }) a.mark
+    (laid a.places.now a.lengths.now) a.payload.now w.0))
 
-pub close-end-requires : goal.close-end-requires
-close-end-requires c m =
-    rw (last-is _ _ c.requires.pieces.same c.last_place-last.ensures)
-    (small (fine (goal.at.close-end-requires c).Then-counted) (c.count_all-counted.ensures.tallies c.if-counted.true c.args.held.now c.args.payload.now c.requires.enough) m)
+pub returns-in_err-end : goal.returns-in_err-end
+returns-in_err-end c =
+    let a = c.args in
+    let p = err_from_is_err_and c.from_residual-in_err-end.result c.from_residual-in_err-end.ensures.1 in
+    let none : c.count_all.result ≡ None = grind arith in
+    let e : c.in_err-end.field-0.0 ≡ HeldTooLong = grind arith in
+    let full = rw none at c.count_all.ensures in
+    let w = marked_right a.s.now a.mark a.places.now a.lengths.now c.requires.pieces.same c.marked_place.ensures.full c.in_ok-last.last (sym c.marked_place.ensures.place ∙ c.in_ok-last.was) in
+    rw (p.1, p.2, e)
+    (sym (delivered-full (record { channels = a.s.now; held = a.held.now; output = a.output.now; units = a.units.now }) a.mark
+    (laid a.places.now a.lengths.now) a.payload.now w.0 (sym full)))
+
+pub close-requires : goal.close-requires
+close-requires c =
+    let k = at_end (goal.at.close-requires c).In_ok-end in
+    let m = some k c.in-Some.p c.in-Some.is in
+    rw m.1 (small (fine k) (tallied k) m.0)
 
 pub overflow_mul-end : goal.overflow_mul-end
 overflow_mul-end c =
-    let f = fine (goal.at.overflow_mul-end c).Then-counted in
-    omega (arith, close-most f (closed (goal.at.overflow_mul-end c).After-close-end f))
+    let j = (goal.at.overflow_mul-end c).Joined-last in
+    omega (arith, close-most (fine (at_join j)) (closed j))
 
 pub returns-then-output-end : goal.returns-then-output-end
 returns-then-output-end c =
     let a = c.args in
-    let f = fine (goal.at.returns-then-output-end c).Then-counted in
-    let e = closed (goal.at.returns-then-output-end c).After-close-end f in
-    let lack : length a.output.now < length (whole f).octets = omega (arith, e.octets, c.if-output-end.true) in
-    rw c.refused-then-output-end.ensures (sym (lacking f _ _ (small_octets (whole f) a.output.now a.units.now lack)))
+    let j = (goal.at.returns-then-output-end c).Joined-last in
+    let f = fine (at_join j) in
+    let e = closed j in
+    sym (lacking f _ _ (elim c.then-output-end.branch [
+      | then-output-end-via-then-output-end w ↦ small_octets (whole f) a.output.now a.units.now (omega (arith, e.octets, w.if-output-end.true))
+      | then-output-end-via-else-output-end+then-units-end w ↦ small_units (whole f) a.output.now a.units.now (omega (arith, e.octets, w.if-output-end.false))
+          (omega (arith, close-units f e, w.if-units-end.true))
+    ]))
 
-pub returns-then-units-end : goal.returns-then-units-end
-returns-then-units-end c =
-    let a = c.args in
-    let f = fine (goal.at.returns-then-units-end c).Then-counted in
-    let e = closed (goal.at.returns-then-units-end c).After-close-end f in
-    let enough : length (whole f).octets ≤ length a.output.now = omega (arith, e.octets, c.if-output-end.false) in
-    let lack : length a.units.now < length (whole f).units = omega (arith, close-units f e, c.if-units-end.true) in
-    rw c.refused-then-units-end.ensures (sym (lacking f _ _ (small_units (whole f) a.output.now a.units.now enough lack)))
-
-pub pour-t-requires : goal.pour-t-requires
-pour-t-requires c =
-    let f = fine (goal.at.pour-t-requires c).Then-counted in
-    let e = closed (goal.at.pour-t-requires c).After-close-end f in
-    record { given = c.requires; fit = f.fit; room = room-all f e c.if-output-end.false c.if-units-end.false }
-
-pub finish-r-requires : goal.finish-r-requires
-finish-r-requires c m =
-    let f = fine (goal.at.finish-r-requires c).Then-counted in
-    let e = closed (goal.at.finish-r-requires c).After-close-end f in
-    let v = c.pour-t.ensures.tallies in
-    let kept = c.pour-t.auto in
-    rw (last-is _ _ c.requires.pieces.same c.last_place-last.ensures)
-    (mark_closable (accepted f) m v (small f v m) (room f e c.if-output-end.false c.if-units-end.false) (kept.held ∙ c.requires.whole) kept.output
+pub finish-requires : goal.finish-requires
+finish-requires c =
+    let j = (goal.at.finish-requires c).Joined-last in
+    let f = fine (at_join j) in
+    let m = some (at_join j) c.in-Some-last.p c.in-Some-last.is in
+    let v = c.pour-tally.ensures.tallies in
+    let kept = c.pour-tally.auto in
+    rw m.1
+    (mark_closable (accepted f) m.0 v (small f v m.0) (room f (closed j) c.if-output-end.false c.if-units-end.false) (kept.held ∙ c.requires.whole) kept.output
     kept.units)
 
-pub returns-then-counted : goal.returns-then-counted
+pub returns : goal.returns
 unfolding delivery
-returns-then-counted c =
+returns c =
     let a = c.args in
-    let f = fine (goal.at.returns-then-counted c).Then-counted in
-    let e = closed (goal.at.returns-then-counted c).After-close-end f in
-    let r = room f e c.if-output-end.false c.if-units-end.false in
-    let all-room = room-all f e c.if-output-end.false c.if-units-end.false in
-    let g = rw (last-is _ _ c.requires.pieces.same c.last_place-last.ensures) at c.finish-r.ensures in
-    leaving-shown (g.more all-room c.pour-t.ensures)
+    let j = (goal.at.returns c).Joined-last in
+    let k = at_join j in
+    let f = fine k in
+    let r = room f (closed j) c.if-output-end.false c.if-units-end.false in
+    let wrote : Poured a.output.now a.units.now (whole f) c.match-last-2.tally c.pour-tally.new.held c.match-last-2.output c.match-last-2.units =
+    elim c.match-last-2.branch [
+      | in-Some-last w ↦
+          let m = some k w.in-Some-last.p w.in-Some-last.is in
+          rw (w.tally-is, w.output-is, w.units-is, m.0)
+          (rw m.1 at (w.finish.ensures.more (room-all f (closed j) c.if-output-end.false c.if-units-end.false) c.pour-tally.ensures))
+      | in_default-last w ↦ rw (w.tally-is, w.output-is, w.units-is, none k w.in_default-last.is) c.pour-tally.ensures
+    ] in
+    leaving-shown wrote
     ∙ sym
     (delivered-all (lent f a.output.now a.units.now) a.mark (l f) a.payload.now f.right f.fit
     (small-not (whole f) a.output.now a.units.now r.output r.units))
-
-pub returns : goal.returns
-returns c =
-    let a = c.args in
-    let wrong = wrong-is _ _ c.requires.pieces.same c.last_place-last.ensures a.s a.mark c.has_wrong_mark.ensures in
-    let full = sym c.count_all-counted.ensures.fit ∙ c.if-counted.false in
-    rw c.refused-2.ensures
-    (sym (delivered-full (record { channels = a.s; held = a.held.now; output = a.output.now; units = a.units.now }) a.mark
-    (laid a.places.now a.lengths.now) a.payload.now (sym wrong ∙ c.if-has_wrong_mark.false) full))

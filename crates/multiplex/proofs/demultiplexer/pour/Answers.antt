@@ -1,179 +1,124 @@
-use Rattle.std.proofs.Common.{rules, ◌≡◌, refl, sym, ap, ◌∙◌, true, List, ◌∷◌, ℕ, ◌+◌, ◌-◌, ◌≤◌, ◌<◌, arith, length, take, drop, get_or, length-drop, drop-drop}
+use Rattle.std.proofs.Common.{◌≡◌, refl, sym, ap, ◌∙◌, true, List, ◌∷◌, ℕ, ◌+◌, ◌≤◌, ◌<◌, arith, length, take, drop, length-take-le}
+use Rattle.std.proofs.lemmas.List.{length_push}
+use Rattle.std.proofs.lemmas.Slice.Zip.{zip_turn, zip_end}
 use Rattle.channels.specs.Channels.{channel_at, place_count}
-use Rattle.channels.specs.declared.Channel.{Channel}
-use Rattle.multiplex.proofs.Pouring.{part_exact, part_length}
+use Rattle.table.specs.Table.{longest_payload}
 use Rattle.multiplex.proofs.Slotting.{paired-end}
-use Rattle.multiplex.proofs.Tallying.{at-once-most, piece-at, counts, fits_met, fits-split, Way, way-none, way-within, way_next, way-room, way-all}
-use Rattle.multiplex.specs.Demultiplexer.{Delivery, nothing, took, room_in}
+use Rattle.multiplex.proofs.Tallying.{at-once-most, piece-at, fits_met, fits-split, Way, way-within, way_next, way-room, way-all}
 use Rattle.multiplex.specs.Pieces.{Piece, piece, laid}
-use Rattle.multiplex.specs.Tally.{RoomFor}
+use Rattle.multiplex.specs.Demultiplexer.{took, room_in}
+use Rattle.multiplex.specs.Tally.{counts, RoomFor}
 use Rattle.multiplex.specs.declared.demultiplexer.Tally.{Tally}
-use Rattle.octets.specs.Written.{written_nothing}
 use Rattle.multiplex.proofs.demultiplexer.pour.Goals as goal
-use Rattle.multiplex.proofs.demultiplexer.pour.Goals.{In-loop-j}
+use Rattle.multiplex.proofs.demultiplexer.pour.Goals.{After-from-p, After-split_at}
 use Rattle.multiplex.proofs.demultiplexer.pour.Invariants.{Pouring}
 
--- ---- one turn: the piece at place j
+-- this turn's piece
+turn : (c : After-from-p) → let j = length c.loop-place.yielded in let l = laid c.args.places.now c.args.lengths.now in
+    (c.from-p.result < place_count) × (drop j l ≡ piece c.from-p.result c.in-Some.n.now ∷ drop (j + 1) l) × (j < longest_payload)
+turn c =
+    let z = zip_turn c.args.places.now c.args.lengths.now _ c.into_iter-place-iterator.result _ c.next.new.self _ (cc) (cc) c.loop-place.yielded_by _ c.in-Some.is c.next.ensures.steps in
+    let here = piece-at c.requires.given.pieces z.0 (c.from-p.ensures ∙ z.2 0) (z.3 0) in
+    (here.0, here.1, omega (arith, z.0, c.requires.given.pieces.few))
 
-module _ (c : In-loop-j) where
-  abbrev xs : List ℕ
-  xs = c.args.payload.now
+pub split_at-requires : goal.split_at-requires
+split_at-requires c =
+    let w = turn (goal.at.split_at-requires c).After-from-p in
+    omega (arith, c.from.ensures, way-within c.loop-place.invariant.way c.from-p.result c.in-Some.n.now w.1)
 
+-- .. is written and counted
+abbrev This : After-split_at → Type 0
+This c =
+    let j = length c.loop-place.yielded in let l = laid c.args.places.now c.args.lengths.now in
+    (c.from-p.result < place_count) × (drop j l ≡ piece c.from-p.result c.in-Some.n.now ∷ drop (j + 1) l) × (j < longest_payload)
+
+module _ (c : After-split_at) (w : This c) where
   abbrev l : List Piece
   l = laid c.args.places.now c.args.lengths.now
 
-  abbrev at : ℕ
-  at = c.loop-j.at
+  abbrev t : Tally
+  t = c.loop-place.tally
 
   abbrev j : ℕ
-  j = c.loop-j.j
+  j = length c.loop-place.yielded
 
-  abbrev place : ℕ
-  place = get_or c.args.places.now j 0
+  abbrev p : ℕ
+  p = c.from-p.result
 
-  abbrev more : ℕ
-  more = get_or c.args.lengths.now j 0
+  abbrev n : ℕ
+  n = c.in-Some.n.now
 
-  abbrev t : Tally
-  t = record { channels = c.loop-j.cur; octets = c.loop-j.octets; units = c.loop-j.count }
+  abbrev inv : Pouring c.args.s.now c.args.held.now l c.args.payload.now c.args.output.now c.args.units.now c.loop-place.held c.loop-place.output
+      c.loop-place.units t c.loop-place.rest.now j
+  inv = c.loop-place.invariant
 
-  abbrev on : Channel
-  on = channel_at t.channels place
+  within : n ≤ length c.loop-place.rest.now
+  within = omega (arith, way-within inv.way p n w.1)
 
-  abbrev inv : Pouring c.args.s c.args.held.now l xs c.args.output.now c.args.units.now
-      c.loop-j.held c.loop-j.output c.loop-j.units t at j
-  inv = c.loop-j.invariant.1
+  x-is : c.split_at.result.0.now ≡ take n c.loop-place.rest.now
+  x-is = rw c.from.ensures at c.split_at.ensures.front
 
-  near : place < place_count
-  near = c.requires.given.pieces.within j c.loop-j-test.true
+  exact : length c.split_at.result.0.now ≡ n
+  exact = ap length x-is ∙ length-take-le n c.loop-place.rest.now within
 
-  here : drop j l ≡ piece place more ∷ drop (j + 1) l
-  here = piece-at c.requires.given.pieces c.loop-j-test.true
+  room : room_in (channel_at t.channels p) n ≡ true
+  room = (fits-split t.channels p n w.1 inv.fit).0
 
-  ends-within : at + more ≤ length xs
-  ends-within =
-      omega (arith, way-within inv.way place more here, length-drop at xs, inv.within)
+  next : Way c.args.s.now c.args.held.now l c.args.payload.now (j + 1) (counts t p n) (took inv.far p c.split_at.result.0.now) c.split_at.result.1.now
+  next = way_next inv.way p n w.1 _ _ (sym x-is) (sym (rw c.from.ensures at c.split_at.ensures.back))
 
-  exact : length (take (at + more - at) (drop at xs)) ≡ more
-  exact = ap length (part_exact xs at more) ∙ part_length xs at more ends-within
-
-  room : room_in on more ≡ true
-  room = (fits-split t.channels place more here inv.fit).0
-
-  abbrev further : Delivery
-  further = took inv.far place (take (at + more - at) (drop at xs))
-
-  next : Way c.args.s c.args.held.now l xs (j + 1) (counts t place more) further (drop (at + more) xs)
-  next =
-      way_next inv.way place more here _ _ (sym (part_exact xs at more)) (drop-drop more at xs)
-
-  next-room : RoomFor c.args.output.now c.args.units.now further
+  next-room : RoomFor c.args.output.now c.args.units.now (took inv.far p c.split_at.result.0.now)
   next-room = way-room next c.args.output.now c.args.units.now c.requires.room
-
-pub loop-j-init : goal.loop-j-init
-loop-j-init c = (
-  search rules,
-  record {
-    far = nothing c.args.s c.args.held.now;
-    way = way-none _ _ _ _ c.requires.given.enough;
-    shows = record { held = refl; output = sym (written_nothing _ 0); units = sym (written_nothing _ 0) };
-    fit = c.requires.fit;
-    within = search rules;
-    octets_most = search rules;
-    units_most = search rules;
-    same_held = refl;
-    same_output = refl;
-    same_units = refl;
-  },
-)
 
 pub put-requires : goal.put-requires
 put-requires c =
-    let k = (goal.at.put-requires c).In-loop-j in
-    let e = exact k in
+    let k = (goal.at.put-requires c).After-split_at in
+    let w = turn (goal.at.put-requires c).After-from-p in
+    let e = exact k w in
+    let v = inv k w in
     record {
-      near = near k;
-      short = rw e (omega (arith, ends-within k, c.requires.given.short));
-      room = rw e (room k);
-      octets_small = search rules;
-      count_small = search rules;
-      output = rw e (omega (arith, (next k).tallies.octets, (next-room k).output, (inv k).same_output));
-      units = omega (arith, (next k).tallies.units, (next k).tallies.even, (next-room k).units, (inv k).same_units);
-      whole = (inv k).same_held ∙ c.requires.given.whole;
+      near = w.0;
+      short = rw e (omega (arith, within k w, v.octets_most, c.requires.given.short));
+      room = rw e (room k w);
+      octets_small = omega (arith, v.octets_most, c.requires.given.short);
+      count_small = omega (arith, v.units_most, w.2);
+      output = rw e (omega (arith, (next k w).tallies.octets, (next-room k w).output, v.same_output));
+      units = omega (arith, (next k w).tallies.units, (next k w).tallies.even, (next-room k w).units, v.same_units);
+      whole = v.same_held ∙ c.requires.given.whole;
     }
 
-pub overflow_add-octets : goal.overflow_add-octets
-overflow_add-octets c =
-    let k = (goal.at.overflow_add-octets c).In-loop-j in
-    omega (arith, c.at_once-octets.ensures, at-once-most (on k) (more k), ends-within k)
+pub add-requires : goal.add-requires
+add-requires c =
+    let k = (goal.at.add-requires c).After-split_at in
+    let w = turn (goal.at.add-requires c).After-from-p in
+    record { near = w.0; room = room k w; octets = omega (arith, (inv k w).octets_most, c.requires.given.short); units = omega (arith, (inv k w).units_most, w.2) }
 
-pub overflow_add-count : goal.overflow_add-count
-overflow_add-count c =
-    omega (arith, c.at_once-count.ensures, at-once-most (on (goal.at.overflow_add-count c).In-loop-j) 1)
-
-pub overflow_add-j : goal.overflow_add-j
-overflow_add-j c =
-    omega (arith, c.requires.given.pieces.few)
-
-pub loop-j-preserved : goal.loop-j-preserved
-loop-j-preserved c =
-    let k = (goal.at.loop-j-preserved c).In-loop-j in
-    let w = (inv k).way in
+pub loop-place-preserved : goal.loop-place-preserved
+loop-place-preserved c =
+    let k = (goal.at.loop-place-preserved c).After-split_at in
+    let w = turn (goal.at.loop-place-preserved c).After-from-p in
+    let v = inv k w in
     let a = c.args in
-    let wrote = c.put in
-    let kept = wrote.auto in
-    let so_far = way-room w a.output.now a.units.now c.requires.room in
-    rw (c.join.ensures, c.at_once-octets.ensures, c.at_once-count.ensures) (
-      search rules,
-      record {
-        far = further k;
-        way = next k;
-        shows = wrote.ensures.more refl w.tallies so_far (inv k).shows;
-        fit = sym (fits_met (t k).channels (place k) (more k) (here k) (room k)) ∙ (inv k).fit;
-        within = ends-within k;
-        octets_most = omega (arith, at-once-most (on k) (more k), (inv k).octets_most);
-        units_most = omega (arith, at-once-most (on k) 1, (inv k).units_most);
-        same_held = kept.held ∙ (inv k).same_held;
-        same_output = kept.output ∙ (inv k).same_output;
-        same_units = kept.units ∙ (inv k).same_units;
-      },
-    )
+    let kept = c.put.auto in
+    let on = channel_at (t k w).channels (p k w) in
+    rw (c.add.ensures, length_push) (record {
+      far = took v.far (p k w) c.split_at.result.0.now;
+      way = next k w;
+      shows = c.put.ensures.more refl v.way.tallies (way-room v.way a.output.now a.units.now c.requires.room) v.shows;
+      fit = sym (fits_met (t k w).channels (p k w) (n k w) w.1 (room k w)) ∙ v.fit;
+      octets_most = omega (arith, at-once-most on (n k w), v.octets_most, within k w, c.split_at.ensures.back_len, c.from.ensures);
+      units_most = omega (arith, at-once-most on 1, v.units_most);
+      same_held = kept.held ∙ v.same_held;
+      same_output = kept.output ∙ v.same_output;
+      same_units = kept.units ∙ v.same_units;
+    })
 
 pub returns : goal.returns
 returns c =
-    let a = c.args in
-    let o = c.loop-j in
-    let end = paired-end piece a.places.now a.lengths.now o.j c.loop-j-test.false in
-    let w = o.invariant.1.way in
-    let d = way-all w end in
-    record { tallies = rw d at w.tallies; shows = rw d at o.invariant.1.shows }
-
-pub overflow_add-end : goal.overflow_add-end
-overflow_add-end c = omega arith
-
-pub offset_bounds-cur-p : goal.offset_bounds-cur-p
-offset_bounds-cur-p c = omega (arith, near (goal.at.offset_bounds-cur-p c).In-loop-j)
-
-pub bounds-cur-p : goal.bounds-cur-p
-bounds-cur-p c = near (goal.at.bounds-cur-p c).In-loop-j
-
-pub slice_bounds-put-end : goal.slice_bounds-put-end
-slice_bounds-put-end c = search (rules, ends-within (goal.at.slice_bounds-put-end c).In-loop-j)
-
-pub join-requires : goal.join-requires
-join-requires c = room (goal.at.join-requires c).In-loop-j
-
-pub offset_bounds-cur-p-in-loop-j : goal.offset_bounds-cur-p-in-loop-j
-offset_bounds-cur-p-in-loop-j c = omega (arith, near (goal.at.offset_bounds-cur-p-in-loop-j c).In-loop-j)
-
-pub bounds-cur-p-in-loop-j : goal.bounds-cur-p-in-loop-j
-bounds-cur-p-in-loop-j c = near (goal.at.bounds-cur-p-in-loop-j c).In-loop-j
-
-pub shape_of-held : goal.shape_of-held
-shape_of-held c = c.loop-j.invariant.1.same_held
-
-pub shape_of-output : goal.shape_of-output
-shape_of-output c = c.loop-j.invariant.1.same_output
-
-pub shape_of-units : goal.shape_of-units
-shape_of-units c = c.loop-j.invariant.1.same_units
+    let o = c.loop-place in
+    let ps = c.args.places.now in
+    let ls = c.args.lengths.now in
+    let e = zip_end ps ls _ c.into_iter-place-iterator.result _ c.next.new.self _ (cc) (cc) o.yielded_by c.in-None.is c.next.ensures.steps in
+    let end = paired-end piece ps ls (length o.yielded) (omega (arith, e, c.requires.given.pieces.same)) in
+    let d = way-all o.invariant.way end in
+    record { tallies = rw d at o.invariant.way.tallies; shows = rw d at o.invariant.shows }

@@ -1,5 +1,5 @@
 -- The table lays the slots down, each channel's place is found, and the pieces are delivered.
-use Rattle.std.proofs.Common.{◌≡◌, refl, sym, ap, ◌∙◌, List, ◌++◌, map, Bool, true, ℕ, ◌≤◌, ◌<◌, arith, length, take, drop, length-append, length-take-le, take_at}
+use Rattle.std.proofs.Common.{◌≡◌, refl, sym, ap, ◌∙◌, List, ◌++◌, map, Bool, true, ℕ, ◌≤◌, ◌<◌, arith, length, take, drop, take_at}
 use Rattle.std.proofs.Math.ListN.{length-map}
 use Rattle.channels.specs.Channels.{place_of, all_open}
 use Rattle.channels.specs.declared.Channels.{Channels}
@@ -23,7 +23,7 @@ module _ (c : Start) where
   l = payload_slots (entry_of c.args.table.now c.args.code.0) (length xs)
 
   abbrev lent : DemuxLent
-  lent = record { channels = c.args.s; held = c.args.held.now; output = c.args.output.now; units = c.args.units.now }
+  lent = record { channels = c.args.s.now; held = c.args.held.now; output = c.args.output.now; units = c.args.units.now }
 
 -- ---- the slots that the table has laid down
 
@@ -69,57 +69,28 @@ pub returns-then-laid-gt0 : goal.returns-then-laid-gt0
 returns-then-laid-gt0 c =
     let s = (goal.at.returns-then-laid-gt0 c).Start in
     let more : octets_of (l s) < length (xs s) = omega (arith, c.if-laid-gt0.true, c.payload_slots-laid.ensures.left) in
-    rw c.refused.ensures (sym (sorted-long (lent s) c.args.mark (xs s) (l s) more))
+    sym (sorted-long (lent s) c.args.mark (xs s) (l s) more)
 
-pub slice_bounds-find-end : goal.slice_bounds-find-end
-slice_bounds-find-end c =
-    sym (length-take-le _ _ (in-cs (slotted (goal.at.slice_bounds-find-end c).After-payload_slots-laid)))
-
-pub slice_bounds-places-end : goal.slice_bounds-places-end
-slice_bounds-places-end c = in-cs (slotted (goal.at.slice_bounds-places-end c).After-payload_slots-laid)
-
-pub slice_bounds-places-end-then-find : goal.slice_bounds-places-end-then-find
-slice_bounds-places-end-then-find c =
-    let k = slotted (goal.at.slice_bounds-places-end-then-find c).After-payload_slots-laid in
-    omega (
-      arith,
-      length-append c.find.new.numbers (drop c.payload_slots-laid.result.count c.payload_slots-laid.new.channels),
-      found-length k c.args.s c.find.ensures.1,
-    )
-
-pub slice_bounds-lengths-end : goal.slice_bounds-lengths-end
-slice_bounds-lengths-end c = in-ls (slotted (goal.at.slice_bounds-lengths-end c).After-payload_slots-laid)
-
-pub slice_bounds-deliver-end : goal.slice_bounds-deliver-end
-slice_bounds-deliver-end c =
-    let k = slotted (goal.at.slice_bounds-deliver-end c).After-payload_slots-laid in
-    sym (ap length (places-are k c.args.s c.find.ensures.1) ∙ found-length k c.args.s c.find.ensures.1)
-
-pub slice_bounds-deliver-end-then-find : goal.slice_bounds-deliver-end-then-find
-slice_bounds-deliver-end-then-find c =
-    sym (length-take-le _ _ (in-ls (slotted (goal.at.slice_bounds-deliver-end-then-find c).After-payload_slots-laid)))
+pub returns-then-not-find : goal.returns-then-not-find
+returns-then-not-find c =
+    let s = (goal.at.returns-then-not-find c).Start in
+    let k = slotted (goal.at.returns-then-not-find c).After-payload_slots-laid in
+    let enough : length (xs s) ≤ octets_of (l s) = omega (arith, c.if-laid-gt0.false, c.payload_slots-laid.ensures.left) in
+    sym (sorted-closed (lent s) c.args.mark (xs s) (l s) enough (sym (open_is k c.args.s.now c.find.ensures.1 c.find.ensures.0) ∙ c.if-not-find.true))
 
 pub deliver-requires : goal.deliver-requires
 deliver-requires c =
     let k = slotted (goal.at.deliver-requires c).After-payload_slots-laid in
-    let f = found k c.args.s c.find.ensures.1 c.find.ensures.0 c.if-find.true in
+    let f = found k c.args.s.now c.find.ensures.1 c.find.ensures.0 c.if-not-find.false in
     record { pieces = f.places; enough = f.most; short = c.requires.0; whole = c.requires.2 }
-
-pub returns-then-find : goal.returns-then-find
-returns-then-find c =
-    let s = (goal.at.returns-then-find c).Start in
-    let k = slotted (goal.at.returns-then-find c).After-payload_slots-laid in
-    let m = c.args.mark in
-    let e = c.if-find.true in
-    let enough : length (xs s) ≤ octets_of (l s) = omega (arith, c.if-laid-gt0.false, c.payload_slots-laid.ensures.left) in
-    c.deliver.ensures
-    ∙ ap (λ (q : List Piece). delivered (lent s) m q (xs s)) (found k c.args.s c.find.ensures.1 c.find.ensures.0 e).pieces
-    ∙ sym (sorted_all (lent s) m (xs s) (l s) enough (sym (open_is k c.args.s c.find.ensures.1 c.find.ensures.0) ∙ e))
 
 pub returns : goal.returns
 returns c =
     let s = (goal.at.returns c).Start in
     let k = slotted (goal.at.returns c).After-payload_slots-laid in
+    let m = c.args.mark in
+    let e = c.if-not-find.false in
     let enough : length (xs s) ≤ octets_of (l s) = omega (arith, c.if-laid-gt0.false, c.payload_slots-laid.ensures.left) in
-    rw c.refused-2.ensures
-    (sym (sorted-closed (lent s) c.args.mark (xs s) (l s) enough (sym (open_is k c.args.s c.find.ensures.1 c.find.ensures.0) ∙ c.if-find.false)))
+    c.deliver.ensures
+    ∙ ap (λ (q : List Piece). delivered (lent s) m q (xs s)) (found k c.args.s.now c.find.ensures.1 c.find.ensures.0 e).pieces
+    ∙ sym (sorted_all (lent s) m (xs s) (l s) enough (sym (open_is k c.args.s.now c.find.ensures.1 c.find.ensures.0) ∙ e))

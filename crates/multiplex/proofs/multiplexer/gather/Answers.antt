@@ -1,52 +1,48 @@
-use Rattle.std.proofs.Common.{rules, refl, ◌+◌, ◌≤◌, ◌<◌, arith, ◌∷◌, length, take, drop, length-take}
-use Rattle.channels.specs.Channels.{channel_at, waits, place_count}
-use Rattle.multiplex.proofs.Gathering.{Gathering, piece_at, gathers-at, first_moves, gathers-next, gathers-end}
-use Rattle.multiplex.specs.Pieces.{laid}
+use Rattle.std.proofs.Common.{◌+◌, arith, ◌∷◌, length, drop, length-take}
+use Rattle.std.proofs.lemmas.List.{length_push}
+use Rattle.std.proofs.lemmas.Slice.Zip.{zip_turn, zip_end}
+use Rattle.multiplex.proofs.Gathering.{Gathering, gathers-at, first_moves, gathers-next, gathers-end}
+use Rattle.multiplex.specs.Pieces.{piece, laid}
 use Rattle.multiplex.proofs.multiplexer.gather.Goals as goal
-use Rattle.multiplex.proofs.multiplexer.gather.Goals.{In-loop-j}
+use Rattle.multiplex.proofs.multiplexer.gather.Goals.{After-from-k}
 
--- the piece at the loop's place, and those behind it
-
-here : (c : In-loop-j) → let l = laid (take c.args.n c.args.places.now) (take c.args.n c.args.lengths.now) in
-    Gathering c.args.s c.args.waiting.now l c.args.payload.now c.loop-j.payload c.loop-j.cur c.loop-j.at
-    (piece_at c.args.places.now c.args.lengths.now c.loop-j.j ∷ drop (c.loop-j.j + 1) l)
+-- this turn's piece, and those behind it
+here : (c : After-from-k) → let l = laid c.args.places.now c.args.lengths.now in
+    Gathering c.args.s.now c.args.waiting.now l c.args.payload.now c.loop-place.payload c.loop-place.channels c.loop-place.at
+    (piece c.from-p.result c.from-k.result ∷ drop (length c.loop-place.yielded + 1) l)
 here c =
-    gathers-at _ _ _ _ _ _ _ c.args.n _ _ c.loop-j.j c.requires.1 c.requires.2 c.loop-j-test.true c.loop-j.invariant.1
+    let ps = c.args.places.now in
+    let ls = c.args.lengths.now in
+    let z = zip_turn ps ls _ c.into_iter-place-iterator.result _ c.next.new.self _ (cc) (cc) c.loop-place.yielded_by _ c.in-Some.is c.next.ensures.steps in
+    rw (c.from-p.ensures, c.from-k.ensures, z.2 0, z.3 0) (gathers-at _ _ _ _ _ _ _ ps ls (length c.loop-place.yielded) z.0 z.1 c.loop-place.invariant)
 
--- .. it can be sent, and fits
-
-moves : (c : In-loop-j) → let q = piece_at c.args.places.now c.args.lengths.now c.loop-j.j in
-    (q.place < place_count) × (q.octets ≤ waits (channel_at c.loop-j.cur q.place)) × (c.loop-j.at + q.octets ≤ length c.loop-j.payload)
-moves c = first_moves _ _ _ _ _ _ _ _ _ (here c)
-
-pub loop-j-init : goal.loop-j-init
-loop-j-init c =
-    (search rules, record { sendable = c.requires.3; fits = omega arith; kept = refl; gathers = refl })
-
-pub bounds-cur-p : goal.bounds-cur-p
-bounds-cur-p c = (moves (goal.at.bounds-cur-p c).In-loop-j).0
+pub bounds-channels-p : goal.bounds-channels-p
+bounds-channels-p c = (first_moves _ _ _ _ _ _ _ _ _ (here (goal.at.bounds-channels-p c).After-from-k)).0
 
 pub slice_bounds-write-end : goal.slice_bounds-write-end
 slice_bounds-write-end c =
-    let m = moves (goal.at.slice_bounds-write-end c).In-loop-j in
+    let m = first_moves _ _ _ _ _ _ _ _ _ (here (goal.at.slice_bounds-write-end c).After-from-k) in
     omega (arith, m.0, m.1)
 
 pub write-requires : goal.write-requires
-write-requires c = simp length-take (omega (arith, (moves (goal.at.write-requires c).In-loop-j).2))
+write-requires c =
+    let m = first_moves _ _ _ _ _ _ _ _ _ (here (goal.at.write-requires c).After-from-k) in
+    simp length-take (omega (arith, m.2))
+
+pub bounds-channels-p-in-loop-place : goal.bounds-channels-p-in-loop-place
+bounds-channels-p-in-loop-place c = (first_moves _ _ _ _ _ _ _ _ _ (here (goal.at.bounds-channels-p-in-loop-place c).After-from-k)).0
 
 pub leave-requires : goal.leave-requires
-leave-requires c = (moves (goal.at.leave-requires c).In-loop-j).1
+leave-requires c = (first_moves _ _ _ _ _ _ _ _ _ (here (goal.at.leave-requires c).After-from-k)).1
 
-pub bounds-cur-p-in-loop-j : goal.bounds-cur-p-in-loop-j
-bounds-cur-p-in-loop-j c = (moves (goal.at.bounds-cur-p-in-loop-j c).In-loop-j).0
-
-pub loop-j-preserved : goal.loop-j-preserved
-loop-j-preserved c = (
-  search rules,
-  rw c.leave.ensures
-      (gathers-next _ _ _ _ _ _ _ _ _ (here (goal.at.loop-j-preserved c).In-loop-j) c.requires.0 _ (rw c.waits.ensures) _ c.write.ensures),
-)
+pub loop-place-preserved : goal.loop-place-preserved
+loop-place-preserved c =
+    rw (c.leave.ensures, length_push)
+    (gathers-next _ _ _ _ _ _ _ _ _ (here (goal.at.loop-place-preserved c).After-from-k) c.requires.0 _ (rw c.waits.ensures) _ c.write.ensures)
 
 pub returns : goal.returns
 returns c =
-    gathers-end _ _ _ _ _ _ _ c.args.n _ _ _ c.requires.1 c.loop-j-test.false c.loop-j.invariant.1
+    let ps = c.args.places.now in
+    let ls = c.args.lengths.now in
+    let e = zip_end ps ls _ c.into_iter-place-iterator.result _ c.next.new.self _ (cc) (cc) c.loop-place.yielded_by c.in-None.is c.next.ensures.steps in
+    gathers-end _ _ _ _ _ _ _ ps ls _ (omega (arith, e, c.requires.1)) c.loop-place.invariant

@@ -1,10 +1,9 @@
--- The highest octet of the parity fits, since the parity has 12 bits.
-use Rattle.std.proofs.Common.{rules, arith, ◌+◌, ◌*◌}
-use Rattle.golay.proofs.Laws.{golay}
+-- The word's three octets.
+use Rattle.std.proofs.Common.{refl, arith}
+use Rattle.packets.proofs.Fields.{header_octets}
 use Rattle.packets.proofs.header.of.Goals as goal
 
-pub overflow_cast-result-3 : goal.overflow_cast-result-3
-overflow_cast-result-3 c =
+pub returns : goal.returns
+returns c =
     let a = c.args in
-    let s = (golay.systematic (a.code + 16 * a.length) (omega arith)).2 in
-    rw c.parity-p.ensures (search rules)
+    rw (c.to_le_bytes.ensures) (header_octets a.code a.length c.parity.result _ (omega arith) (omega arith) c.parity.ensures refl)

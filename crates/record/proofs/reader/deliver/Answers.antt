@@ -1,27 +1,44 @@
-use Rattle.std.proofs.Common.{rules, arith}
-use Rattle.record.proofs.Delivering.{facing_head, facing-end, delivering-none, delivering_faced, delivering_next, delivering-all, numbers_room, own_room, unit_room}
+use Rattle.std.proofs.Common.{◌∙◌, ◌*◌, ap, arith}
+use Rattle.octets.specs.Written.{written}
+use Rattle.record.proofs.Delivering.{facing_head, facing-end, delivering_faced, delivering_next, delivering-all, own_room, unit_room}
 use Rattle.record.proofs.reader.deliver.Goals as goal
 
-pub loop-at-init : goal.loop-at-init
-loop-at-init c = delivering-none _ _ _ c.requires
+pub read-requires : goal.read-requires
+read-requires c = omega (arith, facing-end (delivering_faced c.loop-k.invariant c.loop-k-test.true) (omega arith))
 
-pub header_at-h-requires : goal.header_at-h-requires
-header_at-h-requires c =
-    let d = c.loop-at.invariant in omega (arith, facing-end (delivering_faced d c.loop-at-test.true) d.here)
+pub split_at-requires : goal.split_at-requires
+split_at-requires c = omega (arith, facing-end (delivering_faced c.loop-k.invariant c.loop-k-test.true) (omega arith))
 
-pub hand_up-requires : goal.hand_up-requires
-hand_up-requires c =
-    let d = c.loop-at.invariant in
-    let f = delivering_faced d c.loop-at-test.true in
-    let h = c.header_at-h.result in
-    let is = facing_head f h (search rules) c.header_at-h.ensures in
-    (unit_room d f h is, numbers_room d f h is, own_room d f h is)
+pub split_at-requires-in-loop-k : goal.split_at-requires-in-loop-k
+split_at-requires-in-loop-k c =
+    let d = c.loop-k.invariant in
+    let f = delivering_faced d c.loop-k-test.true in
+    omega (arith, c.split_at.ensures.back_len, unit_room d f c.read.result (facing_head f c.read.result c.read.ensures))
 
-pub loop-at-preserved : goal.loop-at-preserved
-loop-at-preserved c =
-    let f = delivering_faced c.loop-at.invariant c.loop-at-test.true in
-    let h = c.header_at-h.result in
-    delivering_next c.loop-at.invariant f h (facing_head f h (search rules) c.header_at-h.ensures) _ _ c.hand_up.ensures.0 c.hand_up.ensures.1
+pub write-requires-in-loop-k : goal.write-requires-in-loop-k
+write-requires-in-loop-k c =
+    let d = c.loop-k.invariant in
+    let f = delivering_faced d c.loop-k-test.true in
+    own_room d f c.read.result (facing_head f c.read.result c.read.ensures)
+    (record {
+      rest = c.split_at.result.1.now;
+      rest_is = c.split_at.ensures.back;
+      own_is = c.split_at-in-loop-k.ensures.front;
+      behind_is = c.split_at-in-loop-k.ensures.back;
+    })
+
+pub loop-k-preserved : goal.loop-k-preserved
+loop-k-preserved c =
+    let d = c.loop-k.invariant in
+    let f = delivering_faced d c.loop-k-test.true in
+    let is = facing_head f c.read.result c.read.ensures in
+    delivering_next d f c.read.result is
+    (record {
+      rest = c.split_at.result.1.now;
+      rest_is = c.split_at.ensures.back;
+      own_is = c.split_at-in-loop-k.ensures.front;
+      behind_is = c.split_at-in-loop-k.ensures.back;
+    }) (c.write.ensures ∙ ap (written c.loop-k.numbers (4 * c.loop-k.k)) c.into-four.ensures) c.write-in-loop-k.ensures
 
 pub returns : goal.returns
-returns c = delivering-all c.loop-at.invariant c.loop-at-test.false
+returns c = delivering-all c.loop-k.invariant c.loop-k-test.false

@@ -1,0 +1,6 @@
+use Rattle.std.proofs.Common.{rules}
+use Rattle.codeword.proofs.Laning.{filled_by}
+use Rattle.codeword.proofs.powers.Powers.ahead.Goals as goal
+
+pub returns : goal.returns
+returns c = filled_by _ _ _ 16 (λ k y q l h. search rules) c.from_fn.ensures.items

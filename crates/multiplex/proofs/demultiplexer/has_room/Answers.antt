@@ -1,8 +1,0 @@
--- Only what a segmentable channel holds has a bound.
-use Rattle.multiplex.proofs.demultiplexer.has_room.Goals as goal
-
-pub returns-then-c : goal.returns-then-c
-returns-then-c c = rw c.if-c.true
-
-pub returns-else-c : goal.returns-else-c
-returns-else-c c = rw c.if-c.false

@@ -1,0 +1,10 @@
+-- What was written: the octets so far.
+use Rattle.std.proofs.Common.{take}
+use Rattle.std.specs.Fmt.{HasWritten, IsPlainFormatter}
+use Rattle.std.specs.List.{flat_map}
+use Rattle.print.specs.Text.{hex}
+use Rattle.print.proofs.values.HexDisplay.fmt.Given as goal
+
+abbrev pub invariant-loop-octet : goal.invariant-loop-octet
+invariant-loop-octet g l =
+    IsPlainFormatter l.initial.f → HasWritten g.W.Write.write_str_gives l.initial.f (flat_map hex (take l.octet-index l.octets)) l.f

@@ -1,6 +1,0 @@
--- The length, by the law for every length.
-use Rattle.recorder.proofs.Counted.{counted}
-use Rattle.recorder.proofs.room.octets.Goals as goal
-
-pub returns : goal.returns
-returns c = counted 1048813
