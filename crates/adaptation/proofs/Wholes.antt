@@ -1,5 +1,6 @@
 -- AL2's wholes: what each operation answers case by case, and that reading undoes putting together.
 --
+--   field_most, field_length_most   a number takes at most one octet
 --   field_is                       the slice of a number is its field
 --   sent_empty, sent-long          refusal 2: no unit, or a whole that is too long
 --   sent-room                      refusal 3: too little room
@@ -12,7 +13,7 @@
 --
 -- Assumes nothing.
 use mathlib.Core.Path.{◌≡◌, refl, sym, ap, ap₂, ◌∙◌}
-use mathlib.Core.Bool.{Bool, true, and-false}
+use mathlib.Core.Bool.{Bool, true, false, and-false}
 use mathlib.Core.List.{List, [], ◌∷◌, ◌++◌}
 use Prim.Native.Nat.{ℕ, ◌+◌, ◌-◌, ◌≤◌, ◌<◌}
 use native.Mathlib.Omega.{arith}
@@ -32,6 +33,14 @@ use Rattle.adaptation.specs.declared.al2.Due.{Due}
 use Rattle.std.specs.Prelude.{Option, Some, None, MatchOption}
 use Rattle.adaptation.proofs.Applying.{whole_length, headed}
 use Rattle.checks.proofs.Laws.{sealed-front, agrees_own}
+
+pub field_most : (n : Option ℕ) → length (field n) ≤ 1
+field_most (Some n) = omega arith
+field_most None = omega arith
+
+pub field_length_most : (s : Bool) → field_length s ≤ 1
+field_length_most true = omega arith
+field_length_most false = omega arith
 
 pub field_is : (n : Option ℕ) (v : List ℕ) → MatchOption n (v ≡ []) (λ a. v ≡ a ∷ []) → v ≡ field n
 field_is (Some a) v h = h

@@ -7,40 +7,41 @@ ghost use Rattle.calls.specs.Refusal.{number};
 
 use std::fmt;
 
-// Why a call is refused, and as which number (document 01, "Refusal numbers"; 15 and 17 of document 02's tickets 1 and 4).
+// Why a call is refused, and as which number (document 01, "Refusal numbers"; 15 and 17 of document 02's tickets 1 and 4). What each number
+// is given for is said where it is given.
 #[derive(Clone, Copy, Debug, PartialEq, Eq)]
 pub enum Refusal {
-    // The check's width is not 0, 8 or 16, or more octets are to be repaired than can be.
+    // There is no such setting.
     BadSetting = 1,
     // A length is outside its range.
     BadLength = 2,
     // A lent output is too small.
     NoRoom = 3,
-    // The multiplex code is over the highest, or the table has no entry for it.
+    // There is no entry under the number that is asked for.
     NoEntry = 4,
-    // A channel in use is not open.
+    // What is used is not open.
     NotOpen = 5,
-    // The payload is longer than a finite entry.
+    // What is given goes past its entry's end.
     PastEntry = 6,
-    // The closing mark is set, and the last octet is absent or not on a segmentable channel.
+    // A mark is set where it ends nothing.
     BadMark = 7,
-    // A held unit would pass its longest.
+    // What is held would pass its longest.
     HeldTooLong = 8,
-    // The payload would be empty.
+    // Nothing waits that could be sent.
     NothingWaits = 9,
-    // The numbers are no table entry.
+    // What is to be an entry is none.
     BadEntry = 10,
-    // A unit waits on the channel already.
+    // Something waits already.
     AlreadyWaiting = 11,
-    // As many channels as there are places are open.
+    // No place is free.
     NoPlace = 12,
-    // The channel is open already.
+    // What is to be opened is open already.
     AlreadyOpen = 13,
-    // Entry 0 would be replaced, or channel 0 closed.
+    // What is fixed would be replaced or closed.
     Fixed = 14,
-    // The octets are no record, or no packet; or the numbers are no list of units.
+    // What is given has not the form.
     BadForm = 15,
-    // No header lies within three wrong bits.
+    // No header is near enough.
     BadHeader = 17,
 }
 

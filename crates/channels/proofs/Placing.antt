@@ -38,7 +38,7 @@ use Rattle.std.proofs.lemmas.Grind.{same_number_lists}
 use Rattle.std.proofs.lemmas.Bool.{ltb-false}
 use Rattle.std.proofs.lemmas.List.Recursion.{is_position_or_len}
 
-first-most : {A : Type 0} (f : A → Bool) (l : List A) → first f l ≤ length l
+pub first-most : {A : Type 0} (f : A → Bool) (l : List A) → first f l ≤ length l
 unfolding first
 first-most f [] = omega arith
 first-most f (a ∷ l) = by (f a) (first-most f l)

@@ -3,6 +3,7 @@
 --   xors-more     one octet more added
 --   take-xors     a front that has all the places to which octets are added
 --   moved         octets and a zero behind them, with as many added: these, with the octets added
+--   unstarted     a start of two zeros, added to the first two, changes nothing
 --
 -- Assumes nothing.
 use mathlib.Core.Path.{◌≡◌, refl, sym, ap, ap₂, ◌∙◌}
@@ -36,3 +37,10 @@ moved [] (b ∷ []) e = ap (λ (x : ℕ). x ∷ []) (xor_comm 0 b ∙ xor_zero_r
 moved [] (b ∷ c ∷ m) e = absurd (omega arith)
 moved (a ∷ r) [] e = absurd (omega arith)
 moved (a ∷ r) (b ∷ m) e = ap₂ (λ (x : ℕ) (v : List ℕ). x ∷ v) (xor_comm a b) (moved r m (omega arith))
+
+-- ---- a start of zeros
+
+pub unstarted : (u : List ℕ) → xors u (0 ∷ 0 ∷ []) ≡ u
+unstarted [] = refl
+unstarted (x ∷ []) = ap (λ (a : ℕ). a ∷ []) (xor_zero_r x)
+unstarted (x ∷ y ∷ u) = ap₂ (λ (a : ℕ) (v : List ℕ). a ∷ v) (xor_zero_r x) (ap₂ (λ (b : ℕ) (v : List ℕ). b ∷ v) (xor_zero_r y) (xors-nothing u))

@@ -27,7 +27,7 @@ const HELP: [&str; 20] = [
 
 pub fn help(rt: &(impl Print + Eprint)) {
     for text in HELP {
-        print::text(rt, text);
+        print::text(rt, text.as_bytes());
     }
 }
 

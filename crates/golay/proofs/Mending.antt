@@ -2,6 +2,7 @@
 --
 --   row i              row i of the matrix
 --   unit_is            the code's 1 << i
+--   unit_fits          .. which added to 12 bits is no number too large
 --   mod_lower          whole multiples of a power of two are so of a lower one
 --   mends_nothing      no bit is changed where the syndrome has few ones
 --   mends_added        data that mend what row i leaves do so with a one at place i
@@ -33,6 +34,9 @@ row i = get_or matrix i 0
 
 pub unit_is : (i : ℕ) → i < 12 → 1 * 2 ^ i % 2 ^ 32 ≡ 2 ^ i
 unit_is i h = shl_exact 1 i 32 (lit< tt) (omega arith) ∙ one-mul (2 ^ i)
+
+pub unit_fits : (v i : ℕ) → v < 2 ^ 12 → i < 12 → v + 1 * 2 ^ i % 2 ^ 32 < 2 ^ 32
+unit_fits v i l h = rw (unit_is i h) (omega (arith, l, pow-lt h))
 
 -- ---- a number with nothing below place k
 

@@ -7,7 +7,8 @@
 --   from          where they stand
 --   part_of       what is read for it: so many of the octets that wait at its place
 --   gathers-next  one piece less
---   gathers-end   past the last place, no piece is left
+--   gathers-end   past the last place, no piece is left: all octets are written
+--   leaves-end    .. and have left their channels
 --
 -- Assumes nothing.
 use mathlib.Core.Path.{◌≡◌, sym, ap, subst, ◌∙◌}
@@ -22,7 +23,7 @@ use Rattle.channels.specs.declared.Channels.{Channels}
 use Rattle.channels.specs.Channels.{channel_at, waits, waiting_from, waiting_of, place_count, all_octets}
 use Rattle.multiplex.specs.Pieces.{piece, Piece, laid, total}
 use Rattle.multiplex.specs.Multiplexer.{left, gathered}
-use Rattle.multiplex.specs.Walks.{Sendable}
+use Rattle.multiplex.specs.Walks.{Sendable, left_all}
 use Rattle.multiplex.proofs.Slotting.{paired_at, paired-end}
 
 pub record Gathering (s₀ : Channels) (w : List ℕ) (l₀ : List Piece) (d₀ d : List ℕ) (s : Channels) (at : ℕ) (l : List Piece) : Type 0 where
@@ -30,6 +31,7 @@ pub record Gathering (s₀ : Channels) (w : List ℕ) (l₀ : List Piece) (d₀ 
   pub fits : at + total l ≤ length d
   pub kept : length d ≡ length d₀
   pub gathers : written d₀ 0 (gathered s₀ w l₀) ≡ written d at (gathered s w l)
+  pub leaves : left_all s₀ l₀ ≡ left_all s l
 
 abbrev pub piece_at : List ℕ → List ℕ → ℕ → Piece
 piece_at ps ls j = record { place = get_or ps j 0; octets = get_or ls j 0 }
@@ -43,6 +45,10 @@ module _ (s₀ : Channels) (w : List ℕ) (l₀ : List Piece) (d₀ d : List ℕ
   unfolding gathered
   gathers-end ps ls j h g =
       sym (g.gathers ∙ ap (λ (l : List Piece). written d at (gathered s w l)) (paired-end piece ps ls j h) ∙ written_nothing d at)
+
+  pub leaves-end : (ps ls : List ℕ) (j : ℕ) → length ps ≤ j → Gathering s₀ w l₀ d₀ d s at (drop j (laid ps ls)) → s ≡ left_all s₀ l₀
+  unfolding left_all
+  leaves-end ps ls j h g = sym (g.leaves ∙ ap (left_all s) (paired-end piece ps ls j h))
 
   pub gathers-at : (ps ls : List ℕ) (j : ℕ) → j < length ps → j < length ls → Gathering s₀ w l₀ d₀ d s at (drop j (laid ps ls))
       → Gathering s₀ w l₀ d₀ d s at (piece_at ps ls j ∷ drop (j + 1) (laid ps ls))
@@ -71,7 +77,7 @@ module _ (s₀ : Channels) (w : List ℕ) (l₀ : List Piece) (d₀ d : List ℕ
         room = rw part_length first_moves.2
 
         pub gathers-next : (d' : List ℕ) → d' ≡ written d at x → Gathering s₀ w l₀ d₀ d' (left s q.place q.octets) (at + q.octets) l
-        unfolding Sendable total gathered
+        unfolding Sendable total gathered left_all
         gathers-next d' h =
             let stays : length d' ≡ length d = ap length h ∙ written-length d at x room in
             record {
@@ -82,4 +88,5 @@ module _ (s₀ : Channels) (w : List ℕ) (l₀ : List Piece) (d₀ d : List ℕ
                   g.gathers ∙ ap (λ (y : List ℕ). written d at (y ++ gathered (left s q.place q.octets) w l)) (sym (f ∙ part_of))
                   ∙ sym (written-append d at x room (gathered (left s q.place q.octets) w l))
                   ∙ rw (h, part_length);
+              leaves = g.leaves;
             }

@@ -1,8 +1,7 @@
 -- What the multiplexer sends and what still waits are together what waited.
 --
---   left_all s l       the channels after the pieces l were sent
---   left-seats        .. with the seats that they had
---   walk-left         a walk leaves the channels so
+--   left-seats        channels whose pieces were sent have the seats that they had
+--   walk-left         a walk leaves the channels as its pieces, sent, do
 --   waiting-left      what waits at a place once k octets are sent: what was behind them
 --   waiting-length    there are as many as the channel says
 --   slots-sent        the octets of open channels' slots, and what then waits
@@ -38,7 +37,7 @@ use Rattle.channels.proofs.Laws.{seats, seats-put, seats-length, place-seats, pl
 use Rattle.multiplex.specs.Pieces.{Piece, placed, total}
 use Rattle.multiplex.specs.declared.multiplexer.Payload.{Payload}
 use Rattle.multiplex.specs.Multiplexer.{MuxLent, left, Walk, walked, gathered, multiplex_tests, multiplexed}
-use Rattle.multiplex.specs.Walks.{turned, Sendable}
+use Rattle.multiplex.specs.Walks.{turned, Sendable, left_all}
 use Rattle.multiplex.specs.declared.multiplexer.Turn.{Turn}
 use Rattle.multiplex.specs.declared.multiplexer.Turn.TheVariants.{Stop, On, Last}
 use Rattle.multiplex.specs.Claims.{going_to, SentOnce}
@@ -48,10 +47,6 @@ use Rattle.multiplex.proofs.Keeping.{going-first}
 use Rattle.multiplex.proofs.Agreeing.{walk-agrees}
 
 -- ---- the channels that a walk leaves
-
-unfoldable pub left_all : Channels → List Piece → Channels
-left_all s [] = s
-left_all s (q ∷ l) = left_all (left s q.place q.octets) l
 
 pub left-seats : (l : List Piece) (s : Channels) → seats (left_all s l) ≡ seats s
 unfolding left_all

@@ -7,12 +7,13 @@
 --   walk_over        a walk over what stands in the lists is one over the slots
 --   walk-sendable    what a walk left in the lists can be sent
 --   walk-fits        .. and fits
+--   walk-sends       .. and leaves the channels as the walk does
 --   packed-closed    a channel that was reached is not open
 --   packed_empty     .. or nothing is sent
 --   packed-sent      .. or else the pieces are sent
 --
 -- Assumes nothing.
-use mathlib.Core.Path.{◌≡◌, sym, ap₂, subst, ◌∙◌}
+use mathlib.Core.Path.{◌≡◌, sym, ap, ap₂, subst, ◌∙◌}
 use mathlib.Core.Bool.{false}
 use mathlib.Core.List.{List}
 use Prim.Native.Nat.{ℕ, ◌≤◌}
@@ -30,9 +31,10 @@ use Rattle.channels.specs.declared.Channels.{Channels}
 use Rattle.multiplex.specs.declared.multiplexer.Walked.{Walked}
 use Rattle.multiplex.specs.Pieces.{laid, total}
 use Rattle.multiplex.specs.Multiplexer.{MuxLent, Walk, walked, gathered, packed}
-use Rattle.multiplex.specs.Walks.{slotted, Sendable, WalkIs, Walks}
+use Rattle.multiplex.specs.Walks.{slotted, Sendable, WalkIs, Walks, left_all}
 use Rattle.std.specs.Prelude.{Option}
 use Rattle.multiplex.proofs.Laying.{Slotted, lays-slotted}
+use Rattle.multiplex.proofs.Leaving.{walk-left}
 use Rattle.multiplex.proofs.Slotting.{slotted-back}
 use Rattle.multiplex.proofs.Walking.{walked-sendable, walked-most}
 
@@ -66,6 +68,9 @@ module _ (entry : List ℕ) (room : ℕ) (few : room ≤ longest_payload) where
 
     pub walk-fits : total (laid (take r.count ps) (take r.count ls)) ≤ room
     walk-fits = rw is.pieces (omega (arith, walked-most s (payload_slots entry room), payload_slots_most entry room))
+
+    pub walk-sends : left_all s (laid (take r.count ps) (take r.count ls)) ≡ r.channels
+    walk-sends = ap (left_all s) is.pieces ∙ sym (is.channels ∙ walk-left (payload_slots entry room) s)
 
 -- ---- the answer
 

@@ -20,7 +20,8 @@ use Rattle.multiplex.specs.Pieces.{Piece, placed, last_place}
 use Rattle.multiplex.specs.Demultiplexer.{Delivery, DemuxLent, nothing, took, took_all, delivery}
 use Rattle.multiplex.specs.Multiplexer.{walked}
 use Rattle.multiplex.specs.Rules.{DemuxKeeps, MuxKeeps}
-use Rattle.multiplex.proofs.Leaving.{left_all, walk-left}
+use Rattle.multiplex.proofs.Leaving.{walk-left}
+use Rattle.multiplex.specs.Walks.{left_all}
 use Rattle.multiplex.proofs.Rules.{walk_makes}
 use Rattle.multiplex.proofs.Unrefused.{is-accepted}
 

@@ -3,6 +3,7 @@
 --   turned c n        what becomes of a slot of n octets of channel c
 --   slotted cs ls     the slots of these channels and lengths
 --   Sendable s l      the pieces l can be sent, one after another: each has a place, and no more octets than wait there
+--   left_all s l      the channels after the pieces l were sent
 --   Gatherable        pieces of these places and lengths can be gathered into so much room
 --   WalkIs w r ps ls  r gives the walk w, whose pieces stand in the places ps and lengths ls
 --   Walks w o ps ls   .. where every channel that it reaches is open; else there is nothing
@@ -29,6 +30,10 @@ slotted cs ls = paired (λ c n. record { channel = c; octets = n }) cs ls
 unfoldable pub Sendable : Channels → List Piece → Type 0
 Sendable s [] = Unit {0}
 Sendable s (q ∷ l) = (q.place < place_count) × (q.octets ≤ waits (channel_at s q.place)) × Sendable (left s q.place q.octets) l
+
+unfoldable pub left_all : Channels → List Piece → Channels
+left_all s [] = s
+left_all s (q ∷ l) = left_all (left s q.place q.octets) l
 
 pub record WalkIs (w : Walk) (r : Walked) (ps ls : List ℕ) : Type 0 where
   pub within : r.count ≤ longest_payload

@@ -18,10 +18,10 @@ use table::{Code, LONGEST_PAYLOAD, TABLE_NUMBERS};
 
 // How far a payload has led: the channels, and how many octets and units are finished.
 #[derive(Clone, Copy)]
-struct Tally {
-    channels: Channels,
-    octets: usize,
-    units: usize,
+pub struct Tally {
+    pub channels: Channels,
+    pub octets: usize,
+    pub units: usize,
 }
 
 // Whether n more octets may come to a channel.

@@ -6,7 +6,7 @@ ghost use Rattle.multiplex.specs.Pieces.{laid};
 ghost use Rattle.table.specs.Slots.{payload_slots};
 ghost use Rattle.table.specs.Table.{highest_code, longest_payload, entry_of};
 ghost use Rattle.multiplex.specs.Multiplexer.{walked, gathered, packed, multiplexed, makes, leaves_made};
-ghost use Rattle.multiplex.specs.Walks.{turned, slotted, Walks, Gatherable};
+ghost use Rattle.multiplex.specs.Walks.{turned, slotted, Walks, Gatherable, left_all};
 
 use calls::Refusal;
 use channels::places::seek;
@@ -125,19 +125,19 @@ fn walk(s: &Channels, n: usize, numbers: &mut [u16], lengths: &mut [u16]) -> Opt
     })
 }
 
-// Writes the octets of the pieces, from those that wait, to the front of payload.
-fn gather(s: &Channels, waiting: &[u8], places: &[u16], lengths: &[u16], payload: &mut [u8])
-    requires { Gatherable s.now waiting.now places.now lengths.now payload.old }
-    ensures { payload.new ≡ written payload.old 0 (gathered s.now waiting.now (laid places.now lengths.now)) }
+// Sends the pieces: writes their octets, of those that wait, to the front of payload.
+fn gather(s: &mut Channels, waiting: &[u8], places: &[u16], lengths: &[u16], payload: &mut [u8])
+    requires { Gatherable s.old waiting.now places.now lengths.now payload.old }
+    ensures payload { payload.new ≡ written payload.old 0 (gathered s.old waiting.now (laid places.now lengths.now)) }
+    ensures channels { s.new ≡ left_all s.old (laid places.now lengths.now) }
 {
-    let mut channels = *s;
     let mut at = 0;
     for (place, octets) in places.iter().zip(lengths) {
         let p = usize::from(*place);
         let k = usize::from(*octets);
-        let from = PLACE_OCTETS * p + (PLACE_OCTETS - waits(&channels.at[p]));
+        let from = PLACE_OCTETS * p + (PLACE_OCTETS - waits(&s.at[p]));
         octets::write(payload, at, &waiting[from..from + k]);
-        leave(&mut channels.at[p], k);
+        leave(&mut s.at[p], k);
         at += k;
     }
 }
@@ -163,7 +163,6 @@ fn pack(
         return Err(Refusal::NothingWaits);
     }
     gather(s, waiting, &places[..w.count], &lengths[..w.count], payload);
-    *s = w.channels;
     Ok(Payload {
         octets: w.octets,
         mark: w.mark,

@@ -13,6 +13,9 @@ use std::{fmt, io};
 // The octets of the buffer; no length of what is printed depends on it.
 pub const BUFFER: usize = 4096;
 
+// Text of so many octets is copied where it has room; a copy of fewer takes longer than they do one by one.
+const COPIED: usize = 16;
+
 // The octets of the longest reason that is given for what failed, more than the system has for any.
 const REASON: usize = 128;
 
@@ -28,14 +31,9 @@ pub fn fail(rt: &impl Eprint, what: &str, error: &impl Display) {
     let _ = eprintln!(rt; "{what}: {words}");
 }
 
-// Writes text as it is.
-pub fn text(rt: &(impl Print + Eprint), t: &str) {
-    write(rt, t.as_bytes());
-}
-
-// Writes octets; says so where they cannot be written.
-fn write(rt: &(impl Print + Eprint), octets: &[u8]) {
-    if let Err(error) = rt.write_all(octets) {
+// Writes text as it is; says so where it cannot be written.
+pub fn text(rt: &(impl Print + Eprint), t: &[u8]) {
+    if let Err(error) = rt.write_all(t) {
         fail(rt, "standard output", &error);
     }
 }
@@ -77,12 +75,12 @@ impl<'a, R: Print + Eprint> Output<'a, R> {
     pub fn end(&mut self)
         ensures { self.new.n ≡ 0 }
     {
-        write(self.rt, &self.octets[..self.n]);
+        text(self.rt, &self.octets[..self.n]);
         self.n = 0;
     }
 
     // Puts one octet; a full buffer is written first.
-    fn store(&mut self, octet: u8)
+    pub fn store(&mut self, octet: u8)
         ensures { Rests (take self.old.n self.old.octets) (octet ∷ []) (take self.new.n self.new.octets) }
     {
         if self.n == BUFFER {
@@ -104,7 +102,13 @@ impl<'a, R: Print + Eprint> fmt::Write for Output<'a, R> {
         ensures ok { IsOk result → Rests (take self.old.n self.old.octets) text.now (take self.new.n self.new.octets) }
         ensures always { IsOk result }
     {
-        for octet in text.as_bytes() {
+        let octets = text.as_bytes();
+        if COPIED <= octets.len() && octets.len() <= BUFFER - self.n {
+            self.octets[self.n..self.n + octets.len()].copy_from_slice(octets);
+            self.n += octets.len();
+            return Ok(());
+        }
+        for octet in octets {
             self.store(*octet);
         }
         Ok(())

@@ -1,9 +1,42 @@
 // Octets and numbers as programs print them.
-ghost use Rattle.std.specs.Prelude.{Some};
-ghost use Rattle.print.specs.Text.{octets_text, list_text};
+ghost use Rattle.std.specs.Prelude.{◌≡◌, ◌<◌, ◌≤◌, true, Some, length};
+ghost use Rattle.std.specs.Fmt.{digit_glyph};
+ghost use Rattle.std.specs.List.{flat_map};
+ghost use Rattle.print.specs.Text.{hex, octets_text, list_text};
 
-use std::fmt;
 use std::fmt::{Display, Formatter};
+use std::{fmt, str};
+
+// So many octets are put into hex at once; no text depends on it.
+const PART: usize = 64;
+
+// The digits of as many octets.
+const DIGITS: usize = 2 * PART;
+
+// The digit of a number below 16, in upper case.
+fn digit(n: u8) -> u8
+    requires { n < 16 }
+    ensures { result ≡ digit_glyph true n }
+{
+    if n < 10 { b'0' + n } else { b'A' + (n - 10) }
+}
+
+// Octets in hex, in the room that is given.
+fn spelt<'a>(octets: &[u8], room: &'a mut [u8; DIGITS]) -> &'a str
+    requires { length octets.now ≤ 64 }
+    ensures { result.now ≡ flat_map hex octets.now }
+{
+    let mut n = 0;
+    for octet in octets {
+        room[n] = digit(octet / 16);
+        room[n + 1] = digit(octet % 16);
+        n += 2;
+    }
+    match str::from_utf8(&room[..n]) {
+        Ok(text) => text,
+        Err(_) => unreachable!(),
+    }
+}
 
 // Octets in hex, two digits in upper case for each, or `-` for none.
 #[derive(Clone, Copy)]
@@ -17,8 +50,9 @@ impl<'a> Display for Hex<'a> {
         if octets.is_empty() {
             return f.write_str("-");
         }
-        for &octet in octets {
-            write!(f, "{octet:02X}")?;
+        let mut room = [0; DIGITS];
+        for part in octets.chunks(PART) {
+            f.write_str(spelt(part, &mut room))?;
         }
         Ok(())
     }

@@ -2,6 +2,7 @@
 -- of them so, by taking each unit's octets off the front.
 --
 --   Good n left      the numbers n are of units in range that have `left` octets
+--   four_next        four numbers of a list, and what is behind them
 --   none_left        a list of no octets
 --   good-listed      numbers that are good for the octets are of a list of units
 --   listed_good      .. and the other way
@@ -15,8 +16,9 @@ use mathlib.Core.Logic.{◌↔◌}
 use mathlib.Core.List.{List, [], ◌∷◌, ◌++◌}
 use Prim.Native.Nat.{ℕ, suc, ◌+◌, ◌-◌, ◌≤◌, ◌<◌}
 use native.Mathlib.Omega.{arith}
+use native.Mathlib.Numerals.{add-one}
 use lib.ListN.{length, get_or, take, drop, length-append, length-drop, take-append-drop}
-use lib.Seq.{get_or-drop, length-take-le}
+use lib.Seq.{drop-cons, get_or-drop, length-take-le}
 use Rattle.record.specs.Recorded.{Recorded, Octets, Ranges, AllInRange, flat, numbers_of, octets_of}
 use Rattle.record.specs.Form.{AddsUp, WholeExactly}
 use Rattle.record.specs.Walk.{Listed}
@@ -29,6 +31,19 @@ Good (c ∷ []) left = ⊥
 Good (c ∷ b ∷ []) left = ⊥
 Good (c ∷ b ∷ k ∷ []) left = ⊥
 Good (c ∷ b ∷ k ∷ m ∷ n) left = Ranges b k m × (m ≤ left) × Good n (left - m)
+
+pub four_next : (n : List ℕ) (at : ℕ) → at + 4 ≤ length n
+    → drop at n ≡ get_or n at 0 ∷ get_or n (at + 1) 0 ∷ get_or n (at + 2) 0 ∷ get_or n (at + 3) 0 ∷ drop (at + 4) n
+four_next n at h =
+    one at (at + 1) refl (omega arith)
+    ∙ ap (λ (l : List ℕ). get_or n at 0 ∷ l)
+    (one (at + 1) (at + 2) (omega arith) (omega arith)
+    ∙ ap (λ (l : List ℕ). get_or n (at + 1) 0 ∷ l)
+    (one (at + 2) (at + 3) (omega arith) (omega arith)
+    ∙ ap (λ (l : List ℕ). get_or n (at + 2) 0 ∷ l) (one (at + 3) (at + 4) (omega arith) (omega arith))))
+  where
+    one : (i j : ℕ) → i + 1 ≡ j → i < length n → drop i n ≡ get_or n i 0 ∷ drop j n
+    one i j e l = drop-cons n i 0 l ∙ ap (λ (k : ℕ). get_or n i 0 ∷ drop k n) (sym (add-one i) ∙ e)
 
 none_left : (o : List ℕ) → length o ≡ 0 → o ≡ []
 none_left [] e = refl

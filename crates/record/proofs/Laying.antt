@@ -1,6 +1,7 @@
 -- Stored units as octets: they can be read back in one way only.
 --
 --   flat_append        of one list behind another
+--   flat-length        .. as many octets as the first's and the second's
 --   stored-length      a stored unit has as many octets as its unit takes
 --   laid-length        .. and stored units as many as theirs
 --   five_numbers p      the numbers in a stored unit's header
@@ -34,6 +35,9 @@ pub flat_append : {A : Type 0} (f : A → List ℕ) (l m : List A) → flat f (l
 unfolding flat
 flat_append f [] m = refl
 flat_append f (x ∷ l) m = ap (λ (r : List ℕ). f x ++ r) (flat_append f l m) ∙ sym (append_assoc (f x) (flat f l) (flat f m))
+
+pub flat-length : {A : Type 0} (f : A → List ℕ) (l m : List A) → length (flat f (l ++ m)) ≡ length (flat f l) + length (flat f m)
+flat-length f l m = ap length (flat_append f l m) ∙ length-append (flat f l) (flat f m)
 
 -- ---- one stored unit
 

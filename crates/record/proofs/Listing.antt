@@ -4,6 +4,7 @@
 --   octets-length     the octets that the units take in a record are their headers' and their own
 --   before-total      .. which is what numbers and octets say
 --   total-reverse     the octets taken do not go by the order
+--   numbers_behind    the numbers behind those of the first units, which are given the latest first
 --   Front x m us      x are the numbers of the first of the units us, and m those of the others
 --   four_lent         four numbers before others are the first unit's
 --   none_lent         fewer than four are of no unit
@@ -16,9 +17,10 @@
 -- Assumes nothing.
 use mathlib.Core.Path.{◌≡◌, refl, sym, ap, ap₂, ◌∙◌}
 use mathlib.Core.List.{List, [], ◌∷◌, ◌++◌, reverse_aux}
-use Prim.Native.Nat.{ℕ, ◌+◌, ◌*◌, ◌<◌}
+use Prim.Native.Nat.{ℕ, suc, ◌+◌, ◌*◌, ◌<◌}
+use native.Mathlib.Nat.{zero-add}
 use native.Mathlib.Omega.{arith}
-use lib.ListN.{length, length-append}
+use lib.ListN.{length, get_or, length-append}
 use Rattle.octets.specs.High.{append-same}
 use Rattle.octets.specs.Tests.{never}
 use Rattle.record.specs.Recorded.{Recorded, flat, four_numbers, numbers_of, octets_of, Lent}
@@ -42,6 +44,13 @@ pub total-reverse : (us past : List Recorded) → total (reverse_aux us past) �
 unfolding total
 total-reverse [] past = omega arith
 total-reverse (u ∷ us) past = omega (arith, total-reverse us (u ∷ past))
+
+pub numbers_behind : (past us : List Recorded) (i : ℕ) → get_or (numbers_of (reverse_aux past us)) (4 * length past + i) 0 ≡ get_or (numbers_of us) i 0
+unfolding flat
+numbers_behind [] us i = ap (λ (k : ℕ). get_or (numbers_of us) k 0) (zero-add i)
+numbers_behind (u ∷ past) us i =
+    let place : 4 * suc (length past) + i ≡ 4 * length past + suc (suc (suc (suc i))) = omega arith in
+    ap (λ (k : ℕ). get_or (numbers_of (reverse_aux past (u ∷ us))) k 0) place ∙ numbers_behind past (u ∷ us) (suc (suc (suc (suc i))))
 
 pub record Front (x m : List ℕ) (us : List Recorded) : Type 0 where
   pub first : Recorded

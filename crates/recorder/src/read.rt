@@ -43,12 +43,12 @@ fn record(rt: &(impl Print + Eprint), record: &[u8]) {
 
 // A file is read as far as one octet past the longest record, which is no record whatever follows.
 pub fn run(rt: &(impl Print + Eprint + Input + Files), from: &str) {
-    let mut input: [u8; OCTETS] = room::buffer();
-    let read = match files::open(rt, from) {
-        Ok(mut source) => files::fill(&mut source, &mut input),
-        Err(error) => Err(error),
+    let mut source = match files::open(rt, from) {
+        Ok(source) => source,
+        Err(error) => return print::fail(rt, from, &error),
     };
-    match read {
+    let mut input: [u8; OCTETS] = room::buffer();
+    match files::fill(&mut source, &mut input) {
         Ok(n) => record(rt, octets::front(&input, n)),
         Err(error) => print::fail(rt, from, &error),
     }

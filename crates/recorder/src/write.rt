@@ -4,7 +4,7 @@ use crate::room::{NUMBERS, OCTETS};
 use crate::{files, room, units};
 use calls::Refusal;
 use std::fmt::Display;
-use std::io::Input;
+use std::io::{Input, Read};
 use std::rt::Files;
 use std::{fmt, io};
 
@@ -77,22 +77,22 @@ impl Stream {
 }
 
 // Makes the record of a list, and tells how many units it has, and octets.
-fn record(
-    rt: &(impl Input + Files),
-    from: &str,
-    output: &mut [u8],
-) -> Result<(usize, usize), NoRecord> {
-    let mut source = files::open(rt, from)?;
+fn record(from: &mut impl Read, output: &mut [u8]) -> Result<(usize, usize), NoRecord> {
     let mut numbers: [u16; NUMBERS] = room::buffer();
     let mut content: [u8; OCTETS] = room::buffer();
-    let list = units::take(&mut source, List::new(&mut numbers, &mut content))?;
+    let list = units::take(from, List::new(&mut numbers, &mut content))?;
     Ok((list.units(), list.write(output)?))
 }
 
+// The list stays open until its answer is given: a pipe that is named for the record too has a reader then.
 pub fn run(rt: &(impl Print + Eprint + Input + Files), from: &str, to: &str) {
+    let mut source = match files::open(rt, from) {
+        Ok(source) => source,
+        Err(error) => return print::fail(rt, from, &error),
+    };
     let answers = Stream::beside(to);
     let mut output: [u8; OCTETS] = room::buffer();
-    match record(rt, from, &mut output) {
+    match record(&mut source, &mut output) {
         Ok((units, octets)) => match files::write(rt, to, octets::front(&output, octets)) {
             Ok(()) => answers.say(rt, &format_args!("units {units} octets {octets}")),
             Err(error) => print::fail(rt, files::name(to), &error),

@@ -6,7 +6,7 @@ use text::{numbers, words};
 
 // What is expected next: an element; an element, or the repeat count that ends a list; a comma, or the end of the text.
 #[derive(Clone, Copy, Debug, PartialEq, Eq)]
-enum Stage {
+pub enum Stage {
     Element,
     Next,
     Behind,
@@ -19,21 +19,21 @@ const PAST: u64 = 65536;
 
 // A list that is being read: where its numbers begin, and how many elements it has so far.
 #[derive(Clone, Copy, Debug, PartialEq, Eq)]
-struct List {
-    from: usize,
-    elements: u64,
+pub struct List {
+    pub from: usize,
+    pub elements: u64,
 }
 
 // An entry that is being read: the text that is still ahead; how many of its numbers stand in what is lent, or none once it has broken
-// a rule; how many inner lists are open; and the top list and each open one, as far as lists may go. (No heap: lists go three deep.)
-#[derive(Drop)]
-struct Draft<'a> {
-    stage: Stage,
-    ahead: &'a [u8],
-    out: &'a mut [u16],
-    used: Option<usize>,
-    depth: usize,
-    lists: [List; DEEPEST],
+// a rule; how many inner lists are open; and the top list and each open one, as far as lists may go. (No heap: lists go three deep. What is
+// lent stands beside it, so that a draft can be copied.)
+#[derive(Clone, Copy)]
+pub struct Draft<'a> {
+    pub stage: Stage,
+    pub ahead: &'a [u8],
+    pub used: Option<usize>,
+    pub depth: usize,
+    pub lists: [List; DEEPEST],
 }
 
 // Puts a number at place k, where there is such a place and it is a number of an entry, and tells the place behind it.
@@ -78,9 +78,9 @@ impl<'a> Draft<'a> {
     }
 
     // One number more.
-    fn push(&mut self, value: u64) {
+    fn push(&mut self, out: &mut [u16], value: u64) {
         if let Some(k) = self.used {
-            self.used = set(self.out, k, value);
+            self.used = set(out, k, value);
         }
     }
 
@@ -96,25 +96,25 @@ impl<'a> Draft<'a> {
     }
 
     // A channel and its repeat count, from behind the brace on.
-    fn channel(&mut self) -> Option<()> {
+    fn channel(&mut self, out: &mut [u16]) -> Option<()> {
         self.pass(b"LCN")?;
         let channel = self.number()?;
         self.pass(b",")?;
         let times = self.repeat()?;
         self.count();
-        self.push(times);
-        self.push(0);
-        self.push(channel);
+        self.push(out, times);
+        self.push(out, 0);
+        self.push(out, channel);
         self.stage = Stage::Behind;
         Some(())
     }
 
     // The start of an inner list: its two numbers stand, and are known at its end.
-    fn list(&mut self) -> Option<()> {
+    fn list(&mut self, out: &mut [u16]) -> Option<()> {
         let from = self.used;
         self.count();
-        self.push(0);
-        self.push(0);
+        self.push(out, 0);
+        self.push(out, 0);
         self.depth = self.depth.checked_add(1)?;
         self.stage = Stage::Element;
         match from {
@@ -127,14 +127,14 @@ impl<'a> Draft<'a> {
     }
 
     // The end of an inner list: its repeat count.
-    fn end(&mut self) -> Option<()> {
+    fn end(&mut self, out: &mut [u16]) -> Option<()> {
         let depth = self.depth;
         self.depth = depth.checked_sub(1)?;
         let times = self.repeat()?;
         self.stage = Stage::Behind;
         if self.used.is_some() && depth < DEEPEST {
             let list = self.lists[depth];
-            if settle(self.out, list, times).is_none() {
+            if settle(out, list, times).is_none() {
                 self.used = None;
             }
         }
@@ -142,30 +142,30 @@ impl<'a> Draft<'a> {
     }
 
     // What stands next: a comma, the start of an element, or the end of a list.
-    fn turn(&mut self) -> Option<()> {
+    fn turn(&mut self, out: &mut [u16]) -> Option<()> {
         if self.stage == Stage::Behind {
             self.stage = Stage::Next;
             return self.pass(b",");
         }
         if self.pass(b"{").is_some() {
             return if self.ahead.starts_with(b"{") {
-                self.list()
+                self.list(out)
             } else {
-                self.channel()
+                self.channel(out)
             };
         }
         if self.stage == Stage::Next {
-            return self.end();
+            return self.end(out);
         }
         None
     }
 
     // How many numbers the entry has, once it is read, 0 for one that breaks a rule.
-    fn finish(&mut self) -> Option<usize> {
+    fn finish(&self, out: &mut [u16]) -> Option<usize> {
         if self.stage != Stage::Behind || !self.ahead.is_empty() || 0 < self.depth {
             return None;
         }
-        let placed = set(self.out, 0, self.lists[0].elements);
+        let placed = set(out, 0, self.lists[0].elements);
         Some(placed.and(self.used).unwrap_or(0))
     }
 }
@@ -176,7 +176,6 @@ pub fn read(text: &[u8], out: &mut [u16]) -> Option<usize> {
     let mut draft = Draft {
         stage: Stage::Element,
         ahead: text,
-        out,
         used: Some(1),
         depth: 0,
         lists: [List {
@@ -188,7 +187,7 @@ pub fn read(text: &[u8], out: &mut [u16]) -> Option<usize> {
         if draft.ahead.is_empty() {
             break;
         }
-        draft.turn()?;
+        draft.turn(out)?;
     }
-    draft.finish()
+    draft.finish(out)
 }

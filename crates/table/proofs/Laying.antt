@@ -6,7 +6,7 @@
 --   lays-both                 two lists of slots laid one behind the other are both laid
 --   lays_first                .. and so they are where the first laid nothing and has no slot only if the second has none
 --   Under                     what a loop keeps: when the rest has been laid, all has
---   under_turn                after a turn
+--   under_way, under_turn     at its start, and after a turn
 --   under_done, under_idle    all is laid when nothing is left to lay; and when a turn laid nothing
 --   Onward, onward_turn, onward_done, onward_idle   .. and the lists are the same two throughout
 --
@@ -128,6 +128,10 @@ pub record Under (from : Laid) (all : List Slot) (c₀ l₀ : List ℕ) (laid : 
   pub for_channels : length c ≡ length c₀
   pub for_lengths : length l ≡ length l₀
   pub remains : (to : Laid) (c₂ l₂ : List ℕ) → Lays laid (cut laid.left rest) to c l c₂ l₂ → Lays from (cut from.left all) to c₀ l₀ c₂ l₂
+
+pub under_way : (from : Laid) (all rest : List Slot) (c l : List ℕ) → Room from c l → rest ≡ all → Under from all c l from rest c l
+under_way from all rest c l room e =
+    rw e (record { room = room; for_channels = refl; for_lengths = refl; remains = λ to c₂ l₂ h. h })
 
 module _ {from : Laid} {all : List Slot} {c₀ l₀ : List ℕ} {laid : Laid} {rest : List Slot} {c l : List ℕ} (u : Under from all c₀ l₀ laid rest c l) where
   pub under_done : rest ≡ [] → Lays from (cut from.left all) laid c₀ l₀ c l

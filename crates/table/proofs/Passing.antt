@@ -1,6 +1,7 @@
 -- The slots of an element and of a list in each case that the code tells apart.
 --
 --   as-channel, as_flat, as_inner   an element by its numbers: a channel, a list that is too deep, a list
+--   inner_inside               an inner list starts inside the entry
 --   list_rest, list_done       the elements that a loop has still to pass: one and those behind it, or none
 --   copies_rest, copies_done   .. and so the passes
 --   copies_idle                passes of no slots have none
@@ -13,7 +14,7 @@ use Prim.Native.Nat.{ℕ, zero, suc, ◌+◌, ◌-◌, ◌≤◌, ◌<◌}
 use native.Mathlib.Nat.{add-zero}
 use native.Mathlib.Numerals.{sub-one}
 use native.Mathlib.Omega.{arith}
-use lib.ListN.{get_or}
+use lib.ListN.{length, get_or}
 use Rattle.octets.specs.Tests.{never}
 use Rattle.table.specs.declared.form.Head.{Head}
 use Rattle.table.specs.declared.form.Head.TheVariants.{Channel, Inner}
@@ -28,7 +29,7 @@ use Rattle.table.specs.Lays.{element_slots, list_slots}
 use Rattle.table.proofs.Cutting.{copies_nothing}
 use Rattle.table.proofs.Expanding.{passes_most, element-before}
 use Rattle.table.proofs.Heads.{HeadIs, is_malformed, is-channel, is_inner, head_is}
-use Rattle.table.proofs.Reading.{tree-none, tree_first, tree-channel, tree_inner, tree_flat}
+use Rattle.table.proofs.Reading.{number_inside, tree-none, tree_first, tree-channel, tree_inner, tree_flat}
 
 module _ (s : List ℕ) (at : ℕ) where
   element-channel : (d : ℕ) → get_or s (at + 1) 0 ≡ 0
@@ -62,6 +63,9 @@ module _ (s : List ℕ) (at : ℕ) where
     pub as_inner : (k ≡ 0 → ⊥) → (d ≡ 0 → ⊥) → element_slots s d at ≡ copies n (list_slots s (d - 1) k (at + 2))
     as_inner z e =
         element_inner d (λ h. z (ke ∙ h)) e ∙ ap₂ (λ (u v : ℕ). copies u (list_slots s (d - 1) v (at + 2))) times_at (sym ke)
+
+    pub inner_inside : (k ≡ 0 → ⊥) → at + 1 < length s
+    inner_inside z = number_inside s (at + 1) (λ h. z (ke ∙ h))
 
 -- ---- what a loop has still to pass
 

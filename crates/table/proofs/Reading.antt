@@ -1,7 +1,8 @@
--- What reading an element, a list and an entry gives in each case that the code tells apart.
+-- What reading an element, a list and an entry gives in each case that the code tells apart, and a measure that falls.
 --
 --   is-channel, is_malformed, too_deep, is-list   an element, by its own numbers
 --   none_left, one_more, list_turn   a list of no elements, and one of more: its first element, and those behind it
+--   deeper, onward           a measure falls from an element to its list, and from a list to those behind its first element
 --   number_inside            a number that is not 0 stands inside the entry
 --   tree-none, tree_first    the tree of no elements, and of more: the first, and those behind it
 --   tree-channel, tree_inner, tree_flat   the element that stands at a place, by its second number: a channel, a list, a list that is too deep
@@ -12,7 +13,7 @@
 -- Assumes nothing.
 use mathlib.Core.Path.{◌≡◌, refl, sym, ap₂, ◌∙◌}
 use mathlib.Core.List.{List}
-use Prim.Native.Nat.{ℕ, zero, suc, ◌+◌, ◌-◌, ◌≤◌, ◌<◌}
+use Prim.Native.Nat.{ℕ, zero, suc, ◌+◌, ◌-◌, ◌*◌, ◌≤◌, ◌<◌}
 use native.Mathlib.Numerals.{sub-one}
 use native.Mathlib.Omega.{arith}
 use native.Mathlib.Decide.{dec_le}
@@ -66,6 +67,15 @@ pub list_turn : (s : List ℕ) (d n t at left : ℕ) (r : Option Cursor) → t <
 list_turn s d n t at left r h e =
     let m : n - t - 1 ≡ n - (t + 1) = omega arith in
     one_more s d (n - t) at left (λ z. omega arith) ∙ ap₂ (λ (o : Option Cursor) (k : ℕ). and_then o (list_at s d k)) (sym e) m
+
+-- a measure: 2^17 for each level, and one for each element of a list
+pub deeper : (d n : ℕ) → (d ≡ 0 → ⊥) → n < 65536 → (d - 1) * 131072 + n + 1 < d * 131072
+deeper zero n z h = absurd (z refl)
+deeper (suc d) n z h = rw (sub-one (suc d)) (omega arith)
+
+pub onward : (d n : ℕ) → (n ≡ 0 → ⊥) → d * 131072 + (n - 1) + 1 < d * 131072 + n + 1
+onward d zero z = absurd (z refl)
+onward d (suc n) z = omega arith
 
 -- ---- the tree
 

@@ -54,7 +54,9 @@ fn numbers(s: &[u16], from: Cursor, least: u16) -> Option<Head>
     }
 }
 
-// An element, in a list from which lists may go `depth` deeper.
+// An element, in a list from which lists may go `depth` deeper. It is inlined, and the list called: where it was a call of its own, to make a
+// payload of 169 slots took a quarter more instructions.
+#[inline(always)]
 #[cycle(element_list)]
 #[tactic(auto, using(crate::proofs::Reading::readings))]
 pub fn element(s: &[u16], from: Cursor, depth: usize, least: u16) -> Option<Cursor>
@@ -67,6 +69,7 @@ pub fn element(s: &[u16], from: Cursor, depth: usize, least: u16) -> Option<Curs
 }
 
 // `count` elements, each at least once.
+#[inline(never)]
 #[cycle(element_list)]
 #[tactic(auto, using(crate::proofs::Reading::list_turn, crate::proofs::Reading::none_left))]
 fn list(s: &[u16], from: Cursor, depth: usize, count: u16) -> Option<Cursor>

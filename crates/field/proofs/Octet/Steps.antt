@@ -1,5 +1,6 @@
 -- The steps by which the code works out a row of powers, for the functions of this crate and no other (`tests/heads`).
 --
+--   power-double       x αᵏ is αᵏ⁺¹
 --   doublings_images   in a row of powers, αᵏ and the seven entries behind it are the images of the product with αᵏ
 --   laid_twice         the powers, written once and once more behind, are a row of powers
 --
@@ -9,11 +10,15 @@ use Rattle.std.proofs.Common.{sym, ap, ◌∙◌, inl, arith, zero-add, eqb→eq
 use Rattle.std.proofs.Math.Decide.{dec_lt}
 use Rattle.octets.specs.Every.{every, every_at}
 use Rattle.octets.specs.Written.{written, written-length, written_inside, written_outside}
-use Rattle.field.specs.Octet.{product, power, α, order}
-use Rattle.field.specs.Octet.Laws.{power_zero, power-suc, power-add}
+use Rattle.field.specs.Octet.{double, product, power, α, order}
+use Rattle.field.specs.Octet.Laws.{power_zero, power-suc, power_octet, power-add}
 use Rattle.field.specs.Octet.Steps.{Images}
 use Rattle.field.specs.Octet.Table.{worked, worked-is, is_doubled, powers_at, laid, Laid, Doublings}
+use Rattle.field.proofs.Octet.Ring.{alpha-product}
 use Rattle.field.proofs.Octet.Inverse.{power_wrap}
+
+pub power-double : (k : ℕ) → double (power α k) ≡ power α (suc k)
+power-double k = sym (power-suc α k ∙ alpha-product (power α k) (power_octet α k))
 
 -- x, .., x^7 are shifted, and nothing is pushed out
 abbrev is_shifted : ℕ → Bool

@@ -6,4 +6,4 @@ use Rattle.multiplex.proofs.multiplexer.gather.Given as goal
 
 abbrev pub invariant-loop-place : goal.invariant-loop-place
 invariant-loop-place l =
-    Gathering l.s l.waiting (laid l.places l.lengths) l.initial.payload l.payload l.channels l.at (drop (length l.yielded) (laid l.places l.lengths))
+    Gathering l.initial.s l.waiting (laid l.places l.lengths) l.initial.payload l.payload l.s l.at (drop (length l.yielded) (laid l.places l.lengths))

@@ -3,7 +3,7 @@ use Rattle.std.proofs.Common.{rules, ◌≡◌, refl, sym, ◌∙◌, arith, len
 use Rattle.std.specs.Prelude.{Some, None}
 use Rattle.std.proofs.lemmas.Result.{err_from_is_err_and}
 use Rattle.calls.specs.declared.Refusal.TheVariants.{NotOpen}
-use Rattle.multiplex.proofs.Packing.{lays-numbers, lays-lengths, walk_over, walk-sendable, walk-fits, packed-closed, packed_empty, packed-sent}
+use Rattle.multiplex.proofs.Packing.{lays-numbers, lays-lengths, walk_over, walk-sendable, walk-fits, walk-sends, packed-closed, packed_empty, packed-sent}
 use Rattle.multiplex.specs.Multiplexer.{walked}
 use Rattle.multiplex.specs.Walks.{Walks, WalkIs}
 use Rattle.table.specs.Slots.{payload_slots}
@@ -52,5 +52,6 @@ gather-requires c =
 
 pub returns : goal.returns
 returns c =
-    rw c.gather.ensures
-    (packed-sent _ _ _ _ _ _ (sends (goal.at.returns c).In_ok-w (walks (goal.at.returns c).After-walk)) c.if-w-eq0.false)
+    let is = sends (goal.at.returns c).In_ok-w (walks (goal.at.returns c).After-walk) in
+    rw (c.gather.ensures.payload, c.gather.ensures.channels ∙ walk-sends _ _ c.requires.0 _ _ _ _ is)
+    (packed-sent _ _ _ _ _ _ is c.if-w-eq0.false)

@@ -4,4 +4,4 @@ use Rattle.print.specs.Buffer.{Rests}
 use Rattle.print.proofs.OutputWrite.write_str.Given as goal
 
 abbrev pub invariant-loop-octet : goal.invariant-loop-octet
-invariant-loop-octet g l = Rests (take l.fn.self.n l.fn.self.octets) (take l.octet-index l.octet-items) (take l.self.n l.self.octets)
+invariant-loop-octet g l = Rests (take l.fn.self.n l.fn.self.octets) (take l.octet-index l.octets) (take l.self.n l.self.octets)

@@ -1,19 +1,32 @@
--- One octet more is its two digits.
-use Rattle.std.proofs.Common.{◌≡◌, [], ◌++◌, ◌^◌, ◌-◌, ◌+◌, false, true, get_or, take, ◌<◌, sym, rules, arith, ap, ◌∙◌}
-use Rattle.std.specs.Fmt.{HasWritten, padded_integral, format_spec, digits}
+-- One part more.
+use Rattle.std.proofs.Common.{◌≡◌, [], ◌++◌, sym, ap, ◌∙◌, append_assoc, append-nil, arith, rules}
 use Rattle.std.specs.List.{flat_map}
 use Rattle.std.proofs.Output.{has_written_append, has_written_of_eq}
-use Rattle.std.proofs.lemmas.List.{flat_map_more, take_more}
-use Rattle.std.proofs.lemmas.Fmt.{hex_byte}
+use Rattle.std.proofs.lemmas.Grind.{flat_map-append}
+use Rattle.std.proofs.lemmas.List.{nil_from_length}
 use Rattle.print.specs.Text.{hex}
 use Rattle.print.proofs.values.HexDisplay.fmt.Goals as goal
 
-pub loop-octet-preserved : goal.loop-octet-preserved
-loop-octet-preserved g c = λ plain.
-    let s = c.args.self.now.0.now in
-    let i = c.loop-octet.octet-index in
-    let n = get_or s i 0 in
-    let one : HasWritten {W = g.row.W.Denot} g.W.Write.write_str_gives c.loop-octet.f (padded_integral (format_spec 32 0 4 2 (2 ^ 64 - 1)) false [] (digits 16 true n)) c.write.new.self = search rules in
-    let low : n < 256 = search rules in
-    let more : flat_map hex (take i s) ++ padded_integral (format_spec 32 0 4 2 (2 ^ 64 - 1)) false [] (digits 16 true n) ≡ flat_map hex (take (i + 1) s) = rw (hex_byte true n low) (flat_map_more hex [] (take i s) n ∙ ap (flat_map hex) (sym (take_more s i 0 (omega arith)))) in
-    has_written_of_eq _ _ _ _ _ more (has_written_append _ _ _ _ _ _ (c.loop-octet.invariant plain) one)
+pub loop-part-init : goal.loop-part-init
+loop-part-init g c = record { size = search rules; text = ([], search rules, search rules) }
+
+pub loop-part-preserved : goal.loop-part-preserved
+loop-part-preserved g c =
+    let so_far = c.loop-part.invariant.text in
+    let part = c.in-Some.part.now in
+    let steps = c.in-Some.ensures.steps in
+    record {
+      size = steps.0 ∙ c.loop-part.invariant.size;
+      text = (
+        so_far.0 ++ part,
+        append_assoc so_far.0 part _ ∙ ap (λ t. so_far.0 ++ t) (sym steps.1.0) ∙ so_far.1,
+        λ plain. has_written_of_eq _ _ _ _ _ (sym (flat_map-append hex so_far.0 part)) (has_written_append _ _ _ _ _ _ (so_far.2 plain) (search rules)),
+      );
+    }
+
+pub returns-clause-writes : goal.returns-clause-writes
+returns-clause-writes g c = λ plain _.
+    let so_far = c.loop-part.invariant.text in
+    let none = nil_from_length _ c.in-None.ensures.steps.1.0 in
+    let all : so_far.0 ≡ c.args.self.now.0.now = rw (none, append-nil) at so_far.1 in
+    has_written_of_eq _ _ _ _ _ (ap (flat_map hex) all ∙ grind arith) (so_far.2 plain)
