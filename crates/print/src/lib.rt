@@ -13,7 +13,7 @@ use std::{fmt, io};
 // The octets of the buffer; no length of what is printed depends on it.
 pub const BUFFER: usize = 4096;
 
-// Text of so many octets is copied where it has room; a copy of fewer takes longer than they do one by one.
+// Text of so many octets is copied where it has room; a copy of fewer takes more instructions than they do one by one.
 const COPIED: usize = 16;
 
 // The octets of the longest reason that is given for what failed, more than the system has for any.
